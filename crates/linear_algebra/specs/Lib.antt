@@ -1,0 +1,7 @@
+pub mod Modular
+pub mod Rows
+pub mod Elimination
+pub mod Kernels
+pub mod Choices
+pub mod Ranks
+pub mod Maps
