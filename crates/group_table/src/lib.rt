@@ -1,4 +1,4 @@
-//! Groups of prime power order: their primes, and the refusal for want of memory.
+//! Groups of prime power order by their multiplication tables, their primes, and the refusal for want of memory.
 #![tactic(auto)]
 
 ghost use Rattle.std.specs.Prelude.{◌≡◌, ◌≢◌, ◌↔◌, ℕ, IfSome, IsNone};
@@ -6,6 +6,11 @@ ghost use Rattle.group_table.specs.declared.Prime.{Prime};
 ghost use Rattle.group_table.specs.Prime.{prime_value};
 
 use std::alloc::{AllocError, AllocFailed};
+
+mod group;
+mod table;
+
+pub use group::Group;
 
 /// Want of memory.
 #[derive(Clone, Copy, Debug, PartialEq, Eq)]
