@@ -28,3 +28,8 @@ pub fn consistent_law()
 pub fn realised_law()
     ensures { (P : Presentation) → 1 < P.prime → IsPresentation P → Realisation P → first_fault P ≡ None }
 {}
+
+/// A presentation in which no test is false has a realisation, the table of its own group.
+pub fn realisation_law()
+    ensures { (P : Presentation) → 1 < P.prime → IsPresentation P → first_fault P ≡ None → Realisation P }
+{}
