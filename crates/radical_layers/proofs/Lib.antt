@@ -1,0 +1,17 @@
+pub mod Bridge
+pub mod Basis
+pub mod SameDimension
+pub mod LayerLaws
+pub mod Blocks
+pub mod LayerBasis
+pub mod BasisForm
+pub mod BlockForm
+pub mod Places
+pub mod LayerForm
+pub mod FirstLayer
+pub mod SumForm
+pub mod Existence
+pub mod LayersExist
+pub mod UnitRow
+pub mod UnitRows
+pub mod Example
