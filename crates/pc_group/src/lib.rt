@@ -1,0 +1,10 @@
+//! Power-commutator presentations as values: their making, their consistency tests and the group of a consistent one.
+//! See Holt, Eick and O'Brien, Handbook of Computational Group Theory, chapter 8.
+#![tactic(auto)]
+
+pub mod consistency;
+pub mod presentation;
+
+pub use consistency::{Consistent, Refused};
+pub use power_commutator::TestName;
+pub use presentation::{Presentation, Word};
