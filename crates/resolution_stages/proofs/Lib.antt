@@ -1,0 +1,10 @@
+pub mod FromDefinitions
+pub mod CheckLaws
+pub mod CheckClaims
+pub mod Unique
+pub mod NextList
+pub mod NextExists
+pub mod SectionSum
+pub mod ChainLaws
+pub mod FirstLists
+pub mod Computed

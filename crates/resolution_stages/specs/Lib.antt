@@ -1,0 +1,5 @@
+pub mod Definitions
+pub mod Claims
+pub mod Checks
+pub mod Chain
+pub mod Computed
