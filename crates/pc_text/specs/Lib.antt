@@ -1,0 +1,13 @@
+pub mod Bytes
+pub mod Canonical
+pub mod Cuts
+pub mod Faults
+pub mod FromRelations
+pub mod Grammar
+pub mod Kinds
+pub mod Lines
+pub mod Numerals
+pub mod Relations
+pub mod Texts
+pub mod Views
+pub mod Words

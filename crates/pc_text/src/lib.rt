@@ -1,0 +1,15 @@
+//! The presentation text: a reader that answers the presentation or the first fault with its place,
+//! and a writer of the canonical text.
+#![tactic(auto)]
+
+mod cuts;
+mod fault;
+mod frame;
+mod names;
+mod numerals;
+mod place;
+mod relations;
+mod texts;
+mod words;
+
+pub use crate::fault::{Kind, TextFault};
