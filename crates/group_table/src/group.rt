@@ -1,11 +1,13 @@
 //! Groups of prime power order by their multiplication tables.
 
 ghost use Rattle.group_table.specs.Prime.{prime_value};
+ghost use Rattle.group_table.specs.TableFaults.{IsFirstFault};
 ghost use Rattle.group_table.specs.Tables.{GroupTable, IsTable, IsGroupTable, IsInverse, order, product, power};
-ghost use Rattle.std.specs.Prelude.{◌≡◌, ◌<◌, ◌≤◌, ◌↔◌, ℕ, IsTrue, IfOk};
+ghost use Rattle.std.specs.Prelude.{◌≡◌, ◌*◌, ◌^◌, ◌<◌, ◌≤◌, ◌↔◌, ℕ, All, IsTrue, IfOk, IfErr, vec_len};
 
+use crate::first_faults::{first_not_associative, first_not_latin, first_not_unit};
 use crate::table::Table;
-use crate::{Memory, Prime};
+use crate::{Memory, Prime, TableFault};
 use std::alloc::Global;
 use std::marker::Model;
 
@@ -16,6 +18,7 @@ pub struct Group {
 }
 
 impl Model for Group {
+    ghost use Rattle.group_table.specs.TableFaults.{IsFirstFault};
     ghost use Rattle.group_table.specs.Tables.{GroupTable, IsGroupTable};
 
     ghost Value = { GroupTable };
@@ -26,6 +29,29 @@ impl Model for Group {
 }
 
 impl Group {
+    /// The group with this table by rows, where the table is a group's; else the first place that shows that it is not:
+    /// the unit is looked at before the rows, and these before associativity.
+    pub fn from_table(alloc: Global, p: Prime, n: u32, table: Vec<u16>) -> Result<Group, TableFault>
+        requires small { prime_value p ^ n ≤ 256 }
+        requires size { vec_len table ≡ prime_value p ^ n * prime_value p ^ n }
+        requires entries { All (λ e. e < prime_value p ^ n) table.items }
+        ensures group { IfOk result (λ g. g ≡ record { p = prime_value p; n = n; entries = table.items }) }
+        ensures law { IfOk result IsGroupTable }
+        ensures fault { IfErr result (IsFirstFault (record { p = prime_value p; n = n; entries = table.items })) }
+    {
+        let table = Table::new(p, n, table);
+        if let Some(a) = first_not_unit(&table) {
+            return Err(TableFault::NotUnit(a));
+        }
+        if let Some(a) = first_not_latin(alloc, &table)? {
+            return Err(TableFault::NotLatin(a));
+        }
+        if let Some((a, b, c)) = first_not_associative(&table) {
+            return Err(TableFault::NotAssociative(a, b, c));
+        }
+        Ok(Group { table })
+    }
+
     /// The group with this table by rows, for a caller who knows that the table is a group's.
     pub fn from_law(prime: Prime, rank: u32, entries: Vec<u16>) -> Group
         requires small { order (record { p = prime_value prime; n = rank; entries = entries.items }) ≤ 256 }

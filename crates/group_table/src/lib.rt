@@ -7,10 +7,13 @@ ghost use Rattle.group_table.specs.Prime.{prime_value};
 
 use std::alloc::{AllocError, AllocFailed};
 
+mod first_faults;
 mod group;
 mod table;
+mod table_fault;
 
 pub use group::Group;
+pub use table_fault::TableFault;
 
 /// Want of memory.
 #[derive(Clone, Copy, Debug, PartialEq, Eq)]
