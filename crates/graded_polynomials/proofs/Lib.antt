@@ -1,0 +1,9 @@
+pub mod Terms
+pub mod Order
+pub mod Exponents
+pub mod Monomials
+pub mod Stored
+pub mod MonomialLists
+pub mod TextLemmas
+pub mod ReadLemmas
+pub mod Examples
