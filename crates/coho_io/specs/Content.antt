@@ -1,0 +1,37 @@
+-- The bytes of all files.
+use Rattle.std.specs.Prelude.{◌≡◌, ◌⊎◌, ℕ, ◌≤◌, Bool, if◌then◌else◌, List, [], length, take, drop}
+use Rattle.std.specs.declared.option.Option.{Option}
+use Rattle.std.specs.declared.option.Option.TheVariants.{None, Some}
+use Rattle.std.specs.Ordering.{nat_cmp}
+use Rattle.std.specs.Cmp.Lexicographic.{slice_cmp}
+use Rattle.std.specs.FinMap.{FinMap, get, insert}
+
+-- a finite map from paths to bytes
+abbrev pub FileMap : Type 0
+FileMap = FinMap (slice_cmp nat_cmp) (List ℕ)
+
+pub record Content : Type 0 where
+  pub files : FileMap
+  -- a path outside the map is an empty file, and else a missing one
+  pub outside_is_empty : Bool
+
+-- the bytes where they are found, and else those of a path outside
+abbrev pub or_outside : Bool → Option (List ℕ) → Option (List ℕ)
+or_outside empty (Some bytes) = Some bytes
+or_outside empty None = if empty then Some [] else None
+
+-- the bytes of a file, and None where it is missing
+abbrev pub file : Content → List ℕ → Option (List ℕ)
+file content path = or_outside content.outside_is_empty (get content.files path)
+
+-- the content with these bytes under a path
+abbrev pub with_file : Content → List ℕ → List ℕ → Content
+with_file content path bytes = record content { files = insert content.files path bytes }
+
+-- a read at a place gave the first k bytes of buf: those of the file from there on,
+-- and none only at its end or where buf has no room
+abbrev pub ReadsAt : Option (List ℕ) → ℕ → List ℕ → ℕ → Type 0
+ReadsAt None place buf k = ⊥
+ReadsAt (Some bytes) place buf k =
+    (take k buf ≡ take k (drop place bytes))
+    × (k ≡ 0 → (length buf ≡ 0) ⊎ (length bytes ≤ place))

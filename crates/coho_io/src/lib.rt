@@ -1,0 +1,22 @@
+//! Files and sinks as the program sees them: over memory, and over the real ones.
+#![tactic(auto)]
+
+mod calls;
+mod disk_files;
+mod fault;
+mod files;
+mod interrupted;
+mod mem_files;
+mod mem_sink;
+mod sink;
+mod std_sink;
+#[cfg(test)]
+mod tests;
+
+pub use disk_files::DiskFiles;
+pub use fault::Fault;
+pub use files::Files;
+pub use mem_files::MemFiles;
+pub use mem_sink::MemSink;
+pub use sink::Sink;
+pub use std_sink::StdSink;
