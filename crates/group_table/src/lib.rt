@@ -67,3 +67,6 @@ impl Prime {
         }
     }
 }
+
+#[cfg(test)]
+mod tests;
