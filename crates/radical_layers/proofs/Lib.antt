@@ -15,3 +15,4 @@ pub mod LayersExist
 pub mod UnitRow
 pub mod UnitRows
 pub mod Example
+pub mod SmallPrimes

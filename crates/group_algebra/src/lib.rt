@@ -1,0 +1,2 @@
+//! The group algebra of a finite p-group over the field of p elements, in layer coordinates.
+#![tactic(auto)]
