@@ -7,7 +7,7 @@ use Rattle.std.proofs.Math.Nat.{mod-eq_of_lt}
 use mathlib.Core.Path.{subst}
 use Rattle.linear_algebra.specs.Modular.{IsCongruent, IsFieldModulo}
 use Rattle.linear_algebra.specs.Rows.{entry, row, pivot, add_multiple, IsRow, IsMatrix, IsEchelon, IsEchelonOf, IsReduced, IsInSpan, AreInSpan}
-use Rattle.linear_algebra.specs.Elimination.{IsPrepared, IsCleared, AreCleared, IsPlace}
+use Rattle.linear_algebra.specs.Elimination.{IsPrepared, IsCleared, AreCleared}
 use Rattle.linear_algebra.proofs.Congruences.{congruent_eq, same_below}
 use Rattle.linear_algebra.proofs.PivotLemmas.{pivot-le-length, not_zero_at_pivot}
 use Rattle.linear_algebra.proofs.Pivots.{zero_at_pivots}
@@ -51,7 +51,7 @@ module _ {p width : ℕ} (F : IsFieldModulo p) where
         go h = (h.0, h.1.is_row, record { difference = h.1.difference; zero_at_pivots = h.1.zero_below })
 
     -- a member of the span that is 0 at each pivot has no pivot
-    no_pivot : (w : List ℕ) → IsRow p width w → ((i : ℕ) → i < length E → entry w (pivot (row E i)) ≡ 0) → IsInSpan p E (entry w) → pivot w < width → ⊥
+    pub no_pivot : (w : List ℕ) → IsRow p width w → ((i : ℕ) → i < length E → entry w (pivot (row E i)) ≡ 0) → IsInSpan p E (entry w) → pivot w < width → ⊥
     no_pivot w r z s l = not_zero_at_pivot w (let k = r.length_is in omega (arith, k, l))
         (same_below (zero_at_pivots p (length E) s.0 (λ i j. entry (row E i) j) (λ i. pivot (row E i)) (entry w) (HasPivots-from_echelon e) (Combines-from_combination s.1)
         (λ i m. congruent_eq (z i m)) (pivot w)) (r.below (pivot w) l) (let o = F.above_one in omega (arith, o)))

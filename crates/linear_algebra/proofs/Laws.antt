@@ -1,9 +1,9 @@
 -- The laws of the crate, from the lemmas.
-use Rattle.std.proofs.Common.{◌≡◌, ◌≢◌, ℕ, zero, suc, ◌+◌, ◌*◌, ◌%◌, ◌<◌, ◌≤◌, ◌⊎◌, List, [], ◌∷◌, ◌++◌, length, inl, inr, arith, ap, sym, ◌∙◌, refl}
+use Rattle.std.proofs.Common.{◌≡◌, ◌≢◌, ℕ, zero, suc, ◌+◌, ◌*◌, ◌%◌, ◌<◌, ◌≤◌, ◌⊎◌, List, [], ◌∷◌, ◌++◌, length, inl, inr, arith, sym, refl}
 use Rattle.std.proofs.lemmas.Bool.{cases_lt}
 use Rattle.std.proofs.lemmas.List.{get_or_past, length_push, append-nil}
 use mathlib.Core.Path.{subst}
-use Rattle.linear_algebra.specs.Modular.{IsCongruent, IsFieldModulo, sum_below}
+use Rattle.linear_algebra.specs.Modular.{IsCongruent, IsFieldModulo}
 use Rattle.linear_algebra.specs.Rows.{entry, row, combination, IsRow, IsMatrix, IsInSpan, IsCombination}
 use Rattle.linear_algebra.specs.Kernels.{IsInKernel}
 use Rattle.linear_algebra.specs.Choices.{rows_at, IsGreedyBelow, IsGreedy}

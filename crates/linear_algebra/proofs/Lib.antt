@@ -15,6 +15,8 @@ pub mod Reducing
 pub mod Insertion
 pub mod AddedRow
 pub mod Existence
+pub mod Prepared
+pub mod GreedyTurns
 pub mod MemberLemmas
 pub mod AugmentLemmas
 pub mod KernelLemmas

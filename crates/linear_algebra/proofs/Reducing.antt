@@ -1,5 +1,5 @@
 -- A row made 0 at the pivots of a reduced echelon list, and a column made 0.
-use Rattle.std.proofs.Common.{◌≡◌, ℕ, zero, suc, ◌+◌, ◌*◌, ◌-◌, ◌%◌, ◌<◌, ◌≤◌, ◌⊎◌, List, [], ◌∷◌, length, inl, inr, arith, ap, sym, ◌∙◌, refl}
+use Rattle.std.proofs.Common.{◌≡◌, ℕ, ◌+◌, ◌*◌, ◌-◌, ◌<◌, ◌≤◌, ◌⊎◌, List, length, inl, inr, arith, ap, sym, ◌∙◌}
 use Rattle.std.proofs.lemmas.Bool.{cases_eq, cases_lt}
 use Rattle.std.proofs.lemmas.List.{get_or_past}
 use Rattle.std.proofs.Math.Nat.{mod-lt}
@@ -22,6 +22,17 @@ reduced_start E v l r = record {
   difference = in_span_congruent (λ j. congruent_sym (congruent_minus (entry v j) l)) in_span_zero;
   zero_below = λ k b. absurd (omega arith);
 }
+
+pub reduced_skip : {p width : ℕ} {E : List (List ℕ)} {v w : List ℕ} {n : ℕ} → IsReducedUpTo p width E v w n → entry w (pivot (row E n)) ≡ 0 → IsReducedUpTo p width E v w (n + 1)
+reduced_skip {E = E} {w = w} {n = n} h z = record {
+  is_row = h.is_row;
+  difference = h.difference;
+  zero_below = λ k b. go k b (cases_eq k n);
+}
+  where
+    go : (k : ℕ) → k < n + 1 → (k ≡ n) ⊎ (k ≡ n → ⊥) → entry w (pivot (row E k)) ≡ 0
+    go k b (inl e) = ap (λ i. entry w (pivot (row E i))) e ∙ z
+    go k b (inr ne) = h.zero_below k (omega arith)
 
 pub add_multiple_is_row : {p width : ℕ} (c : ℕ) (w r : List ℕ) → 0 < p → IsRow p width w → IsRow p width r → IsRow p width (add_multiple p c w r)
 add_multiple_is_row {p} c w r l a b = record {

@@ -1,0 +1,4 @@
+pub mod Primes
+pub mod ListLemmas
+pub mod ClearingLemmas
+pub mod RefLemmas

@@ -1,0 +1,96 @@
+ghost use Rattle.std.specs.Prelude.{◌≡◌, ◌↔◌, ℕ, ◌<◌, length, IsTrue};
+ghost use Rattle.group_table.specs.Prime.{prime_value};
+ghost use Rattle.linear_algebra.specs.Rows.{entry, row, pivot, IsRow, IsMatrix, IsEchelon, IsInSpan, IsReduced};
+ghost use Rattle.fp_rows.specs.Refs.{entries_of, modulus_of};
+
+use crate::elimination::reduce_by;
+use crate::membership::is_member;
+use crate::row::Row;
+use crate::row_ref::RowRef;
+use group_table::Prime;
+use std::marker::Model;
+
+/// A reduced row echelon list: no row is 0, the pivots ascend, and each pivot's column is 1 in its own row and 0 elsewhere.
+#[derive(Drop)]
+pub struct Echelon {
+    pub(crate) prime: Prime,
+    pub(crate) width: usize,
+    pub(crate) rows: Vec<Vec<u8>>,
+    pub(crate) pivots: Vec<usize>,
+}
+
+impl Model for Echelon {
+    ghost use Rattle.group_table.specs.Prime.{prime_value};
+    ghost use Rattle.fp_rows.specs.Values.{MatrixValue, IsEchelonStore};
+    ghost use Rattle.fp_rows.specs.Lists.{lists};
+
+    ghost Value = { MatrixValue };
+
+    ghost view = { λ a. record { p = prime_value a.prime; width = a.width; rows = lists a.rows.items } };
+
+    ghost invariant = { λ a. IsEchelonStore (prime_value a.prime) a.width (lists a.rows.items) a.pivots.items };
+}
+
+impl Echelon {
+    /// How many rows there are: the dimension of the span.
+    pub fn rows(&self) -> usize
+        ensures count { result ≡ length self.now.rows }
+        ensures matrix { IsMatrix self.now.p self.now.width self.now.rows }
+        ensures echelon { IsEchelon self.now.rows }
+    {
+        self.rows.len()
+    }
+
+    /// The length of each row.
+    pub fn width(&self) -> usize
+        ensures { result ≡ self.now.width }
+    {
+        self.width
+    }
+
+    /// The prime.
+    pub fn prime(&self) -> Prime
+        ensures { prime_value result ≡ self.now.p }
+    {
+        self.prime
+    }
+
+    /// Row i, which is below the number of rows.
+    pub fn row(&self, i: usize) -> RowRef<'_>
+        requires { i < length self.now.rows }
+        ensures entries { entries_of result ≡ row self.now.rows i }
+        ensures modulus { modulus_of result ≡ self.now.p }
+        ensures is_row { IsRow self.now.p self.now.width (row self.now.rows i) }
+    {
+        RowRef::over(self.prime, self.rows[i].as_slice())
+    }
+
+    /// The place of the first entry of row i that is not 0.
+    pub fn pivot(&self, i: usize) -> usize
+        requires { i < length self.now.rows }
+        ensures place { result ≡ pivot (row self.now.rows i) }
+        ensures inside { result < self.now.width }
+    {
+        self.pivots[i]
+    }
+
+    /// Whether v, which has the width, is in the span of the rows.
+    pub fn contains(&self, v: RowRef<'_>) -> bool
+        requires same_prime { modulus_of v ≡ self.now.p }
+        requires same_width { length (entries_of v) ≡ self.now.width }
+        ensures { IsTrue result ↔ IsInSpan self.now.p self.now.rows (entry (entries_of v.entry)) }
+    {
+        is_member(self.prime, &self.rows, &self.pivots, v.bytes)
+    }
+
+    /// Subtracts from v, which has the width, the one member of the span that makes it 0 at every pivot.
+    pub fn reduce(&self, v: &mut Row)
+        requires same_prime { v.old.p ≡ self.now.p }
+        requires same_width { length v.old.entries ≡ self.now.width }
+        ensures prime { v.new.p ≡ v.old.p }
+        ensures row { IsRow self.now.p self.now.width v.new.entries }
+        ensures reduced { IsReduced self.now.p self.now.rows v.old.entries v.new.entries }
+    {
+        reduce_by(self.prime, &self.rows, &self.pivots, &mut v.items);
+    }
+}

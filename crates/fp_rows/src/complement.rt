@@ -1,0 +1,49 @@
+ghost use Rattle.std.specs.Prelude.{◌≡◌, ◌<◌, ◌^◌, length, IfOk};
+ghost use Rattle.linear_algebra.specs.Choices.{IsGreedy};
+ghost use Rattle.fp_rows.specs.Lists.{lists};
+
+use crate::basis::Echelon;
+use crate::elimination::{copy_of, insert_row};
+use crate::positions::Positions;
+use group_table::Memory;
+use std::alloc::Global;
+
+// Vectors with these rows.
+fn copies_of(alloc: Global, rows: &[Vec<u8>]) -> Result<Vec<Vec<u8>>, Memory>
+    ensures { IfOk result (λ v. lists v.items ≡ lists rows.now) }
+{
+    let mut copies = Vec::new(alloc);
+    for r in rows {
+        let copy = copy_of(alloc, r)?;
+        copies.push(copy)?;
+    }
+    Ok(copies)
+}
+
+// A vector with these places.
+fn places_of(alloc: Global, places: &[usize]) -> Result<Vec<usize>, Memory>
+    ensures { IfOk result (λ v. v.items ≡ places.now) }
+{
+    let mut v = Vec::new(alloc);
+    v.extend_from_slice(places)?;
+    Ok(v)
+}
+
+/// The positions of the rows of s that are not in the span of t and the rows taken before them.
+pub fn greedy(alloc: Global, s: &Echelon, t: &Echelon) -> Result<Positions, Memory>
+    requires same_prime { s.now.p ≡ t.now.p }
+    requires same_width { s.now.width ≡ t.now.width }
+    requires few { length s.now.rows < 2 ^ 32 }
+    ensures { IfOk result (λ positions. IsGreedy s.now.p s.now.rows t.now.rows positions) }
+{
+    let mut positions = Positions::new(alloc);
+    let mut rows = copies_of(alloc, &t.rows)?;
+    let mut pivots = places_of(alloc, &t.pivots)?;
+    for (i, r) in s.rows.iter().enumerate() {
+        let v = copy_of(alloc, r)?;
+        if insert_row(s.prime, &mut rows, &mut pivots, v)? {
+            positions.push(i as u32)?;
+        }
+    }
+    Ok(positions)
+}

@@ -1,0 +1,100 @@
+ghost use Rattle.std.specs.Prelude.{◌≡◌, ℕ, ◌+◌, ◌<◌, ◌≤◌, ◌++◌, ◌∷◌, [], length, OnOk, OnErr, IfOk, slice_range};
+ghost use Rattle.group_table.specs.Prime.{prime_value};
+ghost use Rattle.linear_algebra.specs.Rows.{row, IsRow, IsMatrix};
+ghost use Rattle.fp_rows.specs.Refs.{entries_of, modulus_of};
+
+use crate::elimination::copy_of;
+use crate::row_ref::RowRef;
+use group_table::{Memory, Prime};
+use std::alloc::Global;
+use std::marker::Model;
+
+/// A list of rows of one width over one prime.
+#[derive(Drop)]
+pub struct Matrix {
+    pub(crate) alloc: Global,
+    pub(crate) prime: Prime,
+    pub(crate) width: usize,
+    pub(crate) rows: Vec<Vec<u8>>,
+}
+
+impl Model for Matrix {
+    ghost use Rattle.group_table.specs.Prime.{prime_value};
+    ghost use Rattle.linear_algebra.specs.Rows.{IsMatrix};
+    ghost use Rattle.fp_rows.specs.Values.{MatrixValue};
+    ghost use Rattle.fp_rows.specs.Lists.{lists};
+
+    ghost Value = { MatrixValue };
+
+    ghost view = { λ a. record { p = prime_value a.prime; width = a.width; rows = lists a.rows.items } };
+
+    ghost invariant = { λ a. IsMatrix (prime_value a.prime) a.width (lists a.rows.items) };
+}
+
+impl Matrix {
+    /// The matrix without rows.
+    pub fn new(alloc: Global, p: Prime, width: usize) -> Matrix
+        ensures { result ≡ record { p = prime_value p; width = width; rows = [] } }
+    {
+        Matrix {
+            alloc,
+            prime: p,
+            width,
+            rows: Vec::new(alloc),
+        }
+    }
+
+    /// One more row, which has the width. After an error the rows are as before.
+    pub fn push(&mut self, r: RowRef<'_>) -> Result<(), Memory>
+        requires same_prime { modulus_of r ≡ self.old.p }
+        requires same_width { length (entries_of r) ≡ self.old.width }
+        ensures pushed { OnOk result (self.new ≡ record self.old { rows = self.old.rows ++ entries_of r.entry ∷ [] }) }
+        ensures kept { OnErr result (self.new ≡ self.old) }
+    {
+        let copy = copy_of(self.alloc, r.bytes)?;
+        self.rows.push(copy)?;
+        Ok(())
+    }
+
+    /// How many rows there are.
+    pub fn rows(&self) -> usize
+        ensures count { result ≡ length self.now.rows }
+        ensures matrix { IsMatrix self.now.p self.now.width self.now.rows }
+    {
+        self.rows.len()
+    }
+
+    /// The length of each row.
+    pub fn width(&self) -> usize
+        ensures { result ≡ self.now.width }
+    {
+        self.width
+    }
+
+    /// The prime.
+    pub fn prime(&self) -> Prime
+        ensures { prime_value result ≡ self.now.p }
+    {
+        self.prime
+    }
+
+    /// Row i, which is below the number of rows.
+    pub fn row(&self, i: usize) -> RowRef<'_>
+        requires { i < length self.now.rows }
+        ensures entries { entries_of result ≡ row self.now.rows i }
+        ensures modulus { modulus_of result ≡ self.now.p }
+        ensures is_row { IsRow self.now.p self.now.width (row self.now.rows i) }
+    {
+        RowRef::over(self.prime, self.rows[i].as_slice())
+    }
+
+    /// The `len` numbers of row i from place `from` on, which are a part of the row.
+    pub fn block(&self, i: usize, from: usize, len: usize) -> RowRef<'_>
+        requires inside { i < length self.now.rows }
+        requires within { from + len ≤ self.now.width }
+        ensures entries { entries_of result ≡ slice_range (row self.now.rows i) from (from + len) }
+        ensures modulus { modulus_of result ≡ self.now.p }
+    {
+        self.row(i).part(from, len)
+    }
+}
