@@ -1,7 +1,11 @@
 pub mod CutLemmas
 pub mod CutsLemmas
+pub mod Given
+pub mod Kept
+pub mod Made
 pub mod LineLemmas
 pub mod NumeralLemmas
 pub mod PrimeLemmas
+pub mod Steps
 pub mod TextLemmas
 pub mod WordLemmas

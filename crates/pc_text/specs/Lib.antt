@@ -8,6 +8,7 @@ pub mod Kinds
 pub mod Lines
 pub mod Numerals
 pub mod Relations
+pub mod Rules
 pub mod Texts
 pub mod Views
 pub mod Words

@@ -18,6 +18,10 @@ use Rattle.pc_text.specs.declared.texts.Content.{Content}
 use Rattle.pc_text.specs.Texts.{relations}
 use Rattle.pc_text.specs.Texts as texts
 use Rattle.pc_text.specs.Faults.{Fault}
+use Rattle.power_commutator.specs.Presentations.{Presentation}
+use Rattle.pc_group.specs.Parts.{with_power, with_commutator}
+use Rattle.pc_text.specs.declared.place.Place.{Place}
+use Rattle.pc_text.specs.declared.place.Place.TheVariants as places
 
 -- What a function returned, seen by view, is what reading a line gives, unless memory ran out.
 abbrev pub LineFails : {Y : Type 0} → LineStop → Result Y LineFault → Type 0
@@ -79,3 +83,11 @@ pub record GoesOn (names : Naming) (found : List table.Relation) (r : table.Rela
 abbrev pub at_line : ℕ → LineStop → TextFault
 at_line n (stops.Fault bad) = faults.At bad.kind n bad.column
 at_line n stops.Memory = faults.Memory
+
+-- P, with the word of this relation
+abbrev pub with_place : Presentation → Place → List ℕ → Presentation
+with_place P (places.Power i) w = with_power P i w
+with_place P (places.Commutator j i) w = with_commutator P j i w
+
+abbrev pub with_relation : Presentation → table.Relation → Presentation
+with_relation P r = with_place P r.place r.word

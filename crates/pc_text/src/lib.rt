@@ -8,8 +8,10 @@ mod frame;
 mod names;
 mod numerals;
 mod place;
+mod reader;
 mod relations;
 mod texts;
 mod words;
 
 pub use crate::fault::{Kind, TextFault};
+pub use crate::reader::read_presentation;

@@ -5,6 +5,7 @@ ghost use Rattle.std.specs.Prelude.{option_map, ◌≡◌, ◌≤◌, ◌<◌, �
 ghost use Rattle.pc_text.specs.Lines.{lines_from};
 ghost use Rattle.pc_text.specs.Texts.{prime, prime_line, count_line, relations, content};
 ghost use Rattle.pc_text.specs.Cuts.{by_cuts};
+ghost use Rattle.pc_text.specs.Rules.{IsContent};
 ghost use Rattle.pc_text.specs.Views.{names_of, TextGives, TextFails, shown, all_shown, GoesOn, HasSmallColumn, at_line, shown_content};
 
 use crate::cuts::{cut, strip};
@@ -143,9 +144,10 @@ fn content_by_cuts(alloc: Global, text: &[u8]) -> Result<Content, TextFault>
 }
 
 /// What a text says, or its first fault.
-fn content_of(alloc: Global, text: &[u8]) -> Result<Content, TextFault>
+pub fn content_of(alloc: Global, text: &[u8]) -> Result<Content, TextFault>
     requires { length text.now ≤ 65536 }
-    ensures { TextGives shown_content result (content text.now) }
+    ensures gives { TextGives shown_content result (content text.now) }
+    ensures kept { IfOk result (λ c. IsContent (shown_content c)) }
 {
     content_by_cuts(alloc, text)
 }
