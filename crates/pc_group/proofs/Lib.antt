@@ -1,2 +1,3 @@
+pub mod Collecting
 pub mod Making
 pub mod Views

@@ -1,3 +1,4 @@
+pub mod Collection
 pub mod Parts
 pub mod Shown
 pub mod Consistency

@@ -2,9 +2,11 @@
 //! See Holt, Eick and O'Brien, Handbook of Computational Group Theory, chapter 8.
 #![tactic(auto)]
 
+pub mod collection;
 pub mod consistency;
 pub mod presentation;
 
+pub use collection::collect;
 pub use consistency::{Consistent, Refused};
 pub use power_commutator::TestName;
 pub use presentation::{Presentation, Word};
