@@ -10,7 +10,8 @@ use Rattle.power_commutator.proofs.Layers.{Holds, AllHold, word-step}
 use Rattle.power_commutator.proofs.Tests.{each-none, hold-all}
 use Rattle.power_commutator.proofs.Lists.{list-word, list-inj}
 use Rattle.power_commutator.proofs.Numbers.{list-below, word-number-list}
-use Rattle.power_commutator.proofs.Pigeonhole.{Into, onto-one}
+use Rattle.group_table.proofs.Pigeonhole.{Into}
+use Rattle.power_commutator.proofs.OntoMaps.{onto-one}
 
 module _ (q : ℕ) (r : 1 < suc q) (P : Presentation) (v : IsPresentation P) {B : Type 0} {one : B} {mul : B → B → B} (H : IsGroup one mul) (u : ℕ → B) where
   abbrev val : (i m : ℕ) → Tuple q m → B
