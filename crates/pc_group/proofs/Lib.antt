@@ -1,3 +1,6 @@
 pub mod Collecting
 pub mod Making
 pub mod Views
+pub mod Powers
+pub mod LayerTables
+pub mod Faults

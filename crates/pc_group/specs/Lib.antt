@@ -3,3 +3,5 @@ pub mod Parts
 pub mod Shown
 pub mod Consistency
 pub mod Refusal
+pub mod Tables
+pub mod Layers

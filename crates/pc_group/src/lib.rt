@@ -4,7 +4,11 @@
 
 pub mod collection;
 pub mod consistency;
+mod layer_lists;
+mod layer_table;
+mod layer_tests;
 pub mod presentation;
+mod tables;
 
 pub use collection::collect;
 pub use consistency::{Consistent, Refused};

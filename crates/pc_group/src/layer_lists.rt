@@ -1,0 +1,160 @@
+//! The numbers of generators, words and images in a layer.
+
+ghost use Rattle.std.specs.Prelude.{◌≡◌, ◌<◌, ◌≤◌, ◌*◌, ◌/◌, ◌+◌, ◌-◌, ◌^◌, suc, length, get_or, IfOk};
+ghost use Rattle.power_commutator.specs.Presentations.{ascending, word_of};
+ghost use Rattle.pc_group.specs.Tables.{entry_of, at, IsSquare, AreBelow, Each};
+
+use group_table::Memory;
+use std::alloc::Global;
+
+use crate::tables::{digits_product, entry};
+
+/// A power that is at most 256.
+pub(crate) fn small_power(prime: usize, e: usize) -> usize
+    requires some { 1 < prime }
+    requires small { prime ^ e ≤ 256 }
+    ensures { result ≡ prime ^ e }
+{
+    let mut y = 1;
+    for k in 0..e {
+        y = y * prime;
+    }
+    y
+}
+
+/// The number of g_j in the layer after g_i, or 0 for the generators that it lacks.
+pub(crate) fn generator_number(prime: usize, i: usize, n: usize, j: usize) -> usize
+    requires some { 1 < prime }
+    requires small { prime ^ (n - i) ≤ 256 }
+    requires inside { j ≤ n }
+    ensures value { i < j → result ≡ prime ^ (j - suc i) }
+    ensures below { result < prime ^ (n - i) }
+{
+    if i < j {
+        small_power(prime, j - i - 1)
+    } else {
+        0
+    }
+}
+
+/// The numbers of the generators in the layer after g_i.
+pub(crate) fn generator_list(
+    alloc: Global,
+    prime: usize,
+    i: usize,
+    n: usize,
+) -> Result<Vec<u16>, Memory>
+    requires some { 1 < prime }
+    requires small { prime ^ (n - i) ≤ 256 }
+    requires count { n < 32 }
+    ensures { IfOk result (λ v. Each (λ j x. (i < j → x ≡ prime ^ (j - suc i)) × x < prime ^ (n - i)) (n + 1) v.items) }
+{
+    let mut out = Vec::new(alloc);
+    for j in 0..n + 1 {
+        let x = generator_number(prime, i, n, j);
+        out.push(x as u16)?;
+    }
+    Ok(out)
+}
+
+/// Each number over the divisor.
+pub(crate) fn scaled(alloc: Global, numbers: &[u16], divisor: usize) -> Result<Vec<u16>, Memory>
+    requires { 0 < divisor }
+    ensures { IfOk result (λ v. Each (λ k x. x ≡ get_or numbers.now k 0 / divisor) (length numbers.now) v.items) }
+{
+    let mut out = Vec::new(alloc);
+    for k in 0..numbers.len() {
+        let x = numbers[k] as usize / divisor;
+        out.push(x as u16)?;
+    }
+    Ok(out)
+}
+
+/// g_j c_{j,i} in the layer after g_i, or 0 for the generators that it lacks.
+pub(crate) fn element(
+    table: &[u16],
+    width: usize,
+    gens: &[u16],
+    commutators: &[u16],
+    i: usize,
+    n: usize,
+    j: usize,
+) -> usize
+    requires square { IsSquare width table.now }
+    requires small { width ≤ 256 }
+    requires some { 0 < width }
+    requires count { n < 32 }
+    requires inside { j ≤ n }
+    requires before { i ≤ n }
+    requires gens { AreBelow width gens.now }
+    requires gens_len { length gens.now ≡ n + 1 }
+    requires commutators { AreBelow width commutators.now }
+    requires commutators_len { length commutators.now ≡ (n + 1) * (n + 1) }
+    ensures value { i < j → result ≡ entry_of table.now width (get_or gens.now j 0) (get_or commutators.now (j * (n + 1) + i) 0) }
+    ensures below { result < width }
+{
+    if i < j {
+        entry(
+            table,
+            width,
+            gens[j] as usize,
+            commutators[j * (n + 1) + i] as usize,
+        )
+    } else {
+        0
+    }
+}
+
+/// The elements g_j c_{j,i}.
+pub(crate) fn element_list(
+    alloc: Global,
+    table: &[u16],
+    width: usize,
+    gens: &[u16],
+    commutators: &[u16],
+    i: usize,
+    n: usize,
+) -> Result<Vec<u16>, Memory>
+    requires square { IsSquare width table.now }
+    requires small { width ≤ 256 }
+    requires some { 0 < width }
+    requires count { n < 32 }
+    requires before { i ≤ n }
+    requires gens { AreBelow width gens.now }
+    requires gens_len { length gens.now ≡ n + 1 }
+    requires commutators { AreBelow width commutators.now }
+    requires commutators_len { length commutators.now ≡ (n + 1) * (n + 1) }
+    ensures { IfOk result (λ v. Each (λ j x. (i < j → x ≡ entry_of table.now width (get_or gens.now j 0) (get_or commutators.now (j * (n + 1) + i) 0)) × x < width) (n + 1) v.items) }
+{
+    let mut out = Vec::new(alloc);
+    for j in 0..n + 1 {
+        let x = element(table, width, gens, commutators, i, n, j);
+        out.push(x as u16)?;
+    }
+    Ok(out)
+}
+
+/// The table of the twist of layer i.
+pub(crate) fn image_list(
+    alloc: Global,
+    prime: usize,
+    table: &[u16],
+    width: usize,
+    elements: &[u16],
+    i: usize,
+) -> Result<Vec<u16>, Memory>
+    requires prime { 0 < prime }
+    requires square { IsSquare width table.now }
+    requires small { width ≤ 256 }
+    requires some { 0 < width }
+    requires elements { AreBelow width elements.now }
+    requires place { i < length elements.now }
+    ensures { IfOk result (λ v. Each (λ k x. (x ≡ ascending (entry_of table.now width) 0 (at elements.now) (i + 1) (word_of prime (length elements.now - (i + 1)) k)) × x < width) width v.items) }
+{
+    let mut out = Vec::new(alloc);
+    for k in 0..width {
+        let x = digits_product(prime, table, width, elements, i + 1, k);
+        out.push(x as u16)?;
+    }
+    Ok(out)
+}
