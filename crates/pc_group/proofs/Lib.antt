@@ -4,3 +4,5 @@ pub mod Views
 pub mod Powers
 pub mod LayerTables
 pub mod Faults
+pub mod WordNumbers
+pub mod Round

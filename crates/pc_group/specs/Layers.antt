@@ -8,7 +8,7 @@ use Rattle.pc_group.specs.declared.layer_tests.Layer.{Layer}
 -- lists for the layer after g_i, of n generators in all, have their lengths, and numbers below the number of images
 pub record AreSound (i n : ℕ) (table images powers commutators generators : List ℕ) : Type 0 where
   pub order : i ≤ n
-  pub few : n < 32
+  pub few : n ≤ 32
   pub small : length images ≤ 256
   pub square : IsSquare (length images) table
   pub images-below : IsMap (length images) images

@@ -5,3 +5,4 @@ pub mod Consistency
 pub mod Refusal
 pub mod Tables
 pub mod Layers
+pub mod WordNumbers

@@ -13,7 +13,9 @@ use crate::tables::{digits_product, entry};
 pub(crate) fn small_power(prime: usize, e: usize) -> usize
     requires some { 1 < prime }
     requires small { prime ^ e ≤ 256 }
-    ensures { result ≡ prime ^ e }
+    ensures value { result ≡ prime ^ e }
+    ensures some { 0 < result }
+    ensures small { result ≤ 256 }
 {
     let mut y = 1;
     for k in 0..e {
@@ -46,7 +48,7 @@ pub(crate) fn generator_list(
 ) -> Result<Vec<u16>, Memory>
     requires some { 1 < prime }
     requires small { prime ^ (n - i) ≤ 256 }
-    requires count { n < 32 }
+    requires count { n ≤ 32 }
     ensures { IfOk result (λ v. Each (λ j x. (i < j → x ≡ prime ^ (j - suc i)) × x < prime ^ (n - i)) (n + 1) v.items) }
 {
     let mut out = Vec::new(alloc);
@@ -83,7 +85,7 @@ pub(crate) fn element(
     requires square { IsSquare width table.now }
     requires small { width ≤ 256 }
     requires some { 0 < width }
-    requires count { n < 32 }
+    requires count { n ≤ 32 }
     requires inside { j ≤ n }
     requires before { i ≤ n }
     requires gens { AreBelow width gens.now }
@@ -118,7 +120,7 @@ pub(crate) fn element_list(
     requires square { IsSquare width table.now }
     requires small { width ≤ 256 }
     requires some { 0 < width }
-    requires count { n < 32 }
+    requires count { n ≤ 32 }
     requires before { i ≤ n }
     requires gens { AreBelow width gens.now }
     requires gens_len { length gens.now ≡ n + 1 }

@@ -8,7 +8,9 @@ mod layer_lists;
 mod layer_table;
 mod layer_tests;
 pub mod presentation;
+mod rounds;
 mod tables;
+mod word_numbers;
 
 pub use collection::collect;
 pub use consistency::{Consistent, Refused};

@@ -18,7 +18,7 @@ returns-then-i-j-clause-below c =
     let t = c.if-i-j.true in
     let l = c.requires.inside in
     let k = pow-less c.args.prime (c.args.j - c.args.i - 1) (c.args.n - c.args.i) s (omega (arith, t, l)) in
-    let e = c.small_power.ensures in
+    let e = c.small_power.ensures.value in
     omega (arith, k, e)
 
 pub returns-else-i-j-clause-below : goal.returns-else-i-j-clause-below
