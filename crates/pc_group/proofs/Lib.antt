@@ -6,3 +6,4 @@ pub mod LayerTables
 pub mod Faults
 pub mod WordNumbers
 pub mod Round
+pub mod Step

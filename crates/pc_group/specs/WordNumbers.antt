@@ -1,6 +1,8 @@
 -- Lists of the numbers of a presentation's words, and of the product of a layer.
-use Rattle.std.specs.Prelude.{◌≡◌, ℕ, ◌+◌, ◌*◌, ◌/◌, ◌%◌, ◌^◌, ◌<◌, List}
-use Rattle.power_commutator.specs.Presentations.{Presentation as Presented, number, power_word, commutator_word}
+use Rattle.std.specs.Prelude.{◌≡◌, ℕ, ◌+◌, ◌*◌, ◌/◌, ◌%◌, ◌^◌, ◌<◌, suc, List, Result, Vec, MatchResult, Some, None}
+use Rattle.power_commutator.specs.Presentations.{Presentation as Presented, number, power_word, commutator_word, product, equations, first_false}
+use Rattle.power_commutator.specs.declared.TestName.{TestName}
+use Rattle.std.specs.declared.alloc.Global.{Global}
 use Rattle.power_commutator.specs.Steps.{IsLayerTable}
 use Rattle.pc_group.specs.Tables.{Each, IsSquare, entry_of}
 
@@ -24,3 +26,9 @@ pub record AreWordNumbers (P : Presented) (powers commutators : List ℕ) : Type
 pub record IsTableOf (P : Presented) (i m : ℕ) (table : List ℕ) : Type 0 where
   pub square : IsSquare (P.prime ^ m) table
   pub product : IsLayerTable P i m (entry_of table (P.prime ^ m))
+
+-- no test of layer i is false, and the list is its product; or the name is that of the first false one
+abbrev pub IsStepOf : Presented → (i m : ℕ) → Result (Vec ℕ Global) TestName → Type 0
+IsStepOf P i m r =
+    let fault = first_false (equations P (product P (suc i) m) i m) in
+    MatchResult r (λ table. (fault ≡ None) × IsTableOf P i (suc m) table.items) (λ name. fault ≡ Some name)

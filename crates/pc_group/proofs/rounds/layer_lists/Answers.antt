@@ -89,3 +89,6 @@ returns-clause-numbers c =
     numbers c.args.p.now c.args.i c.args.m c.args.table.now c.args.powers.now c.args.commutators.now c.in_ok-own.own.items c.in_ok-pairs.pairs.items
     c.in_ok-generators.generators.items c.in_ok-elements.elements.items c.in_ok-images.images.items
     c.prime.ensures.prime c.gens-n.ensures.valid c.requires.first c.requires.count c.requires.words c.requires.table (made c)
+
+pub returns-clause-order : goal.returns-clause-order
+returns-clause-order c = (made c).images-is.0
