@@ -7,3 +7,4 @@ pub mod Faults
 pub mod WordNumbers
 pub mod Round
 pub mod Step
+pub mod Descent

@@ -1,6 +1,6 @@
 -- Lists of the numbers of a presentation's words, and of the product of a layer.
 use Rattle.std.specs.Prelude.{◌≡◌, ℕ, ◌+◌, ◌*◌, ◌/◌, ◌%◌, ◌^◌, ◌<◌, suc, List, Result, Vec, MatchResult, Some, None}
-use Rattle.power_commutator.specs.Presentations.{Presentation as Presented, number, power_word, commutator_word, product, equations, first_false}
+use Rattle.power_commutator.specs.Presentations.{Presentation as Presented, number, power_word, commutator_word, product, equations, first_false, first_fault}
 use Rattle.power_commutator.specs.declared.TestName.{TestName}
 use Rattle.std.specs.declared.alloc.Global.{Global}
 use Rattle.power_commutator.specs.Steps.{IsLayerTable}
@@ -32,3 +32,8 @@ abbrev pub IsStepOf : Presented → (i m : ℕ) → Result (Vec ℕ Global) Test
 IsStepOf P i m r =
     let fault = first_false (equations P (product P (suc i) m) i m) in
     MatchResult r (λ table. (fault ≡ None) × IsTableOf P i (suc m) table.items) (λ name. fault ≡ Some name)
+
+-- no test is false, and the list is the product of layer 1; or the name is that of the first false test
+abbrev pub IsOutcomeOf : Presented → Result (Vec ℕ Global) TestName → Type 0
+IsOutcomeOf P r =
+    MatchResult r (λ table. (first_fault P ≡ None) × IsTableOf P 1 P.gens table.items) (λ name. first_fault P ≡ Some name)

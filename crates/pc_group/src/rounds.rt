@@ -3,7 +3,7 @@
 ghost use Rattle.std.specs.Prelude.{◌≡◌, ◌<◌, ◌≤◌, ◌+◌, ◌*◌, ◌^◌, ℕ, suc, length, IfOk};
 ghost use Rattle.power_commutator.specs.Presentations.{Presentation as Presented};
 ghost use Rattle.pc_group.specs.Layers.{AreSound, AreNumbersOf, IsLayerOf, IsSound, width};
-ghost use Rattle.pc_group.specs.WordNumbers.{AreWordNumbers, IsTableOf, IsStepOf};
+ghost use Rattle.pc_group.specs.WordNumbers.{AreWordNumbers, IsTableOf, IsStepOf, IsOutcomeOf};
 
 use group_table::Memory;
 use power_commutator::TestName;
@@ -13,6 +13,7 @@ use crate::layer_lists::{element_list, generator_list, image_list, scaled, small
 use crate::layer_table::layer_table;
 use crate::layer_tests::Layer;
 use crate::presentation::Presentation;
+use crate::word_numbers::{commutator_numbers, power_numbers};
 
 /// The lists of a layer after g_i: the images under α_i, the words of g_j^p and [g_k, g_j], and the generators.
 #[derive(Drop)]
@@ -107,4 +108,23 @@ pub(crate) fn round(
         generators: &lists.generators,
     };
     layer_step(alloc, &layer)
+}
+
+/// The first false test of a presentation, or the product of its layer 1.
+pub(crate) fn first_layer(alloc: Global, p: &Presentation) -> Result<Result<Vec<u16>, TestName>, Memory>
+    requires { p.now.prime ^ p.now.gens ≤ 256 }
+    ensures { IfOk result (IsOutcomeOf p.now) }
+{
+    let n = p.gens() as usize;
+    let powers = power_numbers(alloc, p)?;
+    let commutators = commutator_numbers(alloc, p)?;
+    let mut table = Vec::new(alloc);
+    table.push(0)?;
+    for m in 0..n {
+        match round(alloc, p, n - m, m, &table, &powers, &commutators)? {
+            Ok(next) => table = next,
+            Err(name) => return Ok(Err(name)),
+        }
+    }
+    Ok(Ok(table))
 }
