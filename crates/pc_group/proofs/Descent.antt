@@ -1,5 +1,5 @@
 -- The tests of the layers from the last one down.
-use Rattle.std.proofs.Common.{◌≡◌, ℕ, suc, ◌∙◌, sym, subst₂, ◌+◌, ◌-◌, ◌<◌, arith, List, Some, None}
+use Rattle.std.proofs.Common.{◌≡◌, ℕ, suc, ◌∙◌, subst₂, ◌+◌, ◌-◌, ◌<◌, arith, List, Some, None}
 use Rattle.power_commutator.specs.declared.TestName.{TestName}
 use Rattle.power_commutator.specs.Presentations.{Presentation as Presented, product, tests, equations, first_false, first_fault}
 use Rattle.power_commutator.proofs.Steps.{first-skip, layer-fault}

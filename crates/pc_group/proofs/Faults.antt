@@ -1,5 +1,5 @@
 -- What the numbers of a layer tell of its tests.
-use Rattle.std.proofs.Common.{◌≡◌, ℕ, suc, sym, ◌∙◌, ap, ap₂, subst, ◌+◌, ◌-◌, ◌*◌, ◌^◌, ◌<◌, ◌≤◌, arith, true, false, eqb, List, get_or, drop, map, Some, None, length, eq-eqb, ne_eqb, ◌⊎◌, inl, inr}
+use Rattle.std.proofs.Common.{◌≡◌, ℕ, suc, sym, ◌∙◌, ap, ap₂, subst, ◌+◌, ◌-◌, ◌*◌, ◌^◌, ◌<◌, ◌≤◌, arith, true, false, eqb, List, get_or, drop, map, Some, None, eq-eqb, ne_eqb, ◌⊎◌, inl, inr}
 use Rattle.power_commutator.specs.Presentations.{Presentation as Presented, Equation, pow, iterate, product, power_test, swap_test, fixed_test, twist_test, number, power_word, commutator_word, range, first_false}
 use Rattle.power_commutator.specs.Steps.{step_alpha}
 use Rattle.power_commutator.proofs.Cyclic.{less-or}
@@ -117,7 +117,7 @@ module _ (P : Presented) (m : ℕ) (L : Layer) (R : IsLayerOf P m L) (F : IsSoun
       let w : power i ≡ number P.prime (drop i (power_word P i)) = own (omega (arith, h', l)) in
       let gen : generator j ≡ P.prime ^ (j - suc i) = R.numbers.generators-are j h (let e = R.gens-is in omega (arith, l, e)) in
       let agree =
-          iterate-agree (width L) α (at L.images.now) (λ k b. sym (R.numbers.images-are k b)) F.images-below.small
-          L.prime (generator j) (F.generators-below j (omega (arith, l, g))) in
+      iterate-agree (width L) α (at L.images.now) (λ k b. sym (R.numbers.images-are k b)) F.images-below.small
+      L.prime (generator j) (F.generators-below j (omega (arith, l, g))) in
       twist-passes P R.numbers.some R.numbers.valid i m R.numbers.count R.numbers.index t R.numbers.table-is j (among j h l)
       ∙ sym (ap₂ eqb (ap₂ t w (sym agree.0 ∙ ap₂ (iterate α) R.prime-is gen)) (ap₂ t gen w))

@@ -6,7 +6,7 @@ use Rattle.power_commutator.specs.Presentations.{Presentation as Presented, IsPr
 use Rattle.power_commutator.specs.Steps.{IsLayerTable, step_alpha}
 use Rattle.pc_group.specs.Tables.{entry_of, at, IsSquare, Each}
 use Rattle.pc_group.specs.Layers.{AreSound, AreNumbersOf}
-use Rattle.pc_group.specs.WordNumbers.{AreWordNumbers, IsTableOf, IsCommutatorNumber}
+use Rattle.pc_group.specs.WordNumbers.{AreWordNumbers, IsTableOf}
 use Rattle.pc_group.proofs.LayerTables.{number-drop, images-from}
 use Rattle.pc_group.proofs.Powers.{pow-some, pow-le}
 
@@ -75,9 +75,9 @@ module _ (P : Presented) (i m : ℕ) (T powers commutators own pairs generators 
     at-place k j a l b =
         let l' : j < k = l in
         let row : (k * (P.gens + 1) + j) / (P.gens + 1) ≡ k =
-            mul-add-div_right {m = P.gens + 1} (omega arith) k j ∙ ap (λ d. k + d) (let z : j < P.gens + 1 = omega (arith, l', b) in div-eq_of_lt z) ∙ (let z : k + 0 ≡ k = omega arith in z) in
+        mul-add-div_right {m = P.gens + 1} (omega arith) k j ∙ ap (λ d. k + d) (let z : j < P.gens + 1 = omega (arith, l', b) in div-eq_of_lt z) ∙ (let z : k + 0 ≡ k = omega arith in z) in
         let column : (k * (P.gens + 1) + j) % (P.gens + 1) ≡ j =
-            mul-add-mod_self_right k (P.gens + 1) j ∙ (let z : j < P.gens + 1 = omega (arith, l', b) in mod-eq_of_lt z) in
+        mul-add-mod_self_right k (P.gens + 1) j ∙ (let z : j < P.gens + 1 = omega (arith, l', b) in mod-eq_of_lt z) in
         subst₂ (λ c d. 0 < d → d < c → get_or commutators (k * (P.gens + 1) + j) 0 ≡ number P.prime (commutator_word P c d)) row column
         (W.commutators-are.1 (k * (P.gens + 1) + j) (place P.gens k j (omega (arith, l', b)) b)).0 a l
 

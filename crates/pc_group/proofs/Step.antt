@@ -1,5 +1,5 @@
 -- The table that one step makes is that of the layer.
-use Rattle.std.proofs.Common.{◌≡◌, ℕ, suc, sym, ◌∙◌, ap, ap₂, subst, subst₂, ◌*◌, ◌^◌, arith, List, get_or, drop}
+use Rattle.std.proofs.Common.{◌≡◌, ℕ, suc, sym, ◌∙◌, ap, subst, subst₂, ◌*◌, ◌^◌, arith, List, get_or, drop}
 use Rattle.std.proofs.Math.Nat.{pow-succ'}
 use Rattle.power_commutator.specs.Presentations.{Presentation as Presented, number, power_word}
 use Rattle.power_commutator.specs.Steps.{step_table, IsLayerTable}

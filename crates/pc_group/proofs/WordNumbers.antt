@@ -3,7 +3,6 @@ use Rattle.std.proofs.Common.{◌≡◌, ℕ, zero, suc, refl, sym, ◌∙◌, a
 use Rattle.std.proofs.Math.Nat.{pow-zero, pow-succ'}
 use Rattle.std.proofs.lemmas.List.Elements.{All-head, All-tail}
 use Rattle.power_commutator.specs.Presentations.{number}
-use Rattle.pc_group.proofs.Powers.{pow-le, pow-some}
 
 pub number-small : (p : ℕ) → 0 < p → (w : List ℕ) → All (λ e. e < p) w → number p w < p ^ length w
 number-small p s [] h = let e : p ^ 0 ≡ 1 = pow-zero p in omega (arith, e)

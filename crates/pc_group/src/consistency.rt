@@ -1,10 +1,14 @@
 //! Consistent presentations, and the refusals of the consistency tests.
 
-ghost use Rattle.std.specs.Prelude.{◌≡◌};
+ghost use Rattle.std.specs.Prelude.{◌≡◌, ◌≤◌, ◌^◌, None, IfOk, IfErr, OnOk};
+ghost use Rattle.power_commutator.specs.Presentations.{first_fault};
 ghost use Rattle.power_commutator.specs.Claims.{GroupClaims};
+ghost use Rattle.pc_group.specs.Refusal.{Refuses};
 
 use crate::presentation::Presentation;
+use crate::rounds::first_layer;
 use power_commutator::TestName;
+use std::alloc::Global;
 use std::marker::Model;
 
 /// A presentation without a false test, of order at most 256. Contracts see the presentation.
@@ -48,5 +52,24 @@ impl Consistent {
         ensures group { GroupClaims self.now }
     {
         &self.presentation
+    }
+}
+
+/// Makes the consistency tests of a presentation of order p^n at most 256, from the last layer to the first.
+/// A presentation without a false test is that of a group of order p^n; otherwise the first false test is named.
+pub fn check(alloc: Global, p: Presentation) -> Result<Consistent, Refused>
+    requires { p.prime ^ p.gens ≤ 256 }
+    ensures same { IfOk result (λ c. c ≡ p) }
+    ensures faultless { OnOk result (first_fault p ≡ None) }
+    ensures group { OnOk result (GroupClaims p) }
+    ensures refused { IfErr result (Refuses p) }
+{
+    match first_layer(alloc, &p) {
+        Ok(Ok(_)) => Ok(Consistent { presentation: p }),
+        Ok(Err(name)) => Err(Refused::Fault {
+            name,
+            presentation: p,
+        }),
+        Err(_) => Err(Refused::Memory { presentation: p }),
     }
 }

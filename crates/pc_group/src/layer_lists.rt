@@ -4,10 +4,9 @@ ghost use Rattle.std.specs.Prelude.{◌≡◌, ◌<◌, ◌≤◌, ◌*◌, ◌/
 ghost use Rattle.power_commutator.specs.Presentations.{ascending, word_of};
 ghost use Rattle.pc_group.specs.Tables.{entry_of, at, IsSquare, AreBelow, Each};
 
+use crate::tables::{digits_product, entry};
 use group_table::Memory;
 use std::alloc::Global;
-
-use crate::tables::{digits_product, entry};
 
 /// A power that is at most 256.
 pub(crate) fn small_power(prime: usize, e: usize) -> usize

@@ -4,10 +4,9 @@ ghost use Rattle.std.specs.Prelude.{◌≡◌, ◌<◌, ◌≤◌, ◌*◌, leng
 ghost use Rattle.power_commutator.specs.Steps.{step_table};
 ghost use Rattle.pc_group.specs.Tables.{entry_of, at, IsSquare, IsMap, HasEntries};
 
+use crate::tables::{entry, iterated};
 use group_table::Memory;
 use std::alloc::Global;
-
-use crate::tables::{entry, iterated};
 
 /// The entry of a layer's table at (a, b): `next` is the next layer's table, `images` is its twist and w its power word.
 pub(crate) fn product_entry(

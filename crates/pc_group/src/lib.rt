@@ -13,6 +13,6 @@ mod tables;
 mod word_numbers;
 
 pub use collection::collect;
-pub use consistency::{Consistent, Refused};
+pub use consistency::{Consistent, Refused, check};
 pub use power_commutator::TestName;
 pub use presentation::{Presentation, Word};

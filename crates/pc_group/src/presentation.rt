@@ -63,6 +63,7 @@ impl Presentation {
     pub fn gens(&self) -> u32
         ensures value { result ≡ self.now.gens }
         ensures bound { result ≤ 32 }
+        ensures prime { 1 < self.now.prime }
         ensures valid { IsPresentation self.now }
     {
         self.gens

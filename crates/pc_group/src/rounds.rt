@@ -1,19 +1,18 @@
 //! One step down the layers: the lists of a layer, its tests, and the product of the layer with one generator more.
 
 ghost use Rattle.std.specs.Prelude.{◌≡◌, ◌<◌, ◌≤◌, ◌+◌, ◌*◌, ◌^◌, ℕ, suc, length, IfOk};
-ghost use Rattle.power_commutator.specs.Presentations.{Presentation as Presented};
+ghost use Rattle.power_commutator.specs.Presentations.{Presentation as Presented, IsPresentation};
 ghost use Rattle.pc_group.specs.Layers.{AreSound, AreNumbersOf, IsLayerOf, IsSound, width};
 ghost use Rattle.pc_group.specs.WordNumbers.{AreWordNumbers, IsTableOf, IsStepOf, IsOutcomeOf};
-
-use group_table::Memory;
-use power_commutator::TestName;
-use std::alloc::Global;
 
 use crate::layer_lists::{element_list, generator_list, image_list, scaled, small_power};
 use crate::layer_table::layer_table;
 use crate::layer_tests::Layer;
 use crate::presentation::Presentation;
 use crate::word_numbers::{commutator_numbers, power_numbers};
+use group_table::Memory;
+use power_commutator::TestName;
+use std::alloc::Global;
 
 /// The lists of a layer after g_i: the images under α_i, the words of g_j^p and [g_k, g_j], and the generators.
 #[derive(Drop)]
@@ -63,7 +62,10 @@ pub(crate) fn layer_lists(
 }
 
 /// The first false test of a layer, or the product of the layer with g_i.
-pub(crate) fn layer_step(alloc: Global, layer: &Layer<'_>) -> Result<Result<Vec<u16>, TestName>, Memory>
+pub(crate) fn layer_step(
+    alloc: Global,
+    layer: &Layer<'_>,
+) -> Result<Result<Vec<u16>, TestName>, Memory>
     requires sound { IsSound layer.now }
     requires prime { 0 < layer.now.prime }
     requires small { layer.now.prime * width layer.now ≤ 256 }
@@ -111,9 +113,14 @@ pub(crate) fn round(
 }
 
 /// The first false test of a presentation, or the product of its layer 1.
-pub(crate) fn first_layer(alloc: Global, p: &Presentation) -> Result<Result<Vec<u16>, TestName>, Memory>
+pub(crate) fn first_layer(
+    alloc: Global,
+    p: &Presentation,
+) -> Result<Result<Vec<u16>, TestName>, Memory>
     requires { p.now.prime ^ p.now.gens ≤ 256 }
-    ensures { IfOk result (IsOutcomeOf p.now) }
+    ensures outcome { IfOk result (IsOutcomeOf p.now) }
+    ensures prime { 1 < p.now.prime }
+    ensures valid { IsPresentation p.now }
 {
     let n = p.gens() as usize;
     let powers = power_numbers(alloc, p)?;

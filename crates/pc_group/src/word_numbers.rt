@@ -5,10 +5,9 @@ ghost use Rattle.power_commutator.specs.Presentations.{number, power_word, commu
 ghost use Rattle.pc_group.specs.Tables.{Each};
 ghost use Rattle.pc_group.specs.WordNumbers.{IsPowerNumber, IsCommutatorNumber};
 
+use crate::presentation::Presentation;
 use group_table::Memory;
 use std::alloc::Global;
-
-use crate::presentation::Presentation;
 
 /// The number of the element with these exponents: e_1 + e_2 p + e_3 p^2 and so on.
 pub(crate) fn word_number(prime: usize, word: &[u8]) -> usize

@@ -1,10 +1,9 @@
 -- Each round goes one layer down.
-use Rattle.std.proofs.Common.{◌≡◌, sym}
 use Rattle.pc_group.proofs.Descent.{none-down, some-down, table-down}
 use Rattle.pc_group.proofs.rounds.first_layer.Goals as goal
 
-pub returns-in-Err : goal.returns-in-Err
-returns-in-Err c =
+pub returns-in-Err-clause-outcome : goal.returns-in-Err-clause-outcome
+returns-in-Err-clause-outcome c =
     let step = rw c.in-Err.is at c.in_ok-next.ensures in
     some-down c.args.p.now c.gens-n.result c.loop-m.m c.loop-m-test.true c.loop-m.invariant.faultless c.in-Err.name c.gens-n.ensures.value step
 

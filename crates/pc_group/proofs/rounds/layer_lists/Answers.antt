@@ -1,9 +1,9 @@
 -- The lists are made one after another, and are those of the layer.
-use Rattle.std.proofs.Common.{◌≡◌, suc, sym, ◌∙◌, ap, subst, subst₂, ◌+◌, ◌-◌, ◌*◌, ◌/◌, ◌^◌, ◌<◌, ◌≤◌, arith, get_or, length}
+use Rattle.std.proofs.Common.{◌≡◌, sym, ◌∙◌, ap, subst, subst₂, ◌+◌, ◌-◌, ◌*◌, ◌/◌, ◌^◌, ◌<◌, arith, get_or, length}
 use Rattle.power_commutator.specs.Presentations.{ascending, word_of}
 use Rattle.pc_group.specs.Tables.{entry_of, at, Each}
-use Rattle.pc_group.proofs.Powers.{part-small, pow-some}
-use Rattle.pc_group.proofs.Round.{scaled-below, AreMade, AreMadeFor, made-for, sound, numbers}
+use Rattle.pc_group.proofs.Powers.{part-small}
+use Rattle.pc_group.proofs.Round.{scaled-below, AreMadeFor, made-for, sound, numbers}
 use Rattle.pc_group.proofs.rounds.layer_lists.Goals as goal
 
 pub small_power-width-requires-clause-small : goal.small_power-width-requires-clause-small

@@ -1,5 +1,5 @@
 -- The lists are those of the layer.
-use Rattle.std.proofs.Common.{◌≡◌, ℕ, suc, sym, ◌∙◌, ap, ap₂, subst, subst₂, ◌*◌, ◌^◌, ◌≤◌, arith, List, length}
+use Rattle.std.proofs.Common.{◌≡◌, ℕ, suc, sym, ◌∙◌, ap, ap₂, subst₂, ◌*◌, ◌^◌, arith, List, length}
 use Rattle.std.proofs.Math.Nat.{pow-succ'}
 use Rattle.pc_group.specs.Layers.{AreNumbersOf}
 use Rattle.pc_group.proofs.Powers.{pow-le}
@@ -18,8 +18,8 @@ layer_step-requires-clause-small c =
     let count = c.requires.count in
     let few = c.requires.few in
     let width : c.value.result * length c.deref.result.now ≡ P.prime ^ suc c.args.m =
-        ap₂ (λ p w. p * w) (c.value.ensures ∙ c.prime.ensures.value) (ap length c.deref.ensures.value ∙ c.in_ok-lists.ensures.order)
-        ∙ sym (pow-succ' P.prime c.args.m) in
+    ap₂ (λ p w. p * w) (c.value.ensures ∙ c.prime.ensures.value) (ap length c.deref.ensures.value ∙ c.in_ok-lists.ensures.order)
+    ∙ sym (pow-succ' P.prime c.args.m) in
     let k = pow-le P.prime (suc c.args.m) P.gens (omega (arith, s)) (omega (arith, first, count)) in
     omega (arith, width, k, few)
 

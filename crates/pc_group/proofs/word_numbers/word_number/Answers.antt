@@ -1,6 +1,5 @@
 -- The number so far is at most that of the whole word.
-use Rattle.std.proofs.Common.{◌≡◌, ap, sym, ◌∙◌, ◌+◌, ◌-◌, ◌*◌, ◌^◌, ◌<◌, ◌≤◌, arith, drop, get_or, length}
-use Rattle.power_commutator.specs.Presentations.{number}
+use Rattle.std.proofs.Common.{◌-◌, arith, length}
 use Rattle.pc_group.proofs.WordNumbers.{number-small, number-rest, next-small}
 use Rattle.pc_group.proofs.word_numbers.word_number.Goals as goal
 

@@ -1,8 +1,6 @@
 -- The tests before j pass, and test j is decided by the numbers of its sides.
-use Rattle.std.proofs.Common.{◌≡◌, ℕ, suc, sym, ◌∙◌, ap, ◌+◌, ◌<◌, arith}
+use Rattle.std.proofs.Common.{ℕ, suc, sym, ◌∙◌, ◌+◌, ◌<◌, arith}
 use Rattle.power_commutator.specs.Presentations.{Presentation as Presented, Equation, product, power_test}
-use Rattle.pc_group.specs.Layers.{IsLayerOf, width}
-use Rattle.pc_group.specs.Tables.{entry_of}
 use Rattle.pc_group.proofs.Faults.{loop-none, loop-some, loop-next, passing, failing, power-tells}
 use Rattle.pc_group.proofs.layer_tests.Layer.power_fault.Goals as goal
 

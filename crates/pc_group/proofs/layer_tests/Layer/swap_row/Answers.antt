@@ -1,7 +1,7 @@
 -- The tests before k pass, and test k is decided by the numbers of its sides.
-use Rattle.std.proofs.Common.{◌≡◌, ℕ, suc, sym, ◌∙◌, ap, ◌+◌, ◌-◌, ◌*◌, ◌<◌, arith, get_or}
+use Rattle.std.proofs.Common.{ℕ, suc, sym, ◌∙◌, ap, ◌+◌, ◌-◌, ◌*◌, ◌<◌, arith, get_or}
 use Rattle.power_commutator.specs.Presentations.{Presentation as Presented, Equation, product, swap_test}
-use Rattle.pc_group.specs.Layers.{IsLayerOf, width}
+use Rattle.pc_group.specs.Layers.{width}
 use Rattle.pc_group.specs.Tables.{entry_of}
 use Rattle.pc_group.proofs.Faults.{loop-none, loop-some, loop-next, passing, failing, swap-tells}
 use Rattle.pc_group.proofs.layer_tests.Layer.swap_row.Goals as goal
