@@ -1,0 +1,104 @@
+//! Generators by their degrees.
+
+ghost use Rattle.std.specs.Prelude.{◌≡◌, ◌+◌, ◌∷◌, ◌++◌, ◌<◌, ◌≤◌, [], length, ◌==◌, slice_index, All, OnOk, OnErr};
+ghost use Rattle.group_table.specs.Prime.{prime_value};
+ghost use Rattle.graded_polynomials.specs.Texts.{ordinal};
+
+use group_table::{Memory, Prime};
+use std::alloc::Global;
+use std::marker::Model;
+
+/// A prime p, and generators of degrees from 1 to 24 that do not descend. Contracts see p and the list of degrees.
+#[derive(Debug, Drop)]
+pub struct Gens {
+    prime: Prime,
+    degrees: Vec<u32>,
+}
+
+impl Model for Gens {
+    ghost use Rattle.gc_poly.specs.Generators.{Generators};
+
+    ghost Value = { Generators };
+
+    ghost use Rattle.std.specs.Prelude.{◌≤◌, length};
+    ghost use Rattle.group_table.specs.Prime.{prime_value};
+    ghost use Rattle.gc_poly.specs.Generators.{AreOrdered};
+
+    ghost view = { λ g. record { prime = prime_value g.prime; degrees = g.degrees.items } };
+
+    ghost invariant = { λ g. AreOrdered g.degrees.items × (length g.degrees.items ≤ 4294967295) };
+}
+
+impl Gens {
+    ghost use Rattle.gc_poly.specs.Generators.{AreOrdered};
+
+    /// No generators yet.
+    pub fn new(alloc: Global, p: Prime) -> Gens
+        ensures { result ≡ record { prime = prime_value p; degrees = [] } }
+    {
+        Gens {
+            prime: p,
+            degrees: Vec::new(alloc),
+        }
+    }
+
+    /// Adds a generator of a degree from 1 to 24, not below that of the last.
+    pub fn push(&mut self, degree: u32) -> Result<(), Memory>
+        requires few { length self.old.degrees < 4294967295 }
+        requires low { 1 ≤ degree }
+        requires high { degree ≤ 24 }
+        requires order { All (λ d. d ≤ degree) self.old.degrees }
+        ensures ok { OnOk result (self.new ≡ record self.old { degrees = self.old.degrees ++ degree ∷ [] }) }
+        ensures err { OnErr result (self.new ≡ self.old) }
+    {
+        self.degrees.push(degree)?;
+        Ok(())
+    }
+
+    /// The number of generators.
+    pub fn len(&self) -> usize
+        ensures { result ≡ length self.now.degrees }
+    {
+        self.degrees.len()
+    }
+
+    /// Whether there is no generator.
+    pub fn is_empty(&self) -> bool
+        ensures { result ≡ (length self.now.degrees == 0) }
+    {
+        self.degrees.is_empty()
+    }
+
+    /// The degree of generator i, counted from 0.
+    pub fn degree(&self, i: usize) -> u32
+        requires { i < length self.now.degrees }
+        ensures value { result ≡ slice_index self.now.degrees i }
+        ensures low { 1 ≤ result }
+        ensures high { result ≤ 24 }
+        ensures valid { AreOrdered self.now.degrees }
+    {
+        self.degrees[i]
+    }
+
+    /// The prime p.
+    pub fn prime(&self) -> Prime
+        ensures { prime_value result ≡ self.now.prime }
+    {
+        self.prime
+    }
+
+    /// The k of the name `x_d_k` of generator i: which one it is among those of its degree d, from 1.
+    pub fn number(&self, i: usize) -> u32
+        requires { i < length self.now.degrees }
+        ensures { result ≡ ordinal self.now.degrees i }
+    {
+        let degree = self.degrees[i];
+        let mut before = 0;
+        for d in &self.degrees[..i] {
+            if *d == degree {
+                before += 1;
+            }
+        }
+        before + 1
+    }
+}
