@@ -1,1 +1,3 @@
 pub mod Generators
+pub mod Lists
+pub mod Polynomials

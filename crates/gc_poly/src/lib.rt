@@ -3,13 +3,13 @@
 
 mod gens;
 mod mono;
-
-
-
-
+mod monos;
+mod poly;
+mod polys;
+mod term;
 
 pub use gens::Gens;
 pub use mono::Mono;
-
-
-
+pub use monos::Monos;
+pub use poly::Poly;
+pub use polys::Polys;
