@@ -1,5 +1,5 @@
 -- A list of exponents without the zeros at its end.
-use Rattle.std.proofs.Common.{◌≡◌, ◌≢◌, ℕ, zero, suc, ◌<◌, ◌≤◌, List, [], ◌∷◌, length, take, arith, ap, refl}
+use Rattle.std.proofs.Common.{◌≡◌, ◌≢◌, ℕ, zero, suc, ◌≤◌, List, [], ◌∷◌, length, take, arith, ap, refl}
 use Rattle.graded_polynomials.specs.Monomials.{exponent, IsTrimmed}
 
 pub exponent-take : (a : List ℕ) (n : ℕ) → ((i : ℕ) → n ≤ i → exponent a i ≡ 0) → (i : ℕ) → exponent (take n a) i ≡ exponent a i

@@ -1,5 +1,5 @@
 -- The loop stops at an exponent that is not 0.
-use Rattle.std.proofs.Common.{◌-◌, arith, ap, sym, ◌∙◌}
+use Rattle.std.proofs.Common.{arith, ap, ◌∙◌}
 use Rattle.graded_polynomials.specs.Monomials.{exponent}
 use Rattle.gc_poly.proofs.Trimming.{trimmed-take}
 use Rattle.gc_poly.proofs.mono.trimmed_len.Goals as goal

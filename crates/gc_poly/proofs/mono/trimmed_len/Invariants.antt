@@ -1,4 +1,4 @@
-use Rattle.std.proofs.Common.{◌≡◌, ℕ, ◌<◌, ◌≤◌, length, slice_index_or}
+use Rattle.std.proofs.Common.{◌≡◌, ℕ, ◌≤◌, length, slice_index_or}
 use Rattle.gc_poly.proofs.mono.trimmed_len.Given as goal
 
 -- past the length that is left all exponents are 0
