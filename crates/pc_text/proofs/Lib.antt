@@ -1,3 +1,4 @@
+pub mod CanonicalLemmas
 pub mod CutLemmas
 pub mod CutsLemmas
 pub mod Given
@@ -5,7 +6,13 @@ pub mod Kept
 pub mod Made
 pub mod LineLemmas
 pub mod NumeralLemmas
+pub mod PlaceLemmas
 pub mod PrimeLemmas
+pub mod Spelled
+pub mod SpelledLines
+pub mod SpelledTexts
+pub mod SpelledWords
 pub mod Steps
 pub mod TextLemmas
 pub mod WordLemmas
+pub mod WriterLemmas

@@ -41,6 +41,13 @@ relation_text p r = left_text p r.place ++ (codes " = " ++ word_text r.word)
 abbrev pub line_text : List ℕ → List ℕ
 line_text bytes = bytes ++ line_feed ∷ []
 
+-- the first three lines
+abbrev pub header_text : ℕ → ℕ → List ℕ
+header_text p n =
+    line_text (codes "pgroup 1")
+    ++ (line_text (codes "prime " ++ decimal p)
+    ++ line_text (codes "gens " ++ decimal n))
+
 -- the text that says this
 abbrev pub text_of : Content → List ℕ
 text_of c =

@@ -5,6 +5,7 @@ pub mod Faults
 pub mod FromRelations
 pub mod Grammar
 pub mod Kinds
+pub mod Laws
 pub mod Lines
 pub mod Numerals
 pub mod Relations

@@ -12,6 +12,8 @@ mod reader;
 mod relations;
 mod texts;
 mod words;
+mod writer;
 
 pub use crate::fault::{Kind, TextFault};
 pub use crate::reader::read_presentation;
+pub use crate::writer::write_presentation;
