@@ -1,6 +1,7 @@
 -- Lists of vectors as lists of rows, and the pivots kept beside them.
-use Rattle.std.proofs.Common.{◌≡◌, ℕ, ◌<◌, List, [], ◌∷◌, length, map, take, drop, set, Vec, get_or, arith, ap, sym, ◌∙◌, refl}
-use Rattle.std.proofs.lemmas.List.{get_or-map, length-map, map-set, map-append, take-map, drop-map}
+use Rattle.std.proofs.Common.{◌≡◌, ℕ, ◌-◌, ◌<◌, List, [], ◌∷◌, length, map, take, drop, set, Vec, get_or, arith, ap, sym, ◌∙◌, refl}
+use Rattle.std.proofs.lemmas.List.{get_or-map, length-map, map-set, map-append, take-map, drop-map, length-drop}
+use Rattle.std.proofs.Math.Seq.{take-length}
 use Rattle.std.specs.Prelude.{insert}
 use Rattle.linear_algebra.specs.Rows.{entry, row, pivot, IsRow}
 use Rattle.fp_rows.specs.Lists.{lists}
@@ -28,3 +29,10 @@ row_below h j l = h.below j (omega (arith, h.length_is))
 -- a row at its own length
 pub row_at_length : {p width : ℕ} {r : List ℕ} → IsRow p width r → IsRow p (length r) r
 row_at_length h = rw h.length_is h
+
+-- the rest of a list from a place on, as a slice has it
+pub take-rest : {X : Type 0} (n : ℕ) (xs : List X) → take (length xs - n) (drop n xs) ≡ drop n xs
+take-rest n xs = ap (λ k. take k (drop n xs)) (sym (length-drop n xs)) ∙ take-length (drop n xs)
+
+pub lists-drop : {Z : Type 0} (n : ℕ) (vs : List (Vec ℕ Z)) → lists (drop n vs) ≡ drop n (lists vs)
+lists-drop n vs = sym (drop-map (λ v. v.items) n vs)

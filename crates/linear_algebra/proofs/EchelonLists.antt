@@ -22,7 +22,7 @@ pub Combines-from_combination : {p : ℕ} {u : ℕ → ℕ} {rows : List (List �
     Combines p (length rows) u (λ i j. entry (row rows i) j) v
 Combines-from_combination h = record { each = h.each }
 
-one_not_zero : {p : ℕ} → 1 < p → IsCongruent p 1 0 → ⊥
+pub one_not_zero : {p : ℕ} → 1 < p → IsCongruent p 1 0 → ⊥
 one_not_zero {p} l h = omega (arith, same_below h l (omega arith))
 
 -- each pivot of a list in the span is a pivot

@@ -1,5 +1,5 @@
 -- The laws of the crate, from the lemmas.
-use Rattle.std.proofs.Common.{◌≡◌, ◌≢◌, ℕ, zero, suc, ◌+◌, ◌*◌, ◌%◌, ◌<◌, ◌≤◌, ◌⊎◌, List, [], ◌∷◌, ◌++◌, length, inl, inr, arith, sym, refl}
+use Rattle.std.proofs.Common.{◌≡◌, ◌≢◌, ℕ, zero, suc, ◌+◌, ◌%◌, ◌<◌, ◌≤◌, ◌⊎◌, List, [], ◌∷◌, ◌++◌, length, inl, inr, arith, sym, refl}
 use Rattle.std.proofs.lemmas.Bool.{cases_lt}
 use Rattle.std.proofs.lemmas.List.{get_or_past, length_push, append-nil}
 use mathlib.Core.Path.{subst}
@@ -9,18 +9,13 @@ use Rattle.linear_algebra.specs.Kernels.{IsInKernel}
 use Rattle.linear_algebra.specs.Choices.{rows_at, IsGreedyBelow, IsGreedy}
 use Rattle.linear_algebra.specs.Ranks.{IsIndependent}
 use Rattle.linear_algebra.proofs.Congruences.{congruent_eq}
-use Rattle.linear_algebra.proofs.Sums.{sum_below-vanishes}
+use Rattle.linear_algebra.proofs.Combinations.{combination_past}
 use Rattle.linear_algebra.proofs.Spans.{row_push, row_before_push}
 use Rattle.linear_algebra.proofs.Dimension.{Dependence, dependent}
 use Rattle.linear_algebra.proofs.Existence.{decide_span}
 use Rattle.linear_algebra.proofs.GreedyChoice.{append-push, rows-push}
 use Rattle.linear_algebra.proofs.LinearMaps.{matrix_is_linear}
 use Rattle.linear_algebra.proofs.RankNullity.{in_kernel_span}
-
--- past the width each combination of the rows is 0
-pub combination_past : {p width : ℕ} (rows : List (List ℕ)) → IsMatrix p width rows → (u : ℕ → ℕ) (j : ℕ) → width ≤ j → IsCongruent p (combination u rows j) 0
-combination_past {p} rows M u j b = sum_below-vanishes p (length rows) (λ i. u i * entry (row rows i) j)
-    (λ i l. congruent_eq (rw (get_or_past (row rows i) j 0 (let r = (M i l).length_is in omega (arith, r, b))) (omega arith)))
 
 -- more rows than places are dependent
 pub dependent_rows : {p width : ℕ} (rows : List (List ℕ)) → IsFieldModulo p → IsMatrix p width rows → width < length rows →

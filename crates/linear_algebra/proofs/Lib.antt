@@ -19,7 +19,11 @@ pub mod Prepared
 pub mod GreedyTurns
 pub mod MemberLemmas
 pub mod AugmentLemmas
+pub mod Combinations
+pub mod Others
 pub mod KernelLemmas
+pub mod Tables
+pub mod Preimages
 pub mod LinearMaps
 pub mod RankNullity
 pub mod Laws

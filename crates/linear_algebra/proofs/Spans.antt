@@ -3,7 +3,7 @@ use Rattle.std.proofs.Common.{◌≡◌, ℕ, zero, suc, ◌+◌, ◌*◌, ◌<�
 use Rattle.std.proofs.lemmas.Bool.{cases_lt}
 use Rattle.std.proofs.lemmas.List.{get_or_append_left, length_push, get_or_push}
 use Rattle.linear_algebra.specs.Modular.{IsCongruent, sum_below}
-use Rattle.linear_algebra.specs.Rows.{entry, row, IsInSpan, AreInSpan}
+use Rattle.linear_algebra.specs.Rows.{entry, row, IsCombination, IsInSpan, AreInSpan}
 use Rattle.linear_algebra.proofs.Congruences.{congruent_add, congruent_trans, congruent_eq, congruent_mul_left}
 use Rattle.linear_algebra.proofs.Sums.{sum_below-one, sum_below-vanishes, update, update_same, update_other}
 use Rattle.linear_algebra.proofs.Pivots.{Combines}
@@ -15,16 +15,17 @@ in_span_congruent e s = (s.0, record { each = λ j. congruent_trans (s.1.each j)
 pub in_span_zero : {p : ℕ} {rows : List (List ℕ)} → IsInSpan p rows (λ j. 0)
 in_span_zero {p} {rows} = ((λ i. 0), record { each = λ j. sum_below-vanishes p (length rows) (λ i. 0 * entry (row rows i) j) (λ i l. congruent_eq (omega arith)) })
 
+-- the coefficient 1 at i and 0 elsewhere give row i
+pub unit_combination : {p : ℕ} (rows : List (List ℕ)) (i : ℕ) → i < length rows → IsCombination p (update i 1 (λ k. 0)) rows (entry (row rows i))
+unit_combination {p} rows i l = record {
+  each = λ j.
+      congruent_trans (sum_below-one p (length rows) i (λ k. update i 1 (λ k. 0) k * entry (row rows k) j) l
+      (λ k b ne. congruent_eq (ap (λ x. x * entry (row rows k) j) (update_other i 1 (λ k. 0) k ne) ∙ omega arith)))
+      (congruent_eq (ap (λ x. x * entry (row rows i) j) (update_same i 1 (λ k. 0)) ∙ omega arith));
+}
+
 pub in_span_row : {p : ℕ} (rows : List (List ℕ)) (i : ℕ) → i < length rows → IsInSpan p rows (entry (row rows i))
-in_span_row {p} rows i l = (
-  update i 1 (λ k. 0),
-  record {
-    each = λ j.
-        congruent_trans (sum_below-one p (length rows) i (λ k. update i 1 (λ k. 0) k * entry (row rows k) j) l
-        (λ k b ne. congruent_eq (ap (λ x. x * entry (row rows k) j) (update_other i 1 (λ k. 0) k ne) ∙ omega arith)))
-        (congruent_eq (ap (λ x. x * entry (row rows i) j) (update_same i 1 (λ k. 0)) ∙ omega arith));
-  },
-)
+in_span_row {p} rows i l = (update i 1 (λ k. 0), unit_combination rows i l)
 
 pub in_span_add : {p : ℕ} {rows : List (List ℕ)} {f g : ℕ → ℕ} (c : ℕ) → IsInSpan p rows f → IsInSpan p rows g → IsInSpan p rows (λ j. f j + c * g j)
 in_span_add {p} {rows} {f} {g} c s t = (

@@ -21,3 +21,8 @@ pub record IsPreimage (p : ℕ) (rows kernel : List (List ℕ)) (target u : List
   pub is_row : IsRow p (length rows) u
   pub maps : IsCombination p (entry u) rows (entry target)
   pub zero_at_pivots : (i : ℕ) → i < length kernel → entry u (pivot (row kernel i)) ≡ 0
+
+-- each of these rows is the preimage of the target at its position
+pub record ArePreimages (p : ℕ) (rows kernel targets us : List (List ℕ)) : Type 0 where
+  pub count : length us ≡ length targets
+  pub each : (i : ℕ) → i < length targets → IsPreimage p rows kernel (row targets i) (row us i)

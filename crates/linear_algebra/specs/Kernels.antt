@@ -1,6 +1,6 @@
 use Rattle.std.specs.Prelude.{◌≡◌, ◌≢◌, ℕ, suc, ◌+◌, ◌<◌, ◌≤◌, List, [], ◌∷◌, ◌++◌, length, drop, replicate, slice_set}
 use Rattle.linear_algebra.specs.Modular.{IsCongruent}
-use Rattle.linear_algebra.specs.Rows.{entry, row, combination, pivot, IsRow, IsMatrix, IsEchelon, IsInSpan}
+use Rattle.linear_algebra.specs.Rows.{entry, row, combination, pivot, IsRow, IsMatrix, IsEchelon, IsCombination, IsInSpan}
 
 -- the rows with the coefficients u combine to 0
 abbrev pub IsInKernel : ℕ → List (List ℕ) → (ℕ → ℕ) → Type 0
@@ -39,3 +39,15 @@ augment_from n start (r ∷ rows) = (r ++ unit_row n start) ∷ augment_from n (
 -- each row with its unit row
 abbrev pub augment : List (List ℕ) → List (List ℕ)
 augment rows = augment_from (length rows) 0 rows
+
+-- t is one of the places
+abbrev pub IsAmong : List ℕ → ℕ → Type 0
+IsAmong places t = (k : ℕ) × (k < length places) × (entry places k ≡ t)
+
+-- rows is the reduced echelon list of the span of those of the first n generators whose positions are not among the skipped:
+-- each row is a combination of the generators with the coefficient 0 at the skipped positions
+pub record IsEchelonOfOthers (p width : ℕ) (generators : List (List ℕ)) (skipped : List ℕ) (n : ℕ) (rows : List (List ℕ)) : Type 0 where
+  pub matrix : IsMatrix p width rows
+  pub echelon : IsEchelon rows
+  pub spanned : (i : ℕ) → i < length rows → (u : ℕ → ℕ) × ((t : ℕ) → IsAmong skipped t → IsCongruent p (u t) 0) × IsCombination p u generators (entry (row rows i))
+  pub spans : (k : ℕ) → k < n → (IsAmong skipped k → ⊥) → IsInSpan p rows (entry (row generators k))
