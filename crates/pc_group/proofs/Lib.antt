@@ -8,3 +8,4 @@ pub mod WordNumbers
 pub mod Round
 pub mod Step
 pub mod Descent
+pub mod GroupTables

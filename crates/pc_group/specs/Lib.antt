@@ -6,3 +6,4 @@ pub mod Refusal
 pub mod Tables
 pub mod Layers
 pub mod WordNumbers
+pub mod GroupOf

@@ -4,6 +4,7 @@
 
 pub mod collection;
 pub mod consistency;
+pub mod elements;
 mod layer_lists;
 mod layer_table;
 mod layer_tests;
@@ -14,5 +15,6 @@ mod word_numbers;
 
 pub use collection::collect;
 pub use consistency::{Consistent, Refused, check};
+pub use elements::{group_of, number, word_of};
 pub use power_commutator::TestName;
 pub use presentation::{Presentation, Word};

@@ -90,6 +90,11 @@ impl Presentation {
         &self.commutators[(j - 1) as usize][(i - 1) as usize]
     }
 
+    // The allocator of its lists.
+    pub(crate) fn allocator(&self) -> Global {
+        *self.powers.allocator()
+    }
+
     /// Sets the word of g_i^p, for i from 1 to n.
     /// The word has n exponents below p, and those of g_1 to g_i are 0.
     pub fn set_power(&mut self, i: u32, w: Word)
