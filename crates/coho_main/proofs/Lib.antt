@@ -1,0 +1,9 @@
+pub mod Fronts
+pub mod Written
+pub mod Chain
+pub mod Seen
+pub mod Loads
+pub mod Replies
+pub mod Unique
+pub mod Usage
+pub mod Run

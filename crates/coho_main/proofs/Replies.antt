@@ -1,0 +1,56 @@
+-- The answers to commands, as the calls make them.
+use Rattle.std.proofs.Common.{◌≡◌, List, ℕ, Vec, String, Global, Bor, refl, ap, sym, subst}
+use Rattle.std.specs.declared.option.Option.{Option}
+use Rattle.std.specs.declared.result.Result.{Result}
+use Rattle.std.specs.declared.result.Result.TheVariants.{Ok, Err}
+use Rattle.coho_io.specs.Content.{Content}
+use Rattle.power_commutator.specs.Presentations.{Presentation}
+use Rattle.coho_main.specs.declared.stop.Stop.{Stop}
+use Rattle.coho_main.specs.declared.stop.Stop.TheVariants as stop
+use Rattle.coho_main.specs.Steps.{Step, Gives}
+use Rattle.coho_main.specs.Words.{Command, Group, texts}
+use Rattle.coho_main.specs.Outcome.{Ask, Load, Reply, Comes, group_lines}
+use Rattle.coho_main.specs.Stops.{Meets, Settles}
+use Rattle.coho_main.specs.Run.{OfFiles}
+use Rattle.coho_main.proofs.Chain.{after_ok, at_stop, settled_meets}
+use Rattle.coho_main.proofs.Seen.{some_files}
+
+abbrev pub Lines : Type 0
+Lines = Vec (String Global) Global
+
+abbrev pub lines_of : Lines → List (List ℕ)
+lines_of lines = texts lines.items
+
+abbrev itself : Presentation → Presentation
+itself P = P
+
+abbrev pub group_answer : Presentation → Step (List (List ℕ))
+group_answer P = Gives (group_lines P)
+
+-- a call met its step, over files that agree
+abbrev pub MeetsOf : {T A : Type 0} → (T → A) → Step A → Option Content → Result T Stop → Type 0
+MeetsOf view step known r = OfFiles known (λ files. Meets view step files files r)
+
+module _ (known : Option Content) where
+  pub group_stop : (path : List ℕ) (s : Stop) → MeetsOf itself (Load path) known (Err s) → MeetsOf lines_of (Reply (Group path)) known (Err s)
+  group_stop path s h = (h.0, h.1, at_stop itself lines_of (Load path) group_answer h.0 h.0 s h.2)
+
+  pub group_then : (path : List ℕ) (P : Presentation) (lines : Lines) → MeetsOf itself (Load path) known (Ok P) → texts lines.items ≡ group_lines P → MeetsOf lines_of (Reply (Group path)) known (Ok lines)
+  group_then path P lines h e = (h.0, h.1, after_ok itself lines_of (Load path) group_answer h.0 h.0 h.0 P (Ok lines) h.2 (ap (λ ls. Ok ls) e, refl))
+
+  -- a call that wants memory meets every step
+  pub memory_meets : {T A : Type 0} (view : T → A) (step : Step A) (s : Stop) → s ≡ stop.Memory → MeetsOf view step known (Err s)
+  memory_meets {T} view step s e =
+      let some = some_files known in
+      (some.0, some.1, subst (λ s. Meets view step some.0 some.0 (Err s)) (sym e) tt)
+
+  abbrev asked : Bor (List ℕ) → Command
+  asked path = Group path.now
+
+  pub ask_stop : (words : List (List ℕ)) (s : Stop) → Settles asked (Ask words) (Err s) → MeetsOf lines_of (Comes words) known (Err s)
+  ask_stop words s h =
+      let some = some_files known in
+      (some.0, some.1, at_stop asked lines_of (Ask words) Reply some.0 some.0 s (settled_meets asked (Ask words) some.0 (Err s) h))
+
+  pub ask_then : (words : List (List ℕ)) (path : Bor (List ℕ)) (r : Result Lines Stop) → Settles asked (Ask words) (Ok path) → MeetsOf lines_of (Reply (Group path.now)) known r → MeetsOf lines_of (Comes words) known r
+  ask_then words path r h k = (k.0, k.1, after_ok asked lines_of (Ask words) Reply k.0 k.0 k.0 path r (h k.0) k.2)

@@ -1,0 +1,76 @@
+-- The outcome is one.
+use Rattle.std.proofs.Common.{◌≡◌, Bool, true, false, List, ℕ, sym, ◌∙◌, ap, subst, inl, inr}
+use Rattle.std.specs.declared.option.Option.{Option}
+use Rattle.std.specs.declared.option.Option.TheVariants.{None, Some}
+use Rattle.std.specs.declared.result.Result.{Result}
+use Rattle.std.specs.declared.result.Result.TheVariants.{Ok, Err}
+use Rattle.coho_io.specs.Content.{Content}
+use Rattle.power_commutator.specs.declared.TestName.{TestName}
+use Rattle.power_commutator.specs.Presentations.{Presentation, first_fault}
+use Rattle.pc_text.specs.Faults.{Fault}
+use Rattle.pc_text.specs.Texts.{read}
+use Rattle.coho_main.specs.Steps.{Refusal, Step, ◌>>=◌, Gives, Refuses, OrRefuse, RefuseIf}
+use Rattle.coho_main.specs.Words.{Command, Group, command}
+use Rattle.coho_main.specs.Outcome.{Ask, ReadFront, FitLength, OrFault, Present, FitOrder, UnlessFalse, Describe, Load, Reply, Comes, group_lines, Ending, ending, Outcome}
+
+-- no two ends of a step from the same files
+abbrev pub IsFunctional : {A : Type 0} → Step A → Type 0
+IsFunctional {A} step = (old new new' : Content) (end end' : Result A Refusal) → step old end new → step old end' new' → (end ≡ end') × (new ≡ new')
+
+gives : {A : Type 0} (x : A) → IsFunctional (Gives x)
+gives x old new new' end end' h k = (h.0 ∙ sym k.0, h.1 ∙ sym k.1)
+
+refuses : {A : Type 0} (r : Refusal) → IsFunctional {A = A} (Refuses r)
+refuses r old new new' end end' h k = (h.0 ∙ sym k.0, h.1 ∙ sym k.1)
+
+or_refuse : {A : Type 0} (r : Refusal) (o : Option A) → IsFunctional (OrRefuse r o)
+or_refuse r None = refuses r
+or_refuse r (Some x) = gives x
+
+refuse_if : (b : Bool) (r : Refusal) → IsFunctional (RefuseIf b r)
+refuse_if true r = refuses r
+refuse_if false r = gives tt
+
+or_fault : (r : Result Presentation Fault) → IsFunctional (OrFault r)
+or_fault (Ok P) = gives P
+or_fault (Err fault) = refuses _
+
+unless_false : (P : Presentation) (o : Option TestName) → IsFunctional (UnlessFalse P o)
+unless_false P None = gives P
+unless_false P (Some name) = refuses _
+
+same_ok : {A E : Type 0} (x y : A) → ◌≡◌ {A = Result A E} (Ok x) (Ok y) → x ≡ y
+same_ok x y e = cc
+
+then : {A B : Type 0} (first : Step A) (next : A → Step B) → IsFunctional first → ((x : A) → IsFunctional (next x)) → IsFunctional (first >>= next)
+then first next f n old new new' end end' (inl h) (inl k) =
+    let e = f old h.1 k.1 (Ok h.0) (Ok k.0) h.2 k.2 in
+    n k.0 k.1 new new' end end' (subst (λ x. next x k.1 end new) (same_ok h.0 k.0 e.0) (subst (λ m. next h.0 m end new) e.1 h.3)) k.3
+then first next f n old new new' end end' (inl h) (inr k) =
+    let e : Ok h.0 ≡ Err k.0 = (f old h.1 new' (Ok h.0) (Err k.0) h.2 k.1).0 in absurd (cc)
+then first next f n old new new' end end' (inr h) (inl k) =
+    let e : Err h.0 ≡ Ok k.0 = (f old new k.1 (Err h.0) (Ok k.0) h.1 k.2).0 in absurd (cc)
+then first next f n old new new' end end' (inr h) (inr k) =
+    let e = f old new new' (Err h.0) (Err k.0) h.1 k.1 in
+    let same : h.0 ≡ k.0 = let d = e.0 in cc in
+    (h.2 ∙ ap (λ r. Err r) same ∙ sym k.2, e.1)
+
+describe : (text : List ℕ) → IsFunctional (Describe text)
+describe text =
+    then (FitLength text) _ (refuse_if _ _) (λ _.
+    then (Present text) _ (or_fault (read text)) (λ P.
+    then (FitOrder P) _ (refuse_if _ _) (λ _. unless_false P (first_fault P))))
+
+load : (path : List ℕ) → IsFunctional (Load path)
+load path = then (ReadFront path) Describe (λ old. or_refuse _ _ old) describe
+
+reply : (asked : Command) → IsFunctional (Reply asked)
+reply (Group path) = then (Load path) _ (load path) (λ P. gives (group_lines P))
+
+comes : (words : List (List ℕ)) → IsFunctional (Comes words)
+comes words = then (Ask words) _ (or_refuse _ (command words)) reply
+
+pub outcome_unique : (words : List (List ℕ)) (files : Content) (e d : Ending) → Outcome words files e → Outcome words files d → e ≡ d
+outcome_unique words files e d h k =
+    let same = comes words files h.1 k.1 h.0 k.0 h.2 k.2 in
+    h.3 ∙ ap (λ r. ending r h.1) same.0 ∙ ap (ending k.0) same.1 ∙ sym k.3

@@ -1,0 +1,114 @@
+-- What the words come to, over the files that there are.
+use Rattle.std.specs.Prelude.{◌≡◌, ℕ, ◌^◌, List, [], ◌∷◌, ◌++◌, length, take, codes, decimal, nat_lt}
+use Rattle.std.specs.declared.option.Option.{Option}
+use Rattle.std.specs.declared.option.Option.TheVariants.{None, Some}
+use Rattle.std.specs.declared.result.Result.{Result}
+use Rattle.std.specs.declared.result.Result.TheVariants.{Ok, Err}
+use Rattle.std.specs.List.{concat}
+use Rattle.std.specs.Option.{option_map}
+use Rattle.coho_io.specs.Content.{Content, file}
+use Rattle.power_commutator.specs.declared.TestName.{TestName}
+use Rattle.power_commutator.specs.Presentations.{Presentation, first_fault}
+use Rattle.pc_text.specs.Faults.{Fault}
+use Rattle.pc_text.specs.Texts.{read}
+use Rattle.coho_main.specs.declared.status.Status.{Status}
+use Rattle.coho_main.specs.declared.status.Status.TheVariants as status
+use Rattle.coho_main.specs.Steps.{Refusal, Step, ◌>>=◌, Gives, Refuses, OrRefuse, RefuseIf}
+use Rattle.coho_main.specs.Refusals.{words_refused, read_refused, length_refused, text_refused, order_refused, test_refused}
+use Rattle.coho_main.specs.Words.{Command, Group, command}
+
+-- the steps
+
+-- the command of the words
+abbrev pub Ask : List (List ℕ) → Step Command
+Ask words = OrRefuse words_refused (command words)
+
+-- a file, to its end or to 65,537 bytes
+abbrev pub ReadFront : List ℕ → Step (List ℕ)
+ReadFront path files = OrRefuse (read_refused path) (option_map (take 65537) (file files path)) files
+
+-- at most 65,536 bytes
+abbrev pub FitLength : List ℕ → Step (Unit {0})
+FitLength text = RefuseIf (nat_lt 65536 (length text)) length_refused
+
+abbrev pub OrFault : Result Presentation Fault → Step Presentation
+OrFault (Ok P) = Gives P
+OrFault (Err fault) = Refuses (text_refused fault)
+
+-- the presentation that the text stands for, or the text's first fault
+abbrev pub Present : List ℕ → Step Presentation
+Present text = OrFault (read text)
+
+-- p^n
+abbrev pub order : Presentation → ℕ
+order P = P.prime ^ P.gens
+
+-- the order is at most 128
+abbrev pub FitOrder : Presentation → Step (Unit {0})
+FitOrder P = RefuseIf (nat_lt 128 (order P)) order_refused
+
+abbrev pub UnlessFalse : Presentation → Option TestName → Step Presentation
+UnlessFalse P None = Gives P
+UnlessFalse P (Some name) = Refuses (test_refused name)
+
+-- no consistency test is false
+abbrev pub Test : Presentation → Step Presentation
+Test P = UnlessFalse P (first_fault P)
+
+-- the consistent presentation of a text
+abbrev pub Describe : List ℕ → Step Presentation
+Describe text = do
+  _ ← FitLength text
+  P ← Present text
+  _ ← FitOrder P
+  Test P
+
+-- the consistent presentation of a file
+abbrev pub Load : List ℕ → Step Presentation
+Load path = do
+  text ← ReadFront path
+  Describe text
+
+-- the answers
+
+-- a word, a number and an LF
+abbrev pub line : List ℕ → ℕ → List ℕ
+line word n = word ++ (decimal n ++ 10 ∷ [])
+
+abbrev pub group_lines : Presentation → List (List ℕ)
+group_lines P =
+    line (codes "prime ") P.prime
+    ∷ line (codes "gens ") P.gens
+    ∷ line (codes "order ") (order P)
+    ∷ []
+
+-- the commands, step by step
+abbrev pub Reply : Command → Step (List (List ℕ))
+Reply (Group path) = do
+  P ← Load path
+  Gives (group_lines P)
+
+abbrev pub Comes : List (List ℕ) → Step (List (List ℕ))
+Comes words = do
+  asked ← Ask words
+  Reply asked
+
+-- how a run ends: its status, its bytes for out, its line for err, and the files afterwards
+pub record Ending : Type 0 where
+  pub status : Status
+  pub out : List ℕ
+  pub line : List ℕ
+  pub files : Content
+
+abbrev pub ending : Result (List (List ℕ)) Refusal → Content → Ending
+ending (Ok lines) files =
+    record { status = status.Answered; out = concat lines; line = []; files = files }
+ending (Err refusal) files =
+    record { status = refusal.status; out = []; line = refusal.line; files = files }
+
+-- the outcome of the words over these files
+abbrev pub Outcome : List (List ℕ) → Content → Ending → Type 0
+Outcome words old e =
+    (end : Result (List (List ℕ)) Refusal) × (new : Content)
+    × Comes words old end new
+    × (e ≡ ending end new)

@@ -1,0 +1,64 @@
+-- The refusals of a run: the status, and the line on err.
+use Rattle.std.specs.Prelude.{ℕ, List, [], ◌∷◌, ◌++◌, codes, decimal}
+use Rattle.power_commutator.specs.declared.TestName.{TestName}
+use Rattle.power_commutator.specs.declared.TestName.TheVariants as test
+use Rattle.pc_text.specs.Faults.{Fault}
+use Rattle.pc_text.specs.Kinds.{kind_name}
+use Rattle.coho_main.specs.declared.status.Status.TheVariants as status
+use Rattle.coho_main.specs.Steps.{Refusal}
+
+abbrev pub words_refused : Refusal
+words_refused = record {
+  status = status.Usage;
+  line = codes "coho: the words are not those of a command" ++ 10 ∷ [];
+}
+
+abbrev pub read_refused : List ℕ → Refusal
+read_refused path = record {
+  status = status.Read;
+  line = codes "coho: read failed: " ++ (path ++ 10 ∷ []);
+}
+
+abbrev pub length_refused : Refusal
+length_refused = record {
+  status = status.Limit;
+  line = codes "coho: limit: text longer than 65536 bytes" ++ 10 ∷ [];
+}
+
+-- the first fault of a text: its place, LINE:COLUMN, and its kind
+abbrev pub text_refused : Fault → Refusal
+text_refused fault = record {
+  status = status.Text;
+  line =
+      codes "coho: text fault at "
+      ++ (decimal fault.line ++ (codes ":" ++ (decimal fault.column
+      ++ (codes ": " ++ (kind_name fault.kind ++ 10 ∷ [])))));
+}
+
+abbrev pub order_refused : Refusal
+order_refused = record {
+  status = status.Limit;
+  line = codes "coho: limit: order above 128" ++ 10 ∷ [];
+}
+
+-- the name of a consistency test and the numbers of its generators
+abbrev pub test_words : TestName → List ℕ
+test_words (test.Power i j) = codes "power " ++ (decimal i ++ (codes " " ++ decimal j))
+test_words (test.Swap i j k) =
+    codes "swap " ++ (decimal i ++ (codes " " ++ (decimal j ++ (codes " " ++ decimal k))))
+test_words (test.Fixed i) = codes "fixed " ++ decimal i
+test_words (test.Twist i j) = codes "twist " ++ (decimal i ++ (codes " " ++ decimal j))
+
+-- the first false consistency test
+abbrev pub test_refused : TestName → Refusal
+test_refused name = record {
+  status = status.Inconsistent;
+  line = codes "coho: inconsistent: " ++ (test_words name ++ 10 ∷ []);
+}
+
+-- a write to out that failed
+abbrev pub write_refused : Refusal
+write_refused = record { status = status.Write; line = codes "coho: write failed" ++ 10 ∷ [] }
+
+abbrev pub memory_refused : Refusal
+memory_refused = record { status = status.Memory; line = codes "coho: out of memory" ++ 10 ∷ [] }

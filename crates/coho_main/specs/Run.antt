@@ -1,0 +1,78 @@
+-- What the clauses of a run say of its files and sinks.
+use Rattle.std.specs.Prelude.{◌≡◌, ◌⊎◌, ℕ, ◌<◌, List, length, take, ⊤}
+use Rattle.std.specs.declared.option.Option.{Option}
+use Rattle.std.specs.declared.option.Option.TheVariants.{Some}
+use Rattle.std.specs.Io.KnownBytes.{Appends}
+use Rattle.coho_io.specs.Causes.{Rose}
+use Rattle.coho_io.specs.Bytes.{AppendsFront}
+use Rattle.coho_io.specs.Content.{Content}
+use Rattle.coho_main.specs.declared.status.Status.{Status}
+use Rattle.coho_main.specs.declared.status.Status.TheVariants as status
+use Rattle.coho_main.specs.Refusals.{read_refused, write_refused, memory_refused}
+use Rattle.coho_main.specs.Words.{IsRead}
+use Rattle.coho_main.specs.Outcome.{Ending, Outcome}
+
+-- these are the files that are told, where any are told
+abbrev pub Agrees : Option Content → Content → Type 0
+Agrees known files = (told : Content) → known ≡ Some told → told ≡ files
+
+-- it holds of the files that are told, and where none are told of some files
+abbrev pub OfFiles : Option Content → (Content → Type 0) → Type 0
+OfFiles known P = (files : Content) × Agrees known files × P files
+
+-- every status but those of a fault and of want of memory
+abbrev pub IsSettled : Status → Type 0
+IsSettled status.Read = ⊥
+IsSettled status.Write = ⊥
+IsSettled status.Memory = ⊥
+IsSettled _ = ⊤
+
+-- a status with which a run may have written to out
+abbrev pub MayWrite : Status → Type 0
+MayWrite status.Answered = ⊤
+MayWrite status.Write = ⊤
+MayWrite status.Memory = ⊤
+MayWrite _ = ⊥
+
+-- the sink gained a line whole, or the first bytes of it and its count rose
+abbrev pub Tells : Option (List ℕ) → Option (List ℕ) → ℕ → ℕ → List ℕ → Type 0
+Tells old new before now line =
+    (k : ℕ) × Appends old new (take k line) × (k < length line → Rose before now)
+
+-- a run ended so: with this status, these files, these bytes on out and this line on err
+pub record EndsAs
+    (e : Ending) (answer : Status) (files : Option Content)
+    (out out_now err err_now : Option (List ℕ)) (err_faults err_faults_now : ℕ) : Type 0 where
+  pub same_status : answer ≡ e.status
+  pub same_files : Agrees files e.files
+  pub on_out : Appends out out_now e.out
+  pub on_err : Tells err err_now err_faults err_faults_now e.line
+
+-- the outcome is an answer, of which a run wrote the first bytes to out
+abbrev pub AnswersFront : List (List ℕ) → Option (List ℕ) → Option (List ℕ) → Content → Type 0
+AnswersFront words old new files =
+    (e : Ending) × Outcome words files e × (e.status ≡ status.Answered) × AppendsFront old new e.out
+
+-- the bytes that a run may have written to out before it stopped: the first bytes of the answer,
+-- or nothing
+abbrev pub WroteFront : List (List ℕ) → Option (List ℕ) → Option (List ℕ) → Content → Type 0
+WroteFront words old new files = (old ≡ new) ⊎ AnswersFront words old new files
+
+-- the lines of which a run that wants memory may have written the first bytes: that of want of
+-- memory, that of the outcome, and that of a read or a write that failed
+abbrev pub MayTell : List (List ℕ) → (List ℕ → Type 0) → Type 0 → List ℕ → Content → Type 0
+MayTell words ReadFailed WriteFailed line files =
+    (line ≡ memory_refused.line)
+    ⊎ (((e : Ending) × Outcome words files e × (line ≡ e.line))
+    ⊎ (((path : List ℕ) × ReadFailed path × (line ≡ (read_refused path).line))
+    ⊎ (WriteFailed × (line ≡ write_refused.line))))
+
+-- the sink gained the first bytes of such a line
+abbrev pub ToldFront :
+    List (List ℕ) → (List ℕ → Type 0) → Type 0 → Option (List ℕ) → Option (List ℕ) → Content → Type 0
+ToldFront words ReadFailed WriteFailed old new files =
+    (line : List ℕ) × AppendsFront old new line × MayTell words ReadFailed WriteFailed line files
+
+-- no count of a path that the words' command reads rose
+abbrev pub NoReadFault : List (List ℕ) → (List ℕ → ℕ) → (List ℕ → ℕ) → Type 0
+NoReadFault words before now = (path : List ℕ) → IsRead words path → Rose (before path) (now path) → ⊥

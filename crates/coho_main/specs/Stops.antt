@@ -1,0 +1,64 @@
+-- Where the program's own calls stop: at a refusal, at a fault, or for want of memory.
+use Rattle.std.specs.Prelude.{◌≡◌, ℕ, List, ⊤}
+use Rattle.std.specs.declared.result.Result.{Result}
+use Rattle.std.specs.declared.result.Result.TheVariants.{Ok, Err}
+use Rattle.coho_io.specs.Causes.{Rose}
+use Rattle.coho_io.specs.Content.{Content}
+use Rattle.coho_main.specs.declared.cause.Cause.{Cause}
+use Rattle.coho_main.specs.declared.cause.Cause.TheVariants as cause
+use Rattle.coho_main.specs.declared.stop.Stop.{Stop}
+use Rattle.coho_main.specs.declared.stop.Stop.TheVariants as stop
+use Rattle.coho_main.specs.Steps.{Refusal, Step}
+use Rattle.coho_main.specs.Refusals.{words_refused, read_refused, length_refused, text_refused, order_refused, test_refused, write_refused, memory_refused}
+
+-- the refusal of a cause
+abbrev pub refusal_of : Cause → Refusal
+refusal_of cause.Words = words_refused
+refusal_of cause.Length = length_refused
+refusal_of (cause.Text kind line column) =
+    text_refused (record { kind = kind; line = line; column = column })
+refusal_of cause.Order = order_refused
+refusal_of (cause.Inconsistent name) = test_refused name
+
+-- the status and the line of a stop
+abbrev pub told : Stop → Refusal
+told (stop.Refused why) = refusal_of why
+told (stop.Read path) = read_refused path.now
+told stop.Write = write_refused
+told stop.Memory = memory_refused
+
+-- A call ended as its step does, from these files to those; of a fault, and of want of memory,
+-- this says nothing.
+abbrev pub Meets : {T A : Type 0} → (T → A) → Step A → Content → Content → Result T Stop → Type 0
+Meets view step old new (Ok x) = step old (Ok (view x)) new
+Meets view step old new (Err (stop.Refused why)) = step old (Err (refusal_of why)) new
+Meets view step old new (Err (stop.Read path)) = ⊤
+Meets view step old new (Err stop.Write) = ⊤
+Meets view step old new (Err stop.Memory) = ⊤
+
+-- A call that reads and writes nothing ended as its step does, or for want of memory.
+abbrev pub Settles : {T A : Type 0} → (T → A) → Step A → Result T Stop → Type 0
+Settles view step (Ok x) = (files : Content) → step files (Ok (view x)) files
+Settles view step (Err (stop.Refused why)) = (files : Content) → step files (Err (refusal_of why)) files
+Settles view step (Err (stop.Read path)) = ⊥
+Settles view step (Err stop.Write) = ⊥
+Settles view step (Err stop.Memory) = ⊤
+
+-- a call stopped at a fault of reading only where it reads the path and its count rose, and at no
+-- fault of writing
+abbrev pub HasReadCause : (List ℕ → Type 0) → (List ℕ → ℕ) → (List ℕ → ℕ) → Stop → Type 0
+HasReadCause Reads before now (stop.Read p) = Reads p.now × Rose (before p.now) (now p.now)
+HasReadCause Reads before now stop.Write = ⊥
+HasReadCause Reads before now _ = ⊤
+
+-- a call stopped only at a fault of reading the path, whose count rose, or for want of memory
+abbrev pub IsReadStop : List ℕ → (List ℕ → ℕ) → (List ℕ → ℕ) → Stop → Type 0
+IsReadStop path before now (stop.Read p) = (p.now ≡ path) × Rose (before path) (now path)
+IsReadStop path before now stop.Memory = ⊤
+IsReadStop path before now _ = ⊥
+
+-- a call stopped only at a fault of writing, as the count rose, or for want of memory
+abbrev pub IsWriteStop : ℕ → ℕ → Stop → Type 0
+IsWriteStop before now stop.Write = Rose before now
+IsWriteStop before now stop.Memory = ⊤
+IsWriteStop before now _ = ⊥

@@ -1,0 +1,72 @@
+ghost use Rattle.std.specs.Prelude.{◌≡◌, ◌++◌, ◌∷◌, [], codes, IfOk, string_bytes};
+ghost use Rattle.coho_main.specs.Refusals.{test_words};
+ghost use Rattle.coho_main.specs.Stops.{refusal_of};
+
+use crate::Status;
+use pc_group::TestName;
+use pc_text::Kind;
+use std::alloc::{AllocError, Global};
+
+/// Why a run is refused.
+#[derive(Clone, Copy, Debug, PartialEq, Eq)]
+pub enum Cause {
+    /// The words are not those of a command.
+    Words,
+    /// The text is longer than 65,536 bytes.
+    Length,
+    /// The first fault of the text.
+    Text { kind: Kind, line: u32, column: u32 },
+    /// The order is above 128.
+    Order,
+    /// The first false consistency test.
+    Inconsistent(TestName),
+}
+
+impl Cause {
+    pub fn status(&self) -> Status
+        ensures { result ≡ (refusal_of self.now).status }
+    {
+        match self {
+            Cause::Words => Status::Usage,
+            Cause::Length => Status::Limit,
+            Cause::Text { .. } => Status::Text,
+            Cause::Order => Status::Limit,
+            Cause::Inconsistent(_) => Status::Inconsistent,
+        }
+    }
+
+    /// The line on err.
+    pub fn line(&self, alloc: Global) -> Result<String, AllocError>
+        ensures { IfOk result (λ text. string_bytes text ≡ (refusal_of self.now).line) }
+    {
+        match *self {
+            Cause::Words => {
+                String::from_str(alloc, "coho: the words are not those of a command\n")
+            }
+            Cause::Length => {
+                String::from_str(alloc, "coho: limit: text longer than 65536 bytes\n")
+            }
+            Cause::Text { kind, line, column } => {
+                let kind = kind.name();
+                format!(in alloc; "coho: text fault at {line}:{column}: {kind}\n")
+            }
+            Cause::Order => String::from_str(alloc, "coho: limit: order above 128\n"),
+            Cause::Inconsistent(test) => {
+                let test = test_words(alloc, test)?;
+                format!(in alloc; "coho: inconsistent: {test}\n")
+            }
+        }
+    }
+}
+
+// The name of a consistency test and the numbers of its generators.
+fn test_words(alloc: Global, test: TestName) -> Result<String, AllocError>
+    ensures { IfOk result (λ text. string_bytes text ≡ test_words test) }
+{
+    match test {
+        TestName::Power { i, j } => format!(in alloc; "power {i} {j}"),
+        TestName::Swap { i, j, k } => format!(in alloc; "swap {i} {j} {k}"),
+        TestName::Fixed { i } => format!(in alloc; "fixed {i}"),
+        TestName::Twist { i, j } => format!(in alloc; "twist {i} {j}"),
+    }
+}

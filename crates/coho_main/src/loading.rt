@@ -1,0 +1,91 @@
+ghost use Rattle.std.specs.Prelude.{◌≡◌, ◌≤◌, length, IfErr, OnOk};
+ghost use Rattle.coho_io.specs.Causes.{NoneFell};
+ghost use Rattle.coho_main.specs.Outcome.{FitLength, Present, FitOrder, Test, Describe, Load, order};
+ghost use Rattle.coho_main.specs.Stops.{Meets, Settles, HasReadCause};
+ghost use Rattle.coho_main.specs.Run.{OfFiles};
+
+use crate::{Cause, Stop, read_front};
+use coho_io::Files;
+use pc_group::{Consistent, Presentation, Refused, check};
+use pc_text::{TextFault, read_presentation};
+use std::alloc::Global;
+
+const LONGEST_TEXT: usize = 65_536;
+
+const GREATEST_ORDER: u64 = 128;
+
+// The text is not too long.
+fn fit_length(text: &[u8]) -> Result<(), Stop<'static>>
+    ensures step { Settles (λ _. tt) (FitLength text.now) result }
+    ensures length { OnOk result (length text.now ≤ 65536) }
+{
+    if text.len() > LONGEST_TEXT {
+        return Err(Stop::Refused(Cause::Length));
+    }
+    Ok(())
+}
+
+// The presentation of a text.
+fn present(alloc: Global, text: &[u8]) -> Result<Presentation, Stop<'static>>
+    requires { length text.now ≤ 65536 }
+    ensures { Settles (λ p. p) (Present text.now) result }
+{
+    match read_presentation(alloc, text) {
+        Ok(presentation) => Ok(presentation),
+        Err(TextFault::At { kind, line, column }) => {
+            Err(Stop::Refused(Cause::Text { kind, line, column }))
+        }
+        Err(TextFault::Memory) => Err(Stop::Memory),
+    }
+}
+
+// The order is not too great.
+fn fit_order(presentation: &Presentation) -> Result<(), Stop<'static>>
+    ensures step { Settles (λ _. tt) (FitOrder presentation.now) result }
+    ensures order { OnOk result (order presentation.now ≤ 128) }
+{
+    let prime = u64::from(presentation.prime().value());
+    match prime.checked_pow(presentation.gens()) {
+        Some(order) if order <= GREATEST_ORDER => Ok(()),
+        _ => Err(Stop::Refused(Cause::Order)),
+    }
+}
+
+// The presentation, where no consistency test is false.
+fn test(alloc: Global, presentation: Presentation) -> Result<Consistent, Stop<'static>>
+    requires { order presentation ≤ 256 }
+    ensures { Settles (λ c. c) (Test presentation) result }
+{
+    match check(alloc, presentation) {
+        Ok(consistent) => Ok(consistent),
+        Err(Refused::Fault { name, .. }) => Err(Stop::Refused(Cause::Inconsistent(name))),
+        Err(Refused::Memory { .. }) => Err(Stop::Memory),
+    }
+}
+
+// The consistent presentation of a text.
+fn describe(alloc: Global, text: &[u8]) -> Result<Consistent, Stop<'static>>
+    ensures { Settles (λ c. c) (Describe text.now) result }
+{
+    fit_length(text)?;
+    let presentation = present(alloc, text)?;
+    fit_order(&presentation)?;
+    test(alloc, presentation)
+}
+
+/// The consistent presentation of a file, with which each command on a file begins.
+pub fn load<'a, F: Files>(
+    alloc: Global,
+    files: &mut F,
+    path: &'a str,
+) -> Result<Consistent, Stop<'a>>
+    ensures step { OfFiles (F.content files.old)
+        (λ seen. Meets (λ c. c) (Load path.now) seen seen result) }
+    ensures content { F.content files.new ≡ F.content files.old }
+    ensures later { NoneFell (F.read_faults files.old) (F.read_faults files.new) }
+    ensures cause { IfErr result
+        (HasReadCause (λ p. p ≡ path.now) (F.read_faults files.old) (F.read_faults files.new)) }
+{
+    let text = read_front(alloc, files, path)?;
+    describe(alloc, &text)
+}

@@ -1,0 +1,46 @@
+//! The program: describes the group of a presentation text. `run` does all that it does, over any files and sinks.
+#![tactic(auto)]
+
+mod answers;
+mod cause;
+mod loading;
+mod reading;
+mod running;
+mod status;
+mod stop;
+#[cfg(test)]
+mod tests;
+mod words;
+mod writing;
+
+pub use answers::group_lines;
+pub use cause::Cause;
+use coho_io::{DiskFiles, StdSink};
+pub use loading::load;
+pub use reading::read_front;
+pub use running::{outcome_is_unique, run};
+pub use status::Status;
+use std::process::ExitCode;
+use std::{env, io};
+pub use stop::Stop;
+pub use words::read_words;
+pub use writing::{report, write_lines};
+
+// The words after the program's name.
+fn words_of(rt: &HostRuntime) -> io::Result<Vec<String>> {
+    let mut words = Vec::new(rt.alloc());
+    for word in env::args(rt)?.skip(1) {
+        words.push(word)?;
+    }
+    Ok(words)
+}
+
+fn main(rt: HostRuntime) -> ExitCode {
+    let alloc = rt.alloc();
+    // Words that can't be had as text are those of no command, as no words are.
+    let words = words_of(&rt).unwrap_or_else(|_| Vec::new(alloc));
+    let mut files = DiskFiles::new(&rt);
+    let mut out = StdSink::stdout(&rt);
+    let mut err = StdSink::stderr(&rt);
+    ExitCode::from(run(alloc, &words, &mut files, &mut out, &mut err).code())
+}

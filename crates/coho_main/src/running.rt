@@ -1,0 +1,121 @@
+ghost use Rattle.std.specs.Prelude.{◌≡◌, ◌≢◌, ◌⊎◌, ℕ, List, None, Some, IfErr};
+ghost use Rattle.coho_io.specs.Content.{Content};
+ghost use Rattle.coho_io.specs.Causes.{Rose, NoneFell};
+ghost use Rattle.coho_main.specs.Words.{Group, IsRead, command, texts};
+ghost use Rattle.coho_main.specs.Outcome.{Reply, Comes, Ending, Outcome};
+ghost use Rattle.coho_main.specs.Refusals.{read_refused, write_refused};
+ghost use Rattle.coho_main.specs.Stops.{Meets, HasReadCause};
+ghost use Rattle.coho_main.specs.Run.{OfFiles, IsSettled, MayWrite, Tells, EndsAs, AnswersFront, WroteFront, ToldFront, NoReadFault};
+
+use crate::{Status, Stop, group_lines, load, read_words, report, write_lines};
+use coho_io::{Files, Sink};
+use std::alloc::Global;
+
+// The lines of the answer to `group`.
+fn answer_group<'a, F: Files>(
+    alloc: Global,
+    files: &mut F,
+    path: &'a str,
+) -> Result<Vec<String>, Stop<'a>>
+    ensures step { OfFiles (F.content files.old)
+        (λ seen. Meets (λ lines. texts lines.items) (Reply (Group path.now)) seen seen result) }
+    ensures content { F.content files.new ≡ F.content files.old }
+    ensures later { NoneFell (F.read_faults files.old) (F.read_faults files.new) }
+    ensures cause { IfErr result
+        (HasReadCause (λ p. p ≡ path.now) (F.read_faults files.old) (F.read_faults files.new)) }
+{
+    let consistent = load(alloc, files, path)?;
+    Ok(group_lines(alloc, &consistent)?)
+}
+
+// The lines of the answer to the words.
+fn answer<'a, F: Files>(
+    alloc: Global,
+    words: &'a [String],
+    files: &mut F,
+) -> Result<Vec<String>, Stop<'a>>
+    ensures step { OfFiles (F.content files.old)
+        (λ seen. Meets (λ lines. texts lines.items) (Comes (texts words.now)) seen seen result) }
+    ensures content { F.content files.new ≡ F.content files.old }
+    ensures later { NoneFell (F.read_faults files.old) (F.read_faults files.new) }
+    ensures cause { IfErr result
+        (HasReadCause (IsRead (texts words.now)) (F.read_faults files.old) (F.read_faults files.new)) }
+{
+    let path = read_words(words)?;
+    answer_group(alloc, files, path)
+}
+
+/// Does all that the program does: answers the words over the files, writes the answer to `out`, or
+/// one line to `err`, and says how it ended.
+pub fn run<F: Files, O: Sink, E: Sink>(
+    alloc: Global,
+    words: &[String],
+    files: &mut F,
+    out: &mut O,
+    err: &mut E,
+) -> Status
+    // A status that is no fault is that of the outcome over the files that are told, and over some
+    // files where none are. So are the bytes, the line and the files afterwards.
+    ensures outcome { IsSettled result → OfFiles (F.content files.old) (λ seen. (e : Ending)
+        × Outcome (texts words.now) seen e
+        × EndsAs e result (F.content files.new)
+        (O.written out.old) (O.written out.new)
+        (E.written err.old) (E.written err.new)
+        (E.faults err.old) (E.faults err.new)) }
+
+    // Whether files are told or not, the words decide alone whether they are refused.
+    ensures usage { result ≡ Status.Usage → command (texts words.now) ≡ None }
+    ensures words { command (texts words.now) ≡ None
+        → (result ≡ Status.Usage) ⊎ (result ≡ Status.Memory) }
+
+    // A read fault is that of a path that the words name.
+    ensures read { result ≡ Status.Read → (path : List ℕ)
+        × IsRead (texts words.now) path
+        × Rose (F.read_faults files.old path) (F.read_faults files.new path)
+        × Tells (E.written err.old) (E.written err.new) (E.faults err.old) (E.faults err.new)
+        (read_refused path).line }
+
+    // A write fault is that of out, and comes where the outcome is an answer.
+    ensures write { result ≡ Status.Write
+        → Rose (O.faults out.old) (O.faults out.new)
+        × Tells (E.written err.old) (E.written err.new) (E.faults err.old) (E.faults err.new)
+        write_refused.line }
+    ensures answered { result ≡ Status.Write → OfFiles (F.content files.old)
+        (AnswersFront (texts words.now) (O.written out.old) (O.written out.new)) }
+
+    // Want of memory.
+    ensures front { result ≡ Status.Memory → OfFiles (F.content files.old)
+        (WroteFront (texts words.now) (O.written out.old) (O.written out.new)) }
+    ensures line { result ≡ Status.Memory → OfFiles (F.content files.old)
+        (ToldFront (texts words.now)
+        (λ path. IsRead (texts words.now) path
+        × Rose (F.read_faults files.old path) (F.read_faults files.new path))
+        (Rose (O.faults out.old) (O.faults out.new))
+        (E.written err.old) (E.written err.new)) }
+
+    // What stays.
+    ensures files { F.content files.new ≡ F.content files.old }
+    ensures unwritten { (MayWrite result → ⊥) → O.written out.new ≡ O.written out.old }
+
+    // Where no count rose, the status is that of the outcome, or memory was wanting.
+    ensures complete { (told : Content) (e : Ending)
+        → F.content files.old ≡ Some told
+        → Outcome (texts words.now) told e
+        → NoReadFault (texts words.now) (F.read_faults files.old) (F.read_faults files.new)
+        → (e.status ≡ Status.Answered → Rose (O.faults out.old) (O.faults out.new) → ⊥)
+        → (result ≡ e.status) ⊎ (result ≡ Status.Memory) }
+{
+    match answer(alloc, words, files) {
+        Ok(lines) => match write_lines(out, &lines) {
+            Ok(()) => Status::Answered,
+            Err(stop) => report(alloc, stop, err),
+        },
+        Err(stop) => report(alloc, stop, err),
+    }
+}
+
+/// The outcome of words over files is one.
+pub fn outcome_is_unique()
+    ensures { (words : List (List ℕ)) (files : Content) (e d : Ending)
+        → Outcome words files e → Outcome words files d → e ≡ d }
+{}

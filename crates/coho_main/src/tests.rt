@@ -1,0 +1,179 @@
+use super::*;
+use coho_io::{MemFiles, MemSink};
+use std::alloc::{AllocError, Global};
+use std::test::Fail;
+
+/// How a run ended, and what it wrote.
+#[derive(Drop)]
+struct Ended {
+    status: Status,
+    out: MemSink,
+    err: MemSink,
+}
+
+fn run_words(alloc: Global, files: &mut MemFiles, texts: &[&str]) -> Result<Ended, AllocError> {
+    let mut words = Vec::new(alloc);
+    for text in texts {
+        words.push(String::from_str(alloc, text)?)?;
+    }
+    let mut out = MemSink::new(alloc);
+    let mut err = MemSink::new(alloc);
+    let status = run(alloc, &words, files, &mut out, &mut err);
+    Ok(Ended { status, out, err })
+}
+
+#[test]
+fn describes_groups(rt: HostRuntime) -> Result<(), Fail> {
+    let quaternion = "pgroup 1\nprime 2\ngens 3\ng1^2 = g3\ng2^2 = g3\n[g2,g1] = g3\n";
+    for (text, answer) in [
+        (quaternion, "prime 2\ngens 3\norder 8\n"),
+        ("pgroup 1\nprime 2\ngens 0\n", "prime 2\ngens 0\norder 1\n"),
+        ("pgroup 1\nprime 3\ngens 2\n", "prime 3\ngens 2\norder 9\n"),
+        (
+            "pgroup 1\nprime 2\ngens 7\n",
+            "prime 2\ngens 7\norder 128\n",
+        ),
+    ] {
+        let mut files = MemFiles::new(rt.alloc());
+        files.put("t", text.as_bytes())?;
+        let ended = run_words(rt.alloc(), &mut files, &["group", "t"])?;
+        assert_eq!(rt; ended.status, Status::Answered, "{text}");
+        assert_eq!(rt; ended.out.bytes(), answer.as_bytes(), "{text}");
+        assert_eq!(rt; ended.err.bytes(), b"".as_slice(), "{text}");
+    }
+    Ok(())
+}
+
+#[test]
+fn names_the_first_fault_of_a_text(rt: HostRuntime) -> Result<(), Fail> {
+    for (text, place) in [
+        ("", "1:1: BadHeader"),
+        ("pgroup 1\nprime 4\ngens 1\n", "2:1: BadPrime"),
+        ("pgroup 1\nprime 2\ngens 33\n", "3:1: BadCount"),
+        ("pgroup 1\nprime 2\ngens 2\n\n", "4:1: BadLine"),
+        ("pgroup 1\nprime 2\ngens 2\ng3^2 = 1\n", "4:1: BadGenerator"),
+        ("pgroup 1\nprime 2\ngens 2\ng1^3 = 1\n", "4:4: BadPower"),
+        ("pgroup 1\nprime 2\ngens 2\n[g1,g2] = 1\n", "4:1: BadOrder"),
+        ("pgroup 1\nprime 2\ngens 3\ng1^2 = g3*g2\n", "4:11: BadWord"),
+        (
+            "pgroup 1\nprime 2\ngens 2\ng1^2 = g2\ng1^2 = g2\n",
+            "5:1: Repeated",
+        ),
+    ] {
+        let mut files = MemFiles::new(rt.alloc());
+        files.put("t", text.as_bytes())?;
+        let ended = run_words(rt.alloc(), &mut files, &["group", "t"])?;
+        let line = format!(in rt.alloc(); "coho: text fault at {place}\n")?;
+        assert_eq!(rt; ended.status, Status::Text, "{place}");
+        assert_eq!(rt; ended.out.bytes(), b"".as_slice(), "{place}");
+        assert_eq!(rt; ended.err.bytes(), line.as_bytes(), "{place}");
+    }
+    Ok(())
+}
+
+#[test]
+fn refuses_false_tests_and_great_orders(rt: HostRuntime) -> Result<(), Fail> {
+    for (text, status, line) in [
+        (
+            "pgroup 1\nprime 2\ngens 3\ng1^2 = g2\n[g2,g1] = g3\n",
+            Status::Inconsistent,
+            "coho: inconsistent: fixed 1\n",
+        ),
+        (
+            "pgroup 1\nprime 2\ngens 4\n[g2,g1] = g3\n[g3,g1] = g4\n",
+            Status::Inconsistent,
+            "coho: inconsistent: twist 1 2\n",
+        ),
+        (
+            "pgroup 1\nprime 2\ngens 8\n",
+            Status::Limit,
+            "coho: limit: order above 128\n",
+        ),
+    ] {
+        let mut files = MemFiles::new(rt.alloc());
+        files.put("t", text.as_bytes())?;
+        let ended = run_words(rt.alloc(), &mut files, &["group", "t"])?;
+        assert_eq!(rt; ended.status, status, "{line}");
+        assert_eq!(rt; ended.out.bytes(), b"".as_slice(), "{line}");
+        assert_eq!(rt; ended.err.bytes(), line.as_bytes(), "{line}");
+    }
+    Ok(())
+}
+
+#[test]
+fn refuses_files_and_words(rt: HostRuntime) -> Result<(), Fail> {
+    let usage = "coho: the words are not those of a command\n";
+    let mut files = MemFiles::new(rt.alloc());
+    files.put("long", &[b'x'; 65_537])?;
+    files.put("t", b"pgroup 1\nprime 2\ngens 1\n")?;
+    for (texts, status, line) in [
+        (
+            ["group", "long"].as_slice(),
+            Status::Limit,
+            "coho: limit: text longer than 65536 bytes\n",
+        ),
+        (
+            ["group", "F"].as_slice(),
+            Status::Read,
+            "coho: read failed: F\n",
+        ),
+        ([].as_slice(), Status::Usage, usage),
+        (["group"].as_slice(), Status::Usage, usage),
+        (["group", "-x"].as_slice(), Status::Usage, usage),
+        (["group", "t", "t"].as_slice(), Status::Usage, usage),
+        (["groups", "t"].as_slice(), Status::Usage, usage),
+        (["group", ""].as_slice(), Status::Usage, usage),
+    ] {
+        let ended = run_words(rt.alloc(), &mut files, texts)?;
+        assert_eq!(rt; ended.status, status, "{texts:?}");
+        assert_eq!(rt; ended.out.bytes(), b"".as_slice(), "{texts:?}");
+        assert_eq!(rt; ended.err.bytes(), line.as_bytes(), "{texts:?}");
+    }
+    Ok(())
+}
+
+#[test]
+fn stops_at_a_failed_write(rt: HostRuntime) -> Result<(), Fail> {
+    let alloc = rt.alloc();
+    let mut files = MemFiles::new(alloc);
+    files.put("t", b"pgroup 1\nprime 3\ngens 2\n")?;
+    let mut words = Vec::new(alloc);
+    words.push(String::from_str(alloc, "group")?)?;
+    words.push(String::from_str(alloc, "t")?)?;
+    for (taken, bytes) in [(0, "prime 3\ngens 2\n"), (3, "prime 3\ngens 2\nord")] {
+        let mut out = MemSink::new(alloc);
+        out.fail_at(3, taken)?;
+        let mut err = MemSink::new(alloc);
+        let status = run(alloc, &words, &mut files, &mut out, &mut err);
+        assert_eq!(rt; status, Status::Write);
+        assert_eq!(rt; out.bytes(), bytes.as_bytes());
+        assert_eq!(rt; err.bytes(), b"coho: write failed\n".as_slice());
+    }
+    let mut err = MemSink::new(alloc);
+    err.fail_at(1, 6)?;
+    let status = run(alloc, &[], &mut files, &mut MemSink::new(alloc), &mut err);
+    assert_eq!(rt;
+        status,
+        Status::Usage,
+        "a line that is not told keeps the status"
+    );
+    assert_eq!(rt; err.bytes(), b"coho: ".as_slice());
+    Ok(())
+}
+
+#[test]
+fn statuses_have_numbers(rt: HostRuntime) {
+    for (status, code) in [
+        (Status::Answered, 0),
+        (Status::Text, 1),
+        (Status::Usage, 2),
+        (Status::Inconsistent, 3),
+        (Status::Limit, 4),
+        (Status::Read, 5),
+        (Status::Write, 6),
+        (Status::Stage, 7),
+        (Status::Memory, 8),
+    ] {
+        assert_eq!(rt; status.code(), code);
+    }
+}
