@@ -38,7 +38,7 @@ generator_range n (b ∷ digits) k h =
     let r = numeral_range 1 n digits k (if_some (eqb b 103) (numeral 1 n digits) k h).1 in
     (omega (arith, r.0), r.1)
 
-both_some : (a b : Option ℕ) (f : Factor) → both a b ≡ Some f → (a ≡ Some f.0) × (b ≡ Some f.1)
+pub both_some : (a b : Option ℕ) (f : Factor) → both a b ≡ Some f → (a ≡ Some f.0) × (b ≡ Some f.1)
 both_some (Some k) (Some e) f h = let g : (k, e) ≡ f = some_same _ _ h in (ap (λ (x : Factor). Some x.0) g, ap (λ (x : Factor). Some x.1) g)
 both_some (Some k) None f h = absurd (let e : None ≡ Some f = h in cc)
 both_some None b f h = absurd (let e : None ≡ Some f = h in cc)
@@ -63,7 +63,7 @@ parts_range p n piece None f prime h =
 factor_range : (p n : ℕ) (piece : List ℕ) (f : Factor) → 1 < p → factor (by_number p n) piece ≡ Some f → IsFactor p n f
 factor_range p n piece f prime h = parts_range p n piece (cut_at 94 piece) f prime h
 
-above_some : (last : ℕ) (o : Option Factor) (f : Factor) → above last o ≡ Some f → (o ≡ Some f) × (last < f.0)
+pub above_some : (last : ℕ) (o : Option Factor) (f : Factor) → above last o ≡ Some f → (o ≡ Some f) × (last < f.0)
 above_some last None f h = absurd (let e : None ≡ Some f = h in cc)
 above_some last (Some g) f h =
     let found = if_some (ltb last g.0) (Some g) f h in
@@ -132,16 +132,16 @@ pub record IsNext (p n : ℕ) (earlier : List Relation) (r : Relation) : Type 0 
   pub new : stands r.place earlier ≡ false
 
 -- the rows of a line, from the last
-abbrev new_row : List Relation → Place → List ℕ → Result Relation LineFault
+abbrev pub new_row : List Relation → Place → List ℕ → Result Relation LineFault
 new_row earlier place exponents = require kind.Repeated 1 (not (stands place earlier)) >>= λ _. Ok (record { place = place; word = exponents })
 
-abbrev word_row : Naming → List Relation → Shape → Place → Result Relation LineFault
+abbrev pub word_row : Naming → List Relation → Shape → Place → Result Relation LineFault
 word_row names earlier parts place = word names (least place) parts.column parts.right >>= new_row earlier place
 
-abbrev side_row : Naming → List Relation → Shape → Result Relation LineFault
+abbrev pub side_row : Naming → List Relation → Shape → Result Relation LineFault
 side_row names earlier parts = left_side names parts.left >>= word_row names earlier parts
 
-abbrev shape_row : Naming → List Relation → List ℕ → Result Relation LineFault
+abbrev pub shape_row : Naming → List Relation → List ℕ → Result Relation LineFault
 shape_row names earlier bytes = expect kind.BadLine 1 (shape names bytes) >>= side_row names earlier
 
 pub relation_kept : (p n : ℕ) (earlier : List Relation) (bytes : List ℕ) (ended : Bool) (r : Relation) → 1 < p → relation (by_number p n) earlier bytes ended ≡ Ok r → IsNext p n earlier r
@@ -193,24 +193,24 @@ prime_same v p h =
     let e : v ≡ p = some_same _ _ found.1 in
     (subst (λ q. prime q ≡ Some q) e (h ∙ ap (λ (q : ℕ). Some q) (sym e)), rw e at (above_one v found.0))
 
-prime_line_same : (bytes : List ℕ) (p : ℕ) → prime_line bytes ≡ Some p → (prime p ≡ Some p) × (1 < p)
+pub prime_line_same : (bytes : List ℕ) (p : ℕ) → prime_line bytes ≡ Some p → (prime p ≡ Some p) × (1 < p)
 prime_line_same bytes p h =
     let found = and_then_some prime (option_and_then (numeral 0 9) (after_front (codes "prime ") bytes)) p h in
     prime_same found.0 p found.2
 
-count_line_range : (bytes : List ℕ) (n : ℕ) → count_line bytes ≡ Some n → n ≤ 32
+pub count_line_range : (bytes : List ℕ) (n : ℕ) → count_line bytes ≡ Some n → n ≤ 32
 count_line_range bytes n h =
     let found = and_then_some (numeral 0 32) (after_front (codes "gens ") bytes) n h in
     (numeral_range 0 32 found.0 n found.2).1
 
 -- the rows of a text, from the last
-abbrev relations_step : List Line → ℕ → ℕ → Result Content Fault
+abbrev pub relations_step : List Line → ℕ → ℕ → Result Content Fault
 relations_step ls p n = relations (by_number p n) [] (drop 3 ls) >>= λ found. Ok (record { prime = p; gens = n; relations = found })
 
-abbrev count_step : List Line → ℕ → Result Content Fault
+abbrev pub count_step : List Line → ℕ → Result Content Fault
 count_step ls p = in_line 3 (expect kind.BadCount 1 (option_and_then count_line (first_bytes (drop 2 ls)))) >>= relations_step ls p
 
-abbrev prime_step : List Line → Result Content Fault
+abbrev pub prime_step : List Line → Result Content Fault
 prime_step ls = in_line 2 (expect kind.BadPrime 1 (option_and_then prime_line (first_bytes (drop 1 ls)))) >>= count_step ls
 
 -- what a text says keeps the rules

@@ -4,6 +4,7 @@ pub mod CutsLemmas
 pub mod Given
 pub mod Kept
 pub mod Made
+pub mod LawProofs
 pub mod LineLemmas
 pub mod NumeralLemmas
 pub mod PlaceLemmas
@@ -16,3 +17,6 @@ pub mod Steps
 pub mod TextLemmas
 pub mod WordLemmas
 pub mod WriterLemmas
+pub mod WrittenLines
+pub mod WrittenTexts
+pub mod WrittenWords

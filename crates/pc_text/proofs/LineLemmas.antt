@@ -19,9 +19,12 @@ first_and_more true x others h = ([], others, refl)
 first_and_more false x others h = (x ∷ h.0, h.1, ap (onto_first x) h.2)
 
 -- there is a first part
+pub has_part_at : (b : ℕ) (text : List ℕ) → (y : List ℕ) × (ys : List (List ℕ)) × (slice_split (λ x. x == b) text ≡ y ∷ ys)
+has_part_at b [] = ([], [], refl)
+has_part_at b (x ∷ text) = first_and_more (x == b) x (slice_split (λ x. x == b) text) (has_part_at b text)
+
 pub has_part : (text : List ℕ) → (y : List ℕ) × (ys : List (List ℕ)) × (parts text ≡ y ∷ ys)
-has_part [] = ([], [], refl)
-has_part (x ∷ text) = first_and_more (x == 10) x (parts text) (has_part text)
+has_part text = has_part_at 10 text
 
 pub line_ended : (n : ℕ) (text bytes next : List ℕ) → parts text ≡ bytes ∷ parts next → lines_from n text ≡ record { number = n; bytes = bytes; ended = true } ∷ lines_from (n + 1) next
 line_ended n text bytes next e =

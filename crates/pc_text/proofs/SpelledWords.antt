@@ -151,7 +151,7 @@ none_by : (e : ℕ) (rest b : Bool) → eqb e 0 ≡ b → (not b || rest) ≡ fa
 none_by e rest true is h = (grind (arith, nat_tests), h)
 none_by e rest false is h = absurd (let f : true ≡ false = h in cc)
 
-none_of : (e : ℕ) (rest : Bool) → (not (eqb e 0) || rest) ≡ false → (e ≡ 0) × (rest ≡ false)
+pub none_of : (e : ℕ) (rest : Bool) → (not (eqb e 0) || rest) ≡ false → (e ≡ 0) × (rest ≡ false)
 none_of e rest h = none_by e rest (eqb e 0) refl h
 
 pub zeros : (w : List ℕ) → list_any (λ e. not (e == 0)) w ≡ false → replicate (length w) 0 ≡ w

@@ -10,6 +10,8 @@ mod numerals;
 mod place;
 mod reader;
 mod relations;
+#[cfg(test)]
+mod tests;
 mod texts;
 mod words;
 mod writer;

@@ -1,6 +1,7 @@
 //! The reader of a presentation text.
 
 ghost use Rattle.std.specs.Prelude.{◌≡◌, ◌≤◌, Ok, length, IfOk, IfErr, OnOk};
+ghost use Rattle.pc_text.specs.Laws.{TableIsGrammar, StandsFor, IsOutside};
 ghost use Rattle.pc_text.specs.Texts.{read, presentation_of};
 ghost use Rattle.pc_text.specs.Rules.{IsRelation, IsContent};
 ghost use Rattle.pc_text.specs.Views.{TextFails, shown, shown_content, with_relation};
@@ -19,7 +20,9 @@ use std::alloc::Global;
 pub fn read_presentation(alloc: Global, text: &[u8]) -> Result<Presentation, TextFault>
     requires { length text.now ≤ 65536 }
     ensures presentation { IfOk result (λ p. read text.now ≡ Ok p) }
+    ensures grammar { IfOk result (λ p. StandsFor text.now p) }
     ensures fault { IfErr result (λ e. TextFails e (read text.now)) }
+    ensures outside { IfErr result (λ e. IsOutside e text.now) }
 {
     let content = content_of(alloc, text)?;
     match presentation(alloc, &content) {
@@ -52,3 +55,8 @@ fn set_word(alloc: Global, made: &mut Presentation, relation: &Relation) -> Resu
     }
     Ok(())
 }
+
+/// The table of faults and the grammar agree on every text.
+pub fn table_is_grammar()
+    ensures { TableIsGrammar }
+{}
