@@ -13,6 +13,8 @@ mod row;
 mod row_ref;
 mod solutions;
 mod spans;
+#[cfg(test)]
+mod tests;
 
 pub use basis::Echelon;
 pub use complement::greedy;

@@ -1,0 +1,193 @@
+ghost use Rattle.std.specs.Prelude.{◌≡◌, ◌≤◌, ◌*◌, length, IfOk};
+ghost use Rattle.group_table.specs.Prime.{prime_value};
+ghost use Rattle.fp_rows.specs.Refs.{entries_of};
+
+use super::*;
+use group_table::{Memory, Prime};
+use std::alloc::Global;
+use std::process::Abort;
+use std::test::Fail;
+
+fn row_of(rt: &impl Abort, alloc: Global, p: Prime, entries: &[u8]) -> Result<Row, Memory>
+    ensures prime { IfOk result (λ r. r.p ≡ prime_value p) }
+    ensures count { IfOk result (λ r. length r.entries ≡ length entries.now) }
+{
+    let mut row = Row::zero(alloc, p, entries.len())?;
+    for (i, x) in entries.iter().enumerate() {
+        assert!(rt; i < row.len() && *x < p.value());
+        row.set(i, *x);
+    }
+    Ok(row)
+}
+
+fn matrix_of(
+    rt: &impl Abort,
+    alloc: Global,
+    p: Prime,
+    width: usize,
+    entries: &[u8],
+) -> Result<Matrix, Memory>
+    ensures prime { IfOk result (λ m. m.p ≡ prime_value p) }
+    ensures width { IfOk result (λ m. m.width ≡ width) }
+{
+    assert!(rt; width > 0);
+    let mut m = Matrix::new(alloc, p, width);
+    for r in entries.chunks(width) {
+        let row = row_of(rt, alloc, p, r)?;
+        assert_eq!(rt; row.len(), width);
+        m.push(row.view())?;
+    }
+    Ok(m)
+}
+
+fn contains(rt: &impl Abort, alloc: Global, e: &Echelon, entries: &[u8]) -> Result<bool, Memory> {
+    let row = row_of(rt, alloc, e.prime(), entries)?;
+    assert_eq!(rt; row.len(), e.width());
+    Ok(e.contains(row.view()))
+}
+
+fn reduced(rt: &impl Abort, alloc: Global, e: &Echelon, entries: &[u8]) -> Result<Row, Memory> {
+    let mut row = row_of(rt, alloc, e.prime(), entries)?;
+    assert_eq!(rt; row.len(), e.width());
+    e.reduce(&mut row);
+    Ok(row)
+}
+
+fn shows(r: RowRef<'_>, entries: &[u8]) -> bool {
+    r.len() == entries.len() && (0..r.len()).all(|i| r.get(i) == entries[i])
+}
+
+#[test]
+fn writes_adds_and_clears(rt: HostRuntime) -> Result<(), Fail> {
+    let alloc = rt.alloc();
+    let mut row = row_of(&rt, alloc, Prime::P3, &[1, 2, 0])?;
+    let other = row_of(&rt, alloc, Prime::P3, &[2, 2, 1])?;
+    row.add(2, other.view());
+    assert!(rt; shows(row.view(), &[2, 0, 2]));
+    let whole = row.view();
+    assert_eq!(rt; whole.len(), 3);
+    assert!(rt; shows(whole.part(1, 2), &[0, 2]));
+    row.clear();
+    assert!(rt; shows(row.view(), &[0, 0, 0]));
+    Ok(())
+}
+
+#[test]
+fn keeps_rows_and_blocks(rt: HostRuntime) -> Result<(), Fail> {
+    let m = matrix_of(&rt, rt.alloc(), Prime::P5, 3, &[1, 2, 3, 4, 0, 1])?;
+    assert_eq!(rt; (m.rows(), m.width(), m.prime()), (2, 3, Prime::P5));
+    assert!(rt; shows(m.row(1), &[4, 0, 1]));
+    assert!(rt; shows(m.block(0, 1, 2), &[2, 3]));
+    Ok(())
+}
+
+#[test]
+fn lists_positions(rt: HostRuntime) -> Result<(), Fail> {
+    let mut positions = Positions::new(rt.alloc());
+    positions.push(7)?;
+    positions.push(3)?;
+    assert_eq!(rt; positions.len(), 2);
+    assert_eq!(rt; (positions.get(0), positions.get(1)), (7, 3));
+    Ok(())
+}
+
+// Generators, their reduced echelon list of two rows, a vector outside its span, what it reduces to, and a member of the span.
+#[derive(Clone, Copy)]
+struct Case<'a> {
+    p: Prime,
+    generators: &'a [u8],
+    first: &'a [u8],
+    second: &'a [u8],
+    outside: &'a [u8],
+    rest: &'a [u8],
+    member: &'a [u8],
+}
+
+fn reduces_as(rt: &impl Abort, alloc: Global, case: Case<'_>) -> Result<(), Memory> {
+    let e = echelon(alloc, &matrix_of(rt, alloc, case.p, 3, case.generators)?)?;
+    assert_eq!(rt; (e.rows(), e.width(), e.prime()), (2, 3, case.p));
+    assert!(rt; shows(e.row(0), case.first) && shows(e.row(1), case.second));
+    assert_eq!(rt; (e.pivot(0), e.row(1).get(e.pivot(1))), (0, 1));
+    assert!(rt; contains(rt, alloc, &e, case.member)?);
+    assert!(rt; !contains(rt, alloc, &e, case.outside)?);
+    assert!(rt; shows(reduced(rt, alloc, &e, case.outside)?.view(), case.rest));
+    Ok(())
+}
+
+#[test]
+fn reduces_over_two_and_three_elements(rt: HostRuntime) -> Result<(), Fail> {
+    let two = Case {
+        p: Prime::P2,
+        generators: &[1, 1, 0, 0, 1, 1, 1, 0, 1],
+        first: &[1, 0, 1],
+        second: &[0, 1, 1],
+        outside: &[1, 1, 1],
+        rest: &[0, 0, 1],
+        member: &[1, 1, 0],
+    };
+    let three = Case {
+        p: Prime::P3,
+        generators: &[2, 0, 1, 1, 1, 0, 0, 2, 2],
+        first: &[1, 0, 2],
+        second: &[0, 1, 1],
+        outside: &[2, 1, 0],
+        rest: &[0, 0, 1],
+        member: &[2, 1, 2],
+    };
+    reduces_as(&rt, rt.alloc(), two)?;
+    reduces_as(&rt, rt.alloc(), three)?;
+    Ok(())
+}
+
+#[test]
+fn reduces_over_five_and_seven_elements(rt: HostRuntime) -> Result<(), Fail> {
+    let five = Case {
+        p: Prime::P5,
+        generators: &[0, 0, 2, 2, 1, 4, 4, 2, 1],
+        first: &[1, 3, 0],
+        second: &[0, 0, 1],
+        outside: &[4, 4, 3],
+        rest: &[0, 2, 0],
+        member: &[3, 4, 2],
+    };
+    let seven = Case {
+        p: Prime::P7,
+        generators: &[3, 5, 1, 0, 0, 2, 3, 5, 0],
+        first: &[1, 4, 0],
+        second: &[0, 0, 1],
+        outside: &[2, 3, 6],
+        rest: &[0, 2, 0],
+        member: &[5, 6, 3],
+    };
+    reduces_as(&rt, rt.alloc(), five)?;
+    reduces_as(&rt, rt.alloc(), seven)?;
+    Ok(())
+}
+
+#[test]
+fn solves_over_three_elements(rt: HostRuntime) -> Result<(), Fail> {
+    let alloc = rt.alloc();
+    let m = matrix_of(&rt, alloc, Prime::P3, 2, &[1, 2, 2, 1])?;
+    let e = echelon(alloc, &m)?;
+    assert_eq!(rt; e.rows(), 1);
+    assert!(rt; shows(e.row(0), &[1, 2]));
+    let k = kernel(alloc, &m)?;
+    assert_eq!(rt; k.rows(), 1);
+    assert!(rt; shows(k.row(0), &[1, 1]));
+    let u = preimages(alloc, &m, &e, &k)?;
+    assert_eq!(rt; u.rows(), 1);
+    assert!(rt; shows(u.row(0), &[0, 2]));
+    Ok(())
+}
+
+#[test]
+fn takes_rows_outside_the_span(rt: HostRuntime) -> Result<(), Fail> {
+    let alloc = rt.alloc();
+    let s = echelon(alloc, &matrix_of(&rt, alloc, Prime::P2, 2, &[1, 0, 0, 1])?)?;
+    let t = echelon(alloc, &matrix_of(&rt, alloc, Prime::P2, 2, &[1, 1])?)?;
+    assert!(rt; s.rows() < 4294967296);
+    let positions = greedy(alloc, &s, &t)?;
+    assert_eq!(rt; positions.len(), 1);
+    assert_eq!(rt; positions.get(0), 0);
+    Ok(())
+}
