@@ -1,14 +1,14 @@
 -- The preimage that is 0 at the pivots of the kernel: it exists, and elimination of the other augmented rows finds it.
 use Rattle.std.proofs.Common.{◌≡◌, ◌≢◌, ℕ, zero, suc, ◌+◌, ◌*◌, ◌-◌, ◌%◌, ◌<◌, ◌≤◌, ◌⊎◌, List, [], ◌∷◌, ◌++◌, length, map, drop, replicate, inl, inr, arith, ap, sym, ◌∙◌, refl}
 use Rattle.std.proofs.lemmas.Bool.{cases_lt}
-use Rattle.std.proofs.lemmas.List.{get_or-map, get_or-drop, get_or_append_left, get_or-append-add, get_or-replicate, get_or_past, length-map, length-drop, length-replicate, length_push}
+use Rattle.std.proofs.lemmas.List.{get_or-map, get_or-drop, get_or_append_left, get_or-append-add, get_or-replicate, get_or_past, length-map, length-drop, length-replicate, length_push, ext_get_or}
 use Rattle.std.proofs.Math.Nat.{mod-lt}
 use mathlib.Core.Path.{subst}
 use Rattle.linear_algebra.specs.Modular.{IsCongruent, sum_below}
 use Rattle.linear_algebra.specs.Rows.{entry, row, combination, pivot, IsRow, IsMatrix, IsCombination, IsInSpan, IsReduced}
 use Rattle.linear_algebra.specs.Kernels.{IsInKernel, IsKernelOf, IsAugmented, IsAmong, IsEchelonOfOthers}
 use Rattle.linear_algebra.specs.Choices.{IsPreimage, ArePreimages}
-use Rattle.linear_algebra.proofs.Congruences.{congruent_refl, congruent_add, congruent_trans, congruent_eq, congruent_sym, congruent_mul_left, congruent_minus, congruent_mod, same_below}
+use Rattle.linear_algebra.proofs.Congruences.{congruent_refl, congruent_add, congruent_trans, congruent_eq, congruent_sym, congruent_mul_left, congruent_minus, congruent_cancel, congruent_mod, same_below}
 use Rattle.linear_algebra.proofs.Sums.{sum_below-vanishes, sum_below-one, find_below}
 use Rattle.linear_algebra.proofs.Pivots.{HasPivots, zero_at_pivots}
 use Rattle.linear_algebra.proofs.PivotLemmas.{before_pivot}
@@ -101,6 +101,28 @@ module _ {p : ℕ} {rows K : List (List ℕ)} (one : 1 < p) (k : IsKernelOf p ro
 
       listed : (t : ℕ) → t < length rows → IsCongruent p (entry ul t) (lowered s.0 t)
       listed t l = rw (entry-table (length rows) (λ t. lowered s.0 t % p) t l) (congruent_mod (lowered s.0 t))
+
+  -- a target has one preimage
+  pub preimage_is_one : (target u v : List ℕ) → IsPreimage p rows K target u → IsPreimage p rows K target v → u ≡ v
+  preimage_is_one target u v a b = ext_get_or 0 u v (a.is_row.length_is ∙ sym b.is_row.length_is) (λ t l. same t (rw a.is_row.length_is at l))
+    where
+      z : ℕ → ℕ
+      z t = entry u t + (p - 1) * entry v t
+
+      apart : (n c : ℕ) (u w r : ℕ → ℕ) → sum_below n (λ i. (u i + c * w i) * r i) ≡ sum_below n (λ i. u i * r i) + c * sum_below n (λ i. w i * r i)
+      apart zero c u w r = omega arith
+      apart (suc n) c u w r = omega (arith, apart n c u w r)
+
+      in_kernel : IsInKernel p rows z
+      in_kernel j = congruent_trans (congruent_eq (apart (length rows) (p - 1) (entry u) (entry v) (λ t. entry (row rows t) j)))
+          (congruent_trans (congruent_add (a.maps.each j) (congruent_mul_left (p - 1) (b.maps.each j))) (congruent_minus (entry target j) one))
+
+      at_pivots : (i : ℕ) → i < length K → IsCongruent p (z (pivot (row K i))) 0
+      at_pivots i l = congruent_eq (rw (a.zero_at_pivots i l, b.zero_at_pivots i l) (omega arith))
+
+      same : (t : ℕ) → t < length rows → entry u t ≡ entry v t
+      same t l = same_below (congruent_cancel ((p - 1) * entry v t) (congruent_trans (kernel_zero z in_kernel at_pivots t l) (congruent_sym (congruent_minus (entry v t) one))))
+          (a.is_row.below t l) (b.is_row.below t l)
 
   module _ {width : ℕ} {A F : List (List ℕ)} (M : IsMatrix p width rows) (a : IsAugmented width rows A)
       (f : IsEchelonOfOthers p (width + length rows) A (map pivot K) (length rows) F) where

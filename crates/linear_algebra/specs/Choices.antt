@@ -1,3 +1,4 @@
+-- The greedy complement of a subspace, and the preimage that a complement of the kernel singles out.
 use Rattle.std.specs.Prelude.{◌≡◌, ℕ, zero, suc, ◌<◌, ◌⊎◌, List, [], ◌∷◌, ◌++◌, length, map}
 use Rattle.linear_algebra.specs.Rows.{entry, row, pivot, IsRow, IsCombination, IsInSpan}
 

@@ -1,3 +1,4 @@
+-- Linear maps.
 use Rattle.std.specs.Prelude.{ℕ, ◌+◌, ◌*◌}
 use Rattle.linear_algebra.specs.Modular.{IsCongruent, sum_below}
 

@@ -1,3 +1,4 @@
+-- Rows, combinations, spans and reduced row echelon form (Hoffman and Kunze, "Linear Algebra", sections 1.4 and 2.5).
 use Rattle.std.specs.Prelude.{◌≡◌, ◌≢◌, ℕ, zero, suc, ◌+◌, ◌-◌, ◌*◌, ◌%◌, ◌<◌, List, [], ◌∷◌, length, slice_index_or}
 use Rattle.linear_algebra.specs.Modular.{IsCongruent, sum_below}
 

@@ -4,9 +4,9 @@
 
 ghost use Rattle.std.specs.Prelude.{◌≡◌, ◌≢◌, ℕ, ◌+◌, ◌%◌, ◌<◌, List, length};
 ghost use Rattle.linear_algebra.specs.Modular.{IsSmallPrime, IsFieldModulo};
-ghost use Rattle.linear_algebra.specs.Rows.{entry, row, IsRow, IsMatrix, IsEchelon, IsEchelonOf, IsCombination, IsInSpan, AreInSpan};
-ghost use Rattle.linear_algebra.specs.Kernels.{IsInKernel};
-ghost use Rattle.linear_algebra.specs.Choices.{IsGreedy};
+ghost use Rattle.linear_algebra.specs.Rows.{entry, row, IsRow, IsMatrix, IsEchelon, IsEchelonOf, IsCombination, IsInSpan, AreInSpan, IsReduced};
+ghost use Rattle.linear_algebra.specs.Kernels.{IsInKernel, IsKernelOf};
+ghost use Rattle.linear_algebra.specs.Choices.{IsGreedy, IsPreimage};
 ghost use Rattle.linear_algebra.specs.Ranks.{IsIndependent};
 
 /// The numbers modulo 2, 3, 5 and 7 are fields.
@@ -26,6 +26,13 @@ pub fn echelon_is_unique()
 pub fn echelon_exists()
     ensures { (p width : ℕ) (generators : List (List ℕ)) → IsFieldModulo p → IsMatrix p width generators
         → (rows : List (List ℕ)) × IsEchelonOf p width generators rows }
+{}
+
+/// A vector has one reduced form: two rows that differ from it by members of the span and are 0 at every pivot are equal.
+pub fn reduced_is_unique()
+    ensures { (p width : ℕ) (rows : List (List ℕ)) (v w x : List ℕ) → 1 < p → IsEchelon rows
+        → IsRow p width w → IsRow p width x → IsReduced p rows v w → IsReduced p rows v x
+        → w ≡ x }
 {}
 
 /// More rows than places are dependent.
@@ -53,4 +60,28 @@ pub fn greedy_exists()
 /// The greedy complement is one list.
 pub fn greedy_is_unique()
     ensures { (p : ℕ) (s t : List (List ℕ)) (xs ys : List ℕ) → IsGreedy p s t xs → IsGreedy p s t ys → xs ≡ ys }
+{}
+
+/// Each list of rows has a reduced row echelon basis of its kernel.
+pub fn kernel_exists()
+    ensures { (p width : ℕ) (rows : List (List ℕ)) → IsFieldModulo p → IsMatrix p width rows
+        → (kernel : List (List ℕ)) × IsKernelOf p rows kernel }
+{}
+
+/// The reduced row echelon basis of the kernel is one list.
+pub fn kernel_is_unique()
+    ensures { (p : ℕ) (rows kernel other : List (List ℕ)) → 1 < p → IsKernelOf p rows kernel → IsKernelOf p rows other → kernel ≡ other }
+{}
+
+/// Each member of the span has a preimage that is 0 at the pivots of the kernel.
+pub fn preimage_exists()
+    ensures { (p : ℕ) (rows kernel : List (List ℕ)) (target : List ℕ) → 1 < p → IsKernelOf p rows kernel → IsInSpan p rows (entry target)
+        → (u : List ℕ) × IsPreimage p rows kernel target u }
+{}
+
+/// The preimage that is 0 at the pivots of the kernel is one row.
+pub fn preimage_is_unique()
+    ensures { (p : ℕ) (rows kernel : List (List ℕ)) (target u v : List ℕ) → 1 < p → IsKernelOf p rows kernel
+        → IsPreimage p rows kernel target u → IsPreimage p rows kernel target v
+        → u ≡ v }
 {}
