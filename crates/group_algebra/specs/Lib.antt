@@ -1,2 +1,3 @@
 pub mod PGroups
 pub mod Coordinates
+pub mod Coefficients

@@ -1,2 +1,6 @@
 //! The group algebra of a finite p-group over the field of p elements, in layer coordinates.
 #![tactic(auto)]
+
+mod coefficients;
+mod layers;
+mod powers;

@@ -1,0 +1,76 @@
+-- The lists of the powers of the augmentation ideal.
+use Rattle.std.proofs.Common.{◌≡◌, ◌≢◌, ℕ, suc, ◌*◌, ◌<◌, ◌≤◌, ◌⊎◌, List, [], ◌++◌, length, map, append_assoc, append-nil, inl, inr, arith, ap, sym, ◌∙◌}
+use Rattle.std.proofs.lemmas.Bool.{cases_lt}
+use Rattle.std.proofs.lemmas.List.{get_or_past}
+use mathlib.Core.Path.{subst}
+use Rattle.group_table.specs.Tables.{GroupTable, order}
+use Rattle.linear_algebra.specs.Modular.{IsCongruent, sum_below}
+use Rattle.linear_algebra.specs.Rows.{entry, row, combination, IsRow, IsInSpan, IsEchelonOf}
+use Rattle.linear_algebra.specs.Kernels.{unit_row}
+use Rattle.linear_algebra.proofs.AugmentLemmas.{entry_unit_same, entry_unit_other, length-unit_row}
+use Rattle.linear_algebra.proofs.Congruences.{congruent_trans, congruent_eq}
+use Rattle.linear_algebra.proofs.Spans.{in_span_trans}
+use Rattle.linear_algebra.proofs.Sums.{sum_below-one, sum_below-vanishes}
+use Rattle.radical_layers.specs.Layers.{IsPowerList}
+use Rattle.radical_layers.specs.Moves.{move_row, moves_by, moves}
+use Rattle.radical_layers.proofs.LayerLaws.{next-layer}
+use Rattle.group_algebra.specs.PGroups.{IsPGroup, largest_residue, group}
+use Rattle.group_algebra.proofs.Descending.{down, below-is-down, same-down, down-next}
+use Rattle.group_algebra.specs.Coordinates.{residues, sum_coordinates, free_module}
+
+-- each row is a combination of the unit rows
+pub in-units : (p n : ℕ) (M : List (List ℕ)) → length M ≡ n → ((k : ℕ) → k < n → row M k ≡ unit_row n k) → (x : List ℕ) → IsRow p n x → IsInSpan p M (entry x)
+in-units p n M len units x r = (entry x, record { each = λ j. rw len (at j (cases_lt j n)) })
+  where
+    other : (j i : ℕ) → i < n → i ≢ j → IsCongruent p (entry x i * entry (row M i) j) 0
+    other j i l d = congruent_eq (ap (λ y. entry x i * entry y j) (units i l) ∙ ap (λ y. entry x i * y) (entry_unit_other n i j (λ e. d (sym e))) ∙ (let z : entry x i * 0 ≡ 0 = omega arith in z))
+
+    at : (j : ℕ) → (j < n) ⊎ (n ≤ j) → IsCongruent p (sum_below n (λ i. entry x i * entry (row M i) j)) (entry x j)
+    at j (inl l) = congruent_trans (sum_below-one p n j (λ i. entry x i * entry (row M i) j) l (λ i m d. other j i m d))
+        (congruent_eq (ap (λ y. entry x j * entry y j) (units j l) ∙ ap (λ y. entry x j * y) (entry_unit_same n j l) ∙ (let z : entry x j * 1 ≡ entry x j = omega arith in z)))
+    at j (inr l) = congruent_trans (sum_below-vanishes p n (λ i. entry x i * entry (row M i) j) (λ i m. other j i m (omega (arith, l, m))))
+        (congruent_eq (sym (get_or_past x j 0 (let e : length x ≡ n = r.length_is in omega (arith, e, l)))))
+
+module _ (G : GroupTable) (h : IsPGroup G) where
+  abbrev IsPower : ℕ → List (List ℕ) → Type 0
+  IsPower i E = IsPowerList (largest_residue G) (group G h) (sum_coordinates G h) i E
+
+  pub whole-is : (M E : List (List ℕ)) → length M ≡ order G → ((k : ℕ) → k < order G → row M k ≡ unit_row (order G) k) → IsEchelonOf G.p (order G) M E → IsPower 0 E
+  whole-is M E len units e = go (subst (λ p. IsEchelonOf p (order G) M E) (sym (residues G h)) e)
+    where
+      go : IsEchelonOf (suc (largest_residue G)) (order G) M E → IsPower 0 E
+      go e = record {
+        matrix = e.matrix;
+        echelon = e.echelon;
+        members = λ i l. (e.matrix i l, tt);
+        spans = λ x r. in_span_trans e.spans (in-units (suc (largest_residue G)) (order G) M len units x r.0);
+      }
+
+  pub next-is : (i : ℕ) (E M E' : List (List ℕ)) → IsPower i E → M ≡ moves (group G h) (free_module G h 1) (sum_coordinates G h) E → IsEchelonOf G.p (order G) M E' → IsPower (suc i) E'
+  next-is i E M E' P m e = next-layer (largest_residue G) (group G h) (order G) (free_module G h 1) (sum_coordinates G h) i E P E'
+      (subst (λ N. IsEchelonOf (suc (largest_residue G)) (order G) N E') m (subst (λ p. IsEchelonOf p (order G) M E') (sym (residues G h)) e))
+
+  -- the rows of the moves by the elements below g
+  abbrev rest : (g : ℕ) → g ≤ order G → List (List ℕ) → List (List ℕ)
+  rest g l E = moves_by (group G h) (free_module G h 1) (sum_coordinates G h) (down g l) E
+
+  abbrev all : List (List ℕ) → List (List ℕ)
+  all E = moves (group G h) (free_module G h 1) (sum_coordinates G h) E
+
+  pub moves-start : (E : List (List ℕ)) (g : ℕ) (l : g ≤ order G) → g ≡ order G → [] ++ rest g l E ≡ all E
+  moves-start E g l e = go g e l
+    where
+      go : (g : ℕ) → g ≡ order G → (l : g ≤ order G) → rest g l E ≡ all E
+      go g e l = ap (λ gs. moves_by (group G h) (free_module G h 1) (sum_coordinates G h) gs E)
+          (same-down e l (let z : order G ≤ order G = omega arith in z) ∙ sym (below-is-down (order G) (let z : order G ≤ order G = omega arith in z)))
+
+  -- the moves by one more element
+  pub moves-step : (E before after : List (List ℕ)) (g k : ℕ) (l : g < order G) (b : g ≤ order G) (m : k ≤ order G) → k ≡ suc g
+      → after ≡ before ++ map (move_row (group G h) (free_module G h 1) (sum_coordinates G h) (g, l)) E
+      → before ++ rest k m E ≡ all E → after ++ rest g b E ≡ all E
+  moves-step E before after g k l b m e a r = ap (λ rows. rows ++ rest g b E) a ∙ append_assoc before (map (move_row (group G h) (free_module G h 1) (sum_coordinates G h) (g, l)) E) (rest g b E)
+      ∙ ap (λ rows. before ++ rows) (ap (λ gs. moves_by (group G h) (free_module G h 1) (sum_coordinates G h) gs E) (down-next e l b m)) ∙ r
+
+  pub moves-end : (E before : List (List ℕ)) (g : ℕ) (l : g ≤ order G) → g ≡ 0 → before ++ rest g l E ≡ all E → before ≡ all E
+  moves-end E before g l e r = sym (append-nil before) ∙ ap (λ gs. before ++ moves_by (group G h) (free_module G h 1) (sum_coordinates G h) gs E)
+      (sym (same-down {n = order G} e l (let z : 0 ≤ order G = omega arith in z))) ∙ r

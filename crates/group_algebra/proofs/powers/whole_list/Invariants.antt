@@ -1,0 +1,14 @@
+use Rattle.std.proofs.Common.{◌≡◌, ◌<◌, ℕ, length, replicate}
+use Rattle.group_table.specs.Prime.{prime_value}
+use Rattle.group_table.specs.Tables.{order}
+use Rattle.linear_algebra.specs.Rows.{row}
+use Rattle.linear_algebra.specs.Kernels.{unit_row}
+use Rattle.group_algebra.proofs.powers.whole_list.Given as goal
+
+abbrev pub invariant-loop-i : goal.invariant-loop-i
+invariant-loop-i l =
+    ((l.m.p ≡ l.group.p) × (l.m.width ≡ order l.group))
+    × ((l.unit.p ≡ l.group.p) × (l.unit.entries ≡ replicate (order l.group) 0))
+    × (l.n ≡ order l.group)
+    × (length l.m.rows ≡ l.i)
+    × ((k : ℕ) → k < l.i → row l.m.rows k ≡ unit_row (order l.group) k)
