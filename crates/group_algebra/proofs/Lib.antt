@@ -5,3 +5,6 @@ pub mod ListLemmas
 pub mod PowerLemmas
 pub mod SmallPrimes
 pub mod FirstLayers
+pub mod PlaceLemmas
+pub mod LayerRows
+pub mod GainLemmas

@@ -1,3 +1,5 @@
 pub mod PGroups
 pub mod Coordinates
 pub mod Coefficients
+pub mod Places
+pub mod Gains

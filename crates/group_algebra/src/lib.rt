@@ -2,5 +2,7 @@
 #![tactic(auto)]
 
 mod coefficients;
+mod combinations;
 mod layers;
+mod places;
 mod powers;

@@ -1,0 +1,30 @@
+-- Rows that gain multiples of rows: of a whole row, or of one block of a row.
+use Rattle.std.specs.Prelude.{◌≡◌, ◌≢◌, ℕ, List, ◌+◌, ◌*◌, ◌<◌, length}
+use Rattle.linear_algebra.specs.Modular.{IsCongruent, sum_below}
+use Rattle.linear_algebra.specs.Rows.{entry, row, IsRow}
+use Rattle.radical_layers.specs.Placing.{size_of, place_of}
+
+-- every step-th row, from the first on
+abbrev pub stepped : List (List ℕ) → ℕ → ℕ → ℕ → List ℕ
+stepped rows first step k = row rows (first + k * step)
+
+-- new is old plus the combination of the rows R_0, R_1, .. with the coefficients c
+pub record GainsCombination (p : ℕ) (c : List ℕ) (R : ℕ → List ℕ) (old new : List ℕ) : Type 0 where
+  pub is_row : IsRow p (length old) new
+  pub each : (j : ℕ) → IsCongruent p (entry new j) (entry old j + sum_below (length c) (λ k. entry c k * entry (R k) j))
+
+-- block i gains f, member by member, and the other blocks stay
+pub record BlockGains (p : ℕ) (sizes : List ℕ) (rank i : ℕ) (f : ℕ → ℕ) (old new : List ℕ) : Type 0 where
+  pub is_row : IsRow p (size_of sizes * rank) new
+  pub gained : (j : ℕ) → j < size_of sizes → IsCongruent p (entry new (place_of sizes rank i j)) (entry old (place_of sizes rank i j) + f j)
+  pub kept : (m j : ℕ) → m < rank → m ≢ i → j < size_of sizes → entry new (place_of sizes rank m j) ≡ entry old (place_of sizes rank m j)
+
+-- entry j of c times the image of block i of v under the map that takes member k to R_k
+abbrev pub image_entry : List ℕ → ℕ → (ℕ → List ℕ) → ℕ → List ℕ → ℕ → ℕ → ℕ
+image_entry sizes rank R c v i j = c * sum_below (size_of sizes) (λ k. entry v (place_of sizes rank i k) * entry (R k) j)
+
+-- each block gains c times the image of the block of v
+pub record GainsImage (p : ℕ) (sizes : List ℕ) (rank : ℕ) (R : ℕ → List ℕ) (c : ℕ) (v old new : List ℕ) : Type 0 where
+  pub is_row : IsRow p (size_of sizes * rank) new
+  pub each : (i j : ℕ) → i < rank → j < size_of sizes
+      → IsCongruent p (entry new (place_of sizes rank i j)) (entry old (place_of sizes rank i j) + image_entry sizes rank R c v i j)

@@ -1,0 +1,101 @@
+//! The places of a free module: layer by layer, in a layer block by block, in a block by position.
+
+ghost use Rattle.std.specs.Prelude.{◌≡◌, ◌+◌, ◌*◌, ◌^◌, ◌<◌, ◌≤◌, length, slice_index, IfOk};
+ghost use Rattle.radical_layers.specs.Placing.{size_of, place_of};
+ghost use Rattle.group_algebra.specs.Places.{start_of, span_of};
+
+use group_table::Memory;
+use std::alloc::Global;
+use std::marker::Model;
+
+/// The sizes of the layers, and for each member where its layer starts and how large it is.
+#[derive(Drop)]
+pub(crate) struct Places {
+    sizes: Vec<usize>,
+    starts: Vec<usize>,
+    spans: Vec<usize>,
+}
+
+impl Model for Places {
+    ghost use Rattle.std.specs.Prelude.{ℕ, List};
+    ghost use Rattle.radical_layers.specs.Placing.{size_of};
+    ghost use Rattle.group_algebra.specs.Places.{AreSpots};
+
+    ghost Value = { List ℕ };
+
+    ghost view = { λ a. a.sizes.items };
+
+    ghost invariant = { λ a. AreSpots a.sizes.items (size_of a.sizes.items) a.starts.items a.spans.items };
+}
+
+/// Where the layer of a member starts, and its size.
+#[derive(Clone, Copy)]
+struct Spot {
+    start: usize,
+    span: usize,
+}
+
+fn spot_of(sizes: &[usize], member: usize) -> Spot
+    requires inside { member < size_of sizes.now }
+    requires few { size_of sizes.now ≤ 256 }
+    ensures start { result.start ≡ start_of sizes.now member }
+    ensures span { result.span ≡ span_of sizes.now member }
+{
+    let mut start = 0;
+    for s in sizes {
+        if member < start + *s {
+            return Spot { start, span: *s };
+        }
+        start += *s;
+    }
+    unreachable!()
+}
+
+impl Places {
+    /// The places by layers of these sizes, `count` in sum.
+    pub(crate) fn new(alloc: Global, sizes: Vec<usize>, count: usize) -> Result<Places, Memory>
+        requires sum { count ≡ size_of sizes.items }
+        requires few { count ≤ 256 }
+        ensures { IfOk result (λ a. a ≡ sizes.items) }
+    {
+        let mut starts = Vec::new(alloc);
+        let mut spans = Vec::new(alloc);
+        for k in 0..count {
+            let spot = spot_of(&sizes, k);
+            starts.push(spot.start)?;
+            spans.push(spot.span)?;
+        }
+        Ok(Places {
+            sizes,
+            starts,
+            spans,
+        })
+    }
+
+    /// How many layers there are.
+    pub(crate) fn layers(&self) -> usize
+        ensures { result ≡ length self.now }
+    {
+        self.sizes.len()
+    }
+
+    /// The size of layer i.
+    pub(crate) fn size(&self, i: usize) -> usize
+        requires { i < length self.now }
+        ensures { result ≡ slice_index self.now i }
+    {
+        self.sizes[i]
+    }
+
+    /// The place of a member in a block, of `rank` blocks.
+    pub(crate) fn place(&self, rank: usize, block: usize, member: usize) -> usize
+        requires block { block < rank }
+        requires member { member < size_of self.now }
+        requires small { size_of self.now * rank < 2 ^ 64 }
+        ensures value { result ≡ place_of self.now rank block member }
+        ensures inside { result < size_of self.now * rank }
+    {
+        let start = self.starts[member];
+        rank * start + block * self.spans[member] + (member - start)
+    }
+}
