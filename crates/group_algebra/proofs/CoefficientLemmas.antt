@@ -6,7 +6,7 @@ use Rattle.std.proofs.Math.Nat.{mod-lt}
 use Rattle.linear_algebra.specs.Modular.{IsCongruent, sum_below}
 use Rattle.linear_algebra.specs.Rows.{entry, IsRow}
 use Rattle.linear_algebra.proofs.Sums.{sum_below-same}
-use Rattle.linear_algebra.proofs.Congruences.{congruent_trans, congruent_eq, congruent_sym, congruent_add, congruent_refl, congruent_mod, congruent_cancel, to_congruent}
+use Rattle.linear_algebra.proofs.Congruences.{congruent_trans, congruent_eq, congruent_sym, congruent_add, congruent_mod, congruent_cancel, to_congruent}
 use Rattle.group_algebra.specs.Coefficients.{AreSumCoordinates}
 
 pub sum_below-first : (n : ℕ) (f : ℕ → ℕ) → sum_below (suc n) f ≡ f 0 + sum_below n (λ k. f (suc k))

@@ -4,17 +4,16 @@ use Rattle.std.proofs.lemmas.Bool.{cases_eq, cases_lt}
 use Rattle.std.proofs.lemmas.List.{get_or_push, get_or_append_left, get_or_past, length_push, append-nil}
 use mathlib.Core.Path.{subst}
 use Rattle.group_table.specs.Tables.{GroupTable, order}
-use Rattle.linear_algebra.specs.Modular.{IsSmallPrime}
 use Rattle.linear_algebra.specs.Rows.{IsMatrix, IsEchelon}
 use Rattle.linear_algebra.specs.Choices.{rows_at, IsGreedy}
 use Rattle.radical_layers.specs.Layers.{IsPowerList}
-use Rattle.radical_layers.specs.LayerBasis.{Layers, AreLayerLists, layers_of, layer_basis, layer_sizes, joined, sizes_from}
+use Rattle.radical_layers.specs.LayerBasis.{AreLayerLists, layers_of, layer_basis, layer_sizes, joined, sizes_from}
 use Rattle.radical_layers.proofs.LayerForm.{size-at-most}
 use Rattle.radical_layers.proofs.SameDimension.{echelon-independent}
 use Rattle.radical_layers.proofs.LayerLaws.{layer-claims}
 use Rattle.radical_layers.proofs.LayersExist.{layers-one, layers-of-lists}
 use Rattle.group_algebra.specs.PGroups.{IsPGroup, largest_residue, group}
-use Rattle.group_algebra.specs.Coordinates.{residues, field, prime_power, sum_coordinates, layers, layers_are, sizes}
+use Rattle.group_algebra.specs.Coordinates.{residues, field, prime_power, sum_coordinates, layers, layers_are}
 
 -- the member before the last one and the last one
 get-before : {A : Type 0} (xs : List A) (x d : A) (i : ℕ) → i < length xs → get_or (xs ++ x ∷ []) i d ≡ get_or xs i d
@@ -113,11 +112,18 @@ module _ (G : GroupTable) (h : IsPGroup G) where
         positions : (i : ℕ) → (i < length Es) ⊎ (length Es ≡ i)
             → IsGreedy (suc (largest_residue G)) (get_or (Es ++ E ∷ []) i []) (get_or ((Es ++ E ∷ []) ++ E' ∷ []) (suc i) []) (get_or (xs ++ x ∷ []) i [])
         positions i (inl l) =
-            rw (get-before Es E [] i l, get-before (Es ++ E ∷ []) E' [] (suc i) (let e : length (Es ++ E ∷ []) ≡ length Es + 1 = length_push Es E in omega (arith, e, l)),
-            get-before xs x [] i (let e = A.same_count in omega (arith, e, l))) (A.positions_are i l)
+            rw (
+              get-before Es E [] i l,
+              get-before (Es ++ E ∷ []) E' [] (suc i) (let e : length (Es ++ E ∷ []) ≡ length Es + 1 = length_push Es E in omega (arith, e, l)),
+              get-before xs x [] i (let e = A.same_count in omega (arith, e, l)),
+            ) (A.positions_are i l)
         positions i (inr e) =
-            rw (get_or_push Es E [] i e, get_or_push (Es ++ E ∷ []) E' [] (suc i) (length_push Es E ∙ (let z : length Es + 1 ≡ suc i = omega (arith, e) in z)),
-            get_or_push xs x [] i (A.same_count ∙ e), residues G h) g
+            rw (
+              get_or_push Es E [] i e,
+              get_or_push (Es ++ E ∷ []) E' [] (suc i) (length_push Es E ∙ (let z : length Es + 1 ≡ suc i = omega (arith, e) in z)),
+              get_or_push xs x [] i (A.same_count ∙ e),
+              residues G h,
+            ) g
 
     pub first-end : length E ≡ 0 → layers G h ≡ layers_of Es xs
     first-end none = layers-one (largest_residue G) (field G h) (group G h) (sum_coordinates G h) (layers G h) (layers_of Es xs) (layers_are G h)

@@ -1,26 +1,25 @@
 -- Layer coordinates: block by block, and under maps of the blocks.
-use Rattle.std.proofs.Common.{◌≡◌, ◌≢◌, ℕ, zero, suc, ◌+◌, ◌-◌, ◌*◌, ◌%◌, ◌<◌, ◌≤◌, ◌⊎◌, List, [], ◌∷◌, length, cond, ltb, inl, inr, arith, ap, ap₂, sym, ◌∙◌, refl}
+use Rattle.std.proofs.Common.{◌≡◌, ℕ, zero, suc, ◌+◌, ◌-◌, ◌*◌, ◌<◌, ◌≤◌, ◌⊎◌, List, [], ◌∷◌, length, inl, inr, arith, ap, ap₂, sym, ◌∙◌, refl}
 use Rattle.group_algebra.proofs.PlaceLemmas.{yes, otherwise}
 use Rattle.std.proofs.lemmas.Bool.{cases_lt}
-use Rattle.std.proofs.lemmas.Grind.{same_number_lists}
 use mathlib.Core.Path.{subst, fun_ext}
 use Rattle.group_table.specs.Tables.{GroupTable, order}
 use Rattle.linear_algebra.specs.Modular.{IsCongruent, sum_below}
-use Rattle.linear_algebra.specs.Rows.{entry, row, combination, IsRow, IsMatrix, IsCombination}
-use Rattle.linear_algebra.proofs.Congruences.{congruent_trans, congruent_eq, congruent_sym, congruent_add, congruent_refl, congruent_mul_left, same_below}
+use Rattle.linear_algebra.specs.Rows.{entry, IsRow, IsCombination}
+use Rattle.linear_algebra.proofs.Congruences.{congruent_trans, congruent_eq, congruent_sym, congruent_add, congruent_mul_left, same_below}
 use Rattle.group_modules.specs.Module.{Module, times, IsAdditive}
 use Rattle.group_modules.specs.Laws.{map-times}
 use Rattle.group_modules.specs.Field.{Below, residue, below-path}
 use Rattle.group_modules.specs.Sums.{below, total, map-total}
-use Rattle.group_modules.specs.Tables.{monoid, Table, times-at}
-use Rattle.radical_layers.specs.Placing.{Placing, place_of, size_of}
-use Rattle.radical_layers.specs.LayerBasis.{layer_basis, layer_sizes}
+use Rattle.group_modules.specs.Tables.{monoid}
+use Rattle.radical_layers.specs.Placing.{place_of, size_of}
+use Rattle.radical_layers.specs.LayerBasis.{layer_basis}
 use Rattle.radical_layers.proofs.Places.{placing, placing-place}
 use Rattle.radical_layers.proofs.BlockForm.{tab, length-tab, entry-tab}
-use Rattle.radical_layers.proofs.Bridge.{at-total, at-times, from-span, same-table}
+use Rattle.radical_layers.proofs.Bridge.{at-total, at-times, from-span}
 use Rattle.radical_layers.proofs.LayerForm.{basis-size, size, joined-matrix}
 use Rattle.group_algebra.specs.PGroups.{IsPGroup, largest_residue, group}
-use Rattle.group_algebra.specs.Coordinates.{residues, field, sum_coordinates, layers, layers_are, layer_claims, layer_coordinates, free_module, row_of, table_of, sizes, member}
+use Rattle.group_algebra.specs.Coordinates.{field, sum_coordinates, layers, layers_are, layer_claims, layer_coordinates, free_module, row_of, table_of, sizes, member}
 
 -- the places of one block
 pub place-one : (ss : List ℕ) (k : ℕ) → k < size_of ss → place_of ss 1 0 k ≡ k

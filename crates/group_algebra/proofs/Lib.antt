@@ -8,3 +8,4 @@ pub mod FirstLayers
 pub mod PlaceLemmas
 pub mod LayerRows
 pub mod GainLemmas
+pub mod LayerSizes

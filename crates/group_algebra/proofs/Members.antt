@@ -3,18 +3,17 @@ use Rattle.std.proofs.Common.{◌≡◌, ◌≢◌, ℕ, zero, suc, ◌+◌, ◌
 use Rattle.std.proofs.lemmas.Bool.{cases_eq}
 use Rattle.std.proofs.lemmas.Grind.{same_number_lists}
 use Rattle.std.proofs.Math.Nat.{mod-eq_of_lt, add-mod-mod}
-use mathlib.Core.Path.{subst, fun_ext}
-use Rattle.group_table.specs.Tables.{GroupTable, IsInverse, order, product}
+use mathlib.Core.Path.{subst}
+use Rattle.group_table.specs.Tables.{GroupTable, order}
 use Rattle.linear_algebra.specs.Modular.{IsCongruent, sum_below}
 use Rattle.linear_algebra.specs.Rows.{entry, add_multiple, IsRow}
-use Rattle.linear_algebra.proofs.Congruences.{congruent_trans, congruent_eq, congruent_sym, congruent_add, congruent_mod, congruent_refl, same_below}
+use Rattle.linear_algebra.proofs.Congruences.{congruent_trans, congruent_eq, congruent_sym, congruent_add, congruent_mod, same_below}
 use Rattle.linear_algebra.proofs.Reducing.{add_multiple_is_row}
 use Rattle.linear_algebra.proofs.RowLemmas.{entry-add_multiple}
 use Rattle.group_modules.specs.Module.{Module, Monoid, sub}
 use Rattle.group_modules.specs.Field.{Below, Fp, residue, below-path}
 use Rattle.group_modules.specs.Sums.{below, up, total, total-map}
-use Rattle.group_modules.specs.Tables.{Group, monoid, Table, inv-unique}
-use Rattle.group_modules.specs.Maps.{block-sum}
+use Rattle.group_modules.specs.Tables.{monoid, inv-unique}
 use Rattle.group_algebra.specs.PGroups.{IsPGroup, largest_residue, group}
 use Rattle.group_algebra.specs.Coordinates.{residues, sum_coordinates, sum_coordinates_are, free_module, AreCoefficients}
 use Rattle.group_algebra.specs.Coefficients.{AreSumCoordinates, IsTranslate}

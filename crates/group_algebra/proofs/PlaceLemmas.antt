@@ -1,11 +1,11 @@
 -- The places by layers of given sizes.
-use Rattle.std.proofs.Common.{◌≡◌, ℕ, suc, ◌+◌, ◌-◌, ◌*◌, ◌<◌, ◌≤◌, ◌⊎◌, List, [], ◌∷◌, cond, ltb, get_or, inl, inr, arith, ap, sym, ◌∙◌, refl}
+use Rattle.std.proofs.Common.{◌≡◌, ℕ, ◌+◌, ◌-◌, ◌*◌, ◌<◌, ◌≤◌, ◌⊎◌, List, [], ◌∷◌, cond, ltb, get_or, inl, inr, arith, ap, sym, ◌∙◌, refl}
 use Rattle.std.proofs.lemmas.Bool.{cases_lt}
 use Rattle.std.proofs.lemmas.Bool.Decides.{nat_tests}
 use Rattle.std.proofs.lemmas.List.{get_or_default}
 use mathlib.Core.Path.{subst}
 use Rattle.group_modules.specs.Field.{Below, below-path}
-use Rattle.radical_layers.specs.Placing.{Placing, place_of, size_of}
+use Rattle.radical_layers.specs.Placing.{place_of, size_of}
 use Rattle.radical_layers.proofs.Places.{placing, placing-place}
 use Rattle.group_algebra.specs.Places.{start_of, span_of, AreSpots}
 
@@ -55,8 +55,7 @@ pub place-found : (ss : List ℕ) (b i k : ℕ) (starts spans : List ℕ) (S P :
 place-found ss b i k starts spans S P A l m s p =
     let r : (b * start_of ss k + i * span_of ss k + (k - start_of ss k) ≡ place_of ss b i k) × (start_of ss k ≤ k) = place-is ss b i k m in
     let e : S ≡ start_of ss k = s ∙ get_or_default starts k S 0 (let c = A.start_count in omega (arith, c, m)) ∙ A.starts_are k m in
-    let f : P ≡ span_of ss k = p ∙ get_or_default spans k P 0 (let c = A.span_count in omega (arith, c, m)) ∙ A.spans_are k m in
-    (
+    let f : P ≡ span_of ss k = p ∙ get_or_default spans k P 0 (let c = A.span_count in omega (arith, c, m)) ∙ A.spans_are k m in (
       subst (λ x. x ≤ k) (sym e) r.1,
       ap (λ x. b * x + i * P + (k - x)) e ∙ ap (λ x. b * start_of ss k + i * x + (k - start_of ss k)) f ∙ r.0,
       place-inside-of ss b i k l m,

@@ -5,9 +5,9 @@ use Rattle.std.proofs.lemmas.List.{get_or_past}
 use mathlib.Core.Path.{subst}
 use Rattle.group_table.specs.Tables.{GroupTable, order}
 use Rattle.linear_algebra.specs.Modular.{IsCongruent, sum_below}
-use Rattle.linear_algebra.specs.Rows.{entry, row, combination, IsRow, IsInSpan, IsEchelonOf}
+use Rattle.linear_algebra.specs.Rows.{entry, row, IsRow, IsInSpan, IsEchelonOf}
 use Rattle.linear_algebra.specs.Kernels.{unit_row}
-use Rattle.linear_algebra.proofs.AugmentLemmas.{entry_unit_same, entry_unit_other, length-unit_row}
+use Rattle.linear_algebra.proofs.AugmentLemmas.{entry_unit_same, entry_unit_other}
 use Rattle.linear_algebra.proofs.Congruences.{congruent_trans, congruent_eq}
 use Rattle.linear_algebra.proofs.Spans.{in_span_trans}
 use Rattle.linear_algebra.proofs.Sums.{sum_below-one, sum_below-vanishes}

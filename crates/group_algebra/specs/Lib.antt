@@ -3,3 +3,4 @@ pub mod Coordinates
 pub mod Coefficients
 pub mod Places
 pub mod Gains
+pub mod Stores

@@ -1,6 +1,5 @@
 -- The layer of each member of the layer basis, from the sizes of the layers.
 use Rattle.std.specs.Prelude.{◌≡◌, ℕ, List, [], ◌∷◌, ◌+◌, ◌-◌, ◌<◌, length, slice_index, ltb, cond}
-use Rattle.radical_layers.specs.Placing.{size_of}
 
 -- the number of members before the layer of member k
 abbrev pub start_of : List ℕ → ℕ → ℕ

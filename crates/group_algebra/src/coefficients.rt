@@ -16,9 +16,7 @@ pub(crate) fn write_sum_coordinates(p: Prime, a: RowRef<'_>, out: &mut Row)
     requires same_length { length out.old.entries ≡ length (entries_of a) }
     requires some { 0 < length (entries_of a) }
     ensures prime { out.new.p ≡ out.old.p }
-    ensures coordinates {
-        AreSumCoordinates (prime_value p) (length (entries_of a.entry)) (entries_of a.entry) out.new.entries
-    }
+    ensures coordinates { AreSumCoordinates (prime_value p) (length (entries_of a.entry)) (entries_of a.entry) out.new.entries }
 {
     let m = p.value();
     let mut sum = 0u8;
@@ -38,9 +36,7 @@ pub(crate) fn write_coefficients(p: Prime, x: RowRef<'_>, out: &mut Row)
     requires same_length { length out.old.entries ≡ length (entries_of x) }
     requires some { 0 < length (entries_of x) }
     ensures prime { out.new.p ≡ out.old.p }
-    ensures coefficients {
-        AreSumCoordinates (prime_value p) (length (entries_of x.entry)) out.new.entries (entries_of x.entry)
-    }
+    ensures coefficients { AreSumCoordinates (prime_value p) (length (entries_of x.entry)) out.new.entries (entries_of x.entry) }
 {
     let m = p.value();
     let mut rest = 0u8;

@@ -12,15 +12,19 @@ use fp_rows::{Matrix, Row, RowRef};
 use group_table::Prime;
 
 /// Adds the combination of every step-th row, from the first on, with the coefficients c.
-pub(crate) fn add_combination(c: RowRef<'_>, rows: &Matrix, first: usize, step: usize, out: &mut Row)
+pub(crate) fn add_combination(
+    c: RowRef<'_>,
+    rows: &Matrix,
+    first: usize,
+    step: usize,
+    out: &mut Row,
+)
     requires primes { (modulus_of c ≡ out.old.p) × (rows.now.p ≡ out.old.p) }
     requires inside { (k : ℕ) → k < length (entries_of c) → first + k * step < length rows.now.rows }
     requires few { length rows.now.rows ≤ 65536 }
     requires same_width { length out.old.entries ≡ rows.now.width }
     ensures prime { out.new.p ≡ out.old.p }
-    ensures combination {
-        GainsCombination out.old.p (entries_of c.entry) (stepped rows.now.rows first step) out.old.entries out.new.entries
-    }
+    ensures combination { GainsCombination out.old.p (entries_of c.entry) (stepped rows.now.rows first step) out.old.entries out.new.entries }
 {
     prove!(out.len() == rows.width());
     for k in 0..c.len() {
@@ -29,7 +33,15 @@ pub(crate) fn add_combination(c: RowRef<'_>, rows: &Matrix, first: usize, step: 
 }
 
 /// Adds c times the row r of the group algebra to one block.
-fn add_to_block(p: Prime, places: &Places, rank: usize, block: usize, c: u8, r: RowRef<'_>, out: &mut Row)
+fn add_to_block(
+    p: Prime,
+    places: &Places,
+    rank: usize,
+    block: usize,
+    c: u8,
+    r: RowRef<'_>,
+    out: &mut Row,
+)
     requires prime { (prime_value p ≡ out.old.p) × (modulus_of r ≡ out.old.p) }
     requires block { block < rank }
     requires factor { c < prime_value p }
@@ -37,9 +49,7 @@ fn add_to_block(p: Prime, places: &Places, rank: usize, block: usize, c: u8, r: 
     requires length { length out.old.entries ≡ size_of places.now * rank }
     requires small { size_of places.now * rank < 2 ^ 64 }
     ensures prime { out.new.p ≡ out.old.p }
-    ensures gains {
-        BlockGains out.old.p places.now rank block (λ j. c * entry (entries_of r.entry) j) out.old.entries out.new.entries
-    }
+    ensures gains { BlockGains out.old.p places.now rank block (λ j. c * entry (entries_of r.entry) j) out.old.entries out.new.entries }
 {
     prove!(r.len() <= out.len());
     if c == 0 {
@@ -93,23 +103,36 @@ fn add_block_image(
     requires inside { (k : ℕ) → k < size_of places.now → images.first + k * images.step < length images.rows.now.rows }
     requires few { length images.rows.now.rows ≤ 65536 }
     ensures prime { out.new.p ≡ out.old.p }
-    ensures gains {
-        BlockGains out.old.p places.now rank block
+    ensures gains { BlockGains out.old.p places.now rank block
         (image_entry places.now rank (stepped images.entry.rows.now.rows images.entry.first images.entry.step) c (entries_of v.entry) block)
-        out.old.entries out.new.entries
-    }
+        out.old.entries out.new.entries }
 {
     prove!(out.len() == v.len());
     let p = images.rows.prime();
     for k in 0..images.rows.width() {
         let x = v.get(places.place(rank, block, k));
         let factor = c * x;
-        add_to_block(p, places, rank, block, factor % p.value(), images.image(k), out);
+        add_to_block(
+            p,
+            places,
+            rank,
+            block,
+            factor % p.value(),
+            images.image(k),
+            out,
+        );
     }
 }
 
 /// Adds c times the image of each block of v to that block.
-pub(crate) fn add_image(places: &Places, images: Images<'_>, rank: usize, c: u8, v: RowRef<'_>, out: &mut Row)
+pub(crate) fn add_image(
+    places: &Places,
+    images: Images<'_>,
+    rank: usize,
+    c: u8,
+    v: RowRef<'_>,
+    out: &mut Row,
+)
     requires primes { (modulus_of v ≡ out.old.p) × (images.rows.now.p ≡ out.old.p) }
     requires factor { c < out.old.p }
     requires lengths { (length (entries_of v) ≡ size_of places.now * rank) × (length out.old.entries ≡ size_of places.now * rank) }
@@ -118,10 +141,8 @@ pub(crate) fn add_image(places: &Places, images: Images<'_>, rank: usize, c: u8,
     requires inside { (k : ℕ) → k < size_of places.now → images.first + k * images.step < length images.rows.now.rows }
     requires few { length images.rows.now.rows ≤ 65536 }
     ensures prime { out.new.p ≡ out.old.p }
-    ensures gains {
-        GainsImage out.old.p places.now rank (stepped images.entry.rows.now.rows images.entry.first images.entry.step) c (entries_of v.entry)
-        out.old.entries out.new.entries
-    }
+    ensures gains { GainsImage out.old.p places.now rank (stepped images.entry.rows.now.rows images.entry.first images.entry.step) c (entries_of v.entry)
+        out.old.entries out.new.entries }
 {
     prove!(out.len() == v.len());
     if c == 0 {

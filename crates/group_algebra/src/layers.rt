@@ -34,6 +34,7 @@ fn push_layer(list: &Echelon, taken: &Positions, rows: &mut Matrix) -> Result<()
 
 /// The layer basis: layer i is the greedy complement of J^(i+1) in J^i.
 pub(crate) fn layer_basis(alloc: Global, group: &Group) -> Result<LayerBasis, Memory>
+    ensures group { IfOk result (λ b. IsPGroup group.now) }
     ensures prime { IfOk result (λ b. b.rows.p ≡ group.now.p) }
     ensures width { IfOk result (λ b. b.rows.width ≡ order group.now) }
     ensures sizes { IfOk result (λ b. (h : IsPGroup group.now) → b.sizes.items ≡ sizes group.now h) }

@@ -24,12 +24,10 @@ fn write_move(group: &Group, g: u16, a: RowRef<'_>, moved: &mut Row, out: &mut R
     requires same_length { (length moved.old.entries ≡ order group.now) × (length out.old.entries ≡ order group.now) }
     ensures primes { (moved.new.p ≡ moved.old.p) × (out.new.p ≡ out.old.p) }
     ensures lengths { (length moved.new.entries ≡ order group.now) × (length out.new.entries ≡ order group.now) }
-    ensures difference {
-        (h : IsPGroup group.now) (l : g < order group.now) (v : (free_module group.now h 1).of)
+    ensures difference { (h : IsPGroup group.now) (l : g < order group.now) (v : (free_module group.now h 1).of)
         → AreCoefficients group.now h (entries_of a.entry) v
         → out.new.entries
-        ≡ (sum_coordinates group.now h).row (sub (free_module group.now h 1) ((free_module group.now h 1).act (g, l) v) v)
-    }
+        ≡ (sum_coordinates group.now h).row (sub (free_module group.now h 1) ((free_module group.now h 1).act (g, l) v) v) }
 {
     let p = group.prime();
     write_translate(group, g, a, moved);
@@ -38,18 +36,22 @@ fn write_move(group: &Group, g: u16, a: RowRef<'_>, moved: &mut Row, out: &mut R
 }
 
 /// Appends the rows of (g - 1) v for the rows v of the list.
-fn push_moves(alloc: Global, group: &Group, g: u16, list: &Echelon, m: &mut Matrix) -> Result<(), Memory>
+fn push_moves(
+    alloc: Global,
+    group: &Group,
+    g: u16,
+    list: &Echelon,
+    m: &mut Matrix,
+) -> Result<(), Memory>
     requires element { g < order group.now }
     requires same_prime { (list.now.p ≡ group.now.p) × (m.old.p ≡ group.now.p) }
     requires same_width { (list.now.width ≡ order group.now) × (m.old.width ≡ order group.now) }
     ensures kept { OnOk result ((m.new.p ≡ m.old.p) × (m.new.width ≡ m.old.width)) }
-    ensures moves {
-        OnOk result (
-            (h : IsPGroup group.now) (l : g < order group.now)
-            → m.new.rows
-            ≡ m.old.rows
-            ++ map (move_row (group_of group.now h) (free_module group.now h 1) (sum_coordinates group.now h) (g, l)) list.now.rows)
-    }
+    ensures moves { OnOk result (
+        (h : IsPGroup group.now) (l : g < order group.now)
+        → m.new.rows
+        ≡ m.old.rows
+        ++ map (move_row (group_of group.now h) (free_module group.now h 1) (sum_coordinates group.now h) (g, l)) list.now.rows) }
 {
     let p = group.prime();
     let n = group.order() as usize;
@@ -69,11 +71,9 @@ fn all_moves(alloc: Global, group: &Group, list: &Echelon) -> Result<Matrix, Mem
     requires same_prime { list.now.p ≡ group.now.p }
     requires same_width { list.now.width ≡ order group.now }
     ensures kept { IfOk result (λ m. (m.p ≡ group.now.p) × (m.width ≡ order group.now)) }
-    ensures moves {
-        IfOk result (λ m.
-            (h : IsPGroup group.now)
-            → m.rows ≡ moves (group_of group.now h) (free_module group.now h 1) (sum_coordinates group.now h) list.now.rows)
-    }
+    ensures moves { IfOk result (λ m.
+        (h : IsPGroup group.now)
+        → m.rows ≡ moves (group_of group.now h) (free_module group.now h 1) (sum_coordinates group.now h) list.now.rows) }
 {
     let mut m = Matrix::new(alloc, group.prime(), list.width());
     let mut g = group.order();
@@ -89,12 +89,10 @@ pub(crate) fn next_power(alloc: Global, group: &Group, list: &Echelon) -> Result
     requires same_prime { list.now.p ≡ group.now.p }
     requires same_width { list.now.width ≡ order group.now }
     ensures kept { IfOk result (λ e. (e.p ≡ group.now.p) × (e.width ≡ order group.now)) }
-    ensures power {
-        IfOk result (λ e.
-            (h : IsPGroup group.now) (i : ℕ)
-            → IsPowerList (largest_residue group.now) (group_of group.now h) (sum_coordinates group.now h) i list.now.rows
-            → IsPowerList (largest_residue group.now) (group_of group.now h) (sum_coordinates group.now h) (suc i) e.rows)
-    }
+    ensures power { IfOk result (λ e.
+        (h : IsPGroup group.now) (i : ℕ)
+        → IsPowerList (largest_residue group.now) (group_of group.now h) (sum_coordinates group.now h) i list.now.rows
+        → IsPowerList (largest_residue group.now) (group_of group.now h) (sum_coordinates group.now h) (suc i) e.rows) }
 {
     let m = all_moves(alloc, group, list)?;
     echelon(alloc, &m)
@@ -103,11 +101,9 @@ pub(crate) fn next_power(alloc: Global, group: &Group, list: &Echelon) -> Result
 /// The list of the whole group algebra.
 pub(crate) fn whole_list(alloc: Global, group: &Group) -> Result<Echelon, Memory>
     ensures kept { IfOk result (λ e. (e.p ≡ group.now.p) × (e.width ≡ order group.now)) }
-    ensures power {
-        IfOk result (λ e.
-            (h : IsPGroup group.now)
-            → IsPowerList (largest_residue group.now) (group_of group.now h) (sum_coordinates group.now h) 0 e.rows)
-    }
+    ensures power { IfOk result (λ e.
+        (h : IsPGroup group.now)
+        → IsPowerList (largest_residue group.now) (group_of group.now h) (sum_coordinates group.now h) 0 e.rows) }
 {
     let p = group.prime();
     let n = group.order() as usize;

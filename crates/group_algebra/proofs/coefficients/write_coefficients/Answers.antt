@@ -1,4 +1,4 @@
-use Rattle.std.proofs.Common.{arith, ◌<◌, ◌≡◌, length, sym, ◌∙◌}
+use Rattle.std.proofs.Common.{arith, ◌≡◌, length}
 use Rattle.group_table.specs.Prime.{prime_value}
 use Rattle.fp_rows.specs.Refs.{entries_of}
 use Rattle.group_algebra.proofs.CoefficientLemmas.{coefficients-are}

@@ -1,9 +1,9 @@
-use Rattle.std.proofs.Common.{◌≡◌, ◌<◌, ◌+◌, ◌*◌, ◌%◌, ℕ, length, arith, ap, sym, ◌∙◌, refl}
+use Rattle.std.proofs.Common.{◌≡◌, ◌*◌, ◌%◌, ap, sym, ◌∙◌, refl}
 use Rattle.group_table.specs.Prime.{prime_value}
-use Rattle.linear_algebra.specs.Rows.{entry, IsRow}
-use Rattle.radical_layers.specs.Placing.{size_of, place_of}
+use Rattle.linear_algebra.specs.Rows.{entry}
+use Rattle.radical_layers.specs.Placing.{place_of}
 use Rattle.fp_rows.specs.Refs.{entries_of}
-use Rattle.group_algebra.specs.Gains.{stepped, BlockGains}
+use Rattle.group_algebra.specs.Gains.{stepped}
 use Rattle.group_algebra.proofs.GainLemmas.{gains-start, gains-next}
 use Rattle.group_algebra.proofs.combinations.add_block_image.Goals as goal
 
@@ -20,8 +20,7 @@ loop-k-init c = (
 pub loop-k-preserved : goal.loop-k-preserved
 loop-k-preserved c =
     let p : prime_value c.prime-p.result ≡ c.args.out.now.p = c.loop-k.invariant.0 in
-    let x : c.get-x.result ≡ entry (entries_of c.args.v) (place_of c.args.places.now c.args.rank c.args.block c.loop-k.k) = rw (c.get-x.ensures.value, c.place.ensures.value) in
-    (
+    let x : c.get-x.result ≡ entry (entries_of c.args.v) (place_of c.args.places.now c.args.rank c.args.block c.loop-k.k) = rw (c.get-x.ensures.value, c.place.ensures.value) in (
       p,
       c.add_to_block.ensures.prime ∙ c.loop-k.invariant.1,
       c.add_to_block.ensures.gains.is_row.length_is ∙ sym c.requires.lengths.1,

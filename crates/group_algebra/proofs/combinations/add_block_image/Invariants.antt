@@ -1,4 +1,4 @@
-use Rattle.std.proofs.Common.{◌≡◌, ◌≢◌, ◌<◌, ◌+◌, ◌*◌, ℕ, length}
+use Rattle.std.proofs.Common.{◌≡◌, ◌*◌, length}
 use Rattle.group_table.specs.Prime.{prime_value}
 use Rattle.linear_algebra.specs.Modular.{sum_below}
 use Rattle.linear_algebra.specs.Rows.{entry}
@@ -13,5 +13,5 @@ invariant-loop-k l =
     × (l.out.p ≡ l.fn.out.p)
     × (length l.out.entries ≡ length l.fn.out.entries)
     × BlockGains l.fn.out.p l.places l.rank l.block
-        (λ j. l.c * sum_below l.k (λ k. entry (entries_of l.v) (place_of l.places l.rank l.block k) * entry (stepped l.images.rows.now.rows l.images.first l.images.step k) j))
-        l.fn.out.entries l.out.entries
+    (λ j. l.c * sum_below l.k (λ k. entry (entries_of l.v) (place_of l.places l.rank l.block k) * entry (stepped l.images.rows.now.rows l.images.first l.images.step k) j))
+    l.fn.out.entries l.out.entries

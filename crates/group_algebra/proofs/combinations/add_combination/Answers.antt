@@ -1,4 +1,4 @@
-use Rattle.std.proofs.Common.{◌≡◌, ◌<◌, ◌+◌, ◌*◌, ℕ, length, arith, ap, sym, ◌∙◌}
+use Rattle.std.proofs.Common.{◌≡◌, ◌<◌, ◌*◌, length, arith, ap, ◌∙◌}
 use Rattle.linear_algebra.specs.Rows.{entry, IsRow}
 use Rattle.linear_algebra.proofs.Reducing.{add_multiple_is_row}
 use Rattle.fp_rows.specs.Refs.{entries_of}
@@ -9,9 +9,8 @@ use Rattle.group_algebra.proofs.combinations.add_combination.Goals as goal
 pub loop-k-preserved : goal.loop-k-preserved
 loop-k-preserved c =
     let r : IsRow c.args.out.now.p (length c.args.out.now.entries) (entries_of c.row.result)
-        = rw c.row.ensures.entries (rw (c.requires.primes.1, ← c.requires.same_width) at c.row.ensures.is_row) in
-    let some : 0 < c.args.out.now.p = let b = c.get.ensures.below in let e = c.requires.primes.0 in omega (arith, b, e) in
-    (
+    = rw c.row.ensures.entries (rw (c.requires.primes.1, ← c.requires.same_width) at c.row.ensures.is_row) in
+    let some : 0 < c.args.out.now.p = let b = c.get.ensures.below in let e = c.requires.primes.0 in omega (arith, b, e) in (
       ap (λ x. x.p) c.add.ensures ∙ c.loop-k.invariant.0,
       rw (c.add.ensures, c.loop-k.invariant.0) (add_multiple_is_row c.get.result c.loop-k.out.entries (entries_of c.row.result) some c.loop-k.invariant.1 r),
       rw (c.add.ensures, c.loop-k.invariant.0) (combination-next c.args.out.now.entries c.loop-k.out.entries (entries_of c.row.result)

@@ -1,8 +1,7 @@
-use Rattle.std.proofs.Common.{◌≡◌, ◌<◌, ◌+◌, ◌*◌, ◌%◌, ℕ, length, arith, ap, sym, ◌∙◌}
+use Rattle.std.proofs.Common.{◌≡◌, ◌<◌, ◌+◌, ◌*◌, ◌%◌, length, arith, ◌∙◌}
 use Rattle.std.proofs.Math.Nat.{mod-lt}
-use Rattle.group_table.specs.Prime.{prime_value}
 use Rattle.linear_algebra.specs.Modular.{IsCongruent}
-use Rattle.linear_algebra.specs.Rows.{entry, IsRow}
+use Rattle.linear_algebra.specs.Rows.{entry}
 use Rattle.linear_algebra.proofs.Congruences.{congruent_mod}
 use Rattle.radical_layers.specs.Placing.{size_of, place_of}
 use Rattle.fp_rows.specs.Refs.{entries_of}
@@ -18,10 +17,9 @@ loop-j-preserved c =
     let len : length c.loop-j.out.entries ≡ size_of c.args.places.now * c.args.rank = c.loop-j.invariant.1.length_is ∙ c.requires.length in
     let I = c.loop-j.invariant in
     let value : IsCongruent c.args.out.now.p ((c.get.result + c.args.c * c.get-in-loop-j.result) % c.value-m.result)
-        (entry c.loop-j.out.entries (place_of c.args.places.now c.args.rank c.args.block c.loop-j.j) + c.args.c * entry (entries_of c.args.r) c.loop-j.j)
-        = rw (m, c.get.ensures.value, c.get-in-loop-j.ensures.value, c.place-place.ensures.value) (congruent_mod _) in
-    rw (c.set.ensures, c.place-place.ensures.value)
-    (
+    (entry c.loop-j.out.entries (place_of c.args.places.now c.args.rank c.args.block c.loop-j.j) + c.args.c * entry (entries_of c.args.r) c.loop-j.j)
+    = rw (m, c.get.ensures.value, c.get-in-loop-j.ensures.value, c.place-place.ensures.value) (congruent_mod _) in
+    rw (c.set.ensures, c.place-place.ensures.value) (
       (c.loop-j.invariant.0.0, c.loop-j.invariant.0.1),
       set-row c.loop-j.out.entries (place_of c.args.places.now c.args.rank c.args.block c.loop-j.j) ((c.get.result + c.args.c * c.get-in-loop-j.result) % c.value-m.result) c.loop-j.invariant.1
           (rw c.requires.length (place-inside-of c.args.places.now c.args.rank c.args.block c.loop-j.j c.requires.block member))

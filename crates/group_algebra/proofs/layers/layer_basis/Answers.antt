@@ -1,4 +1,4 @@
-use Rattle.std.proofs.Common.{◌≡◌, ◌<◌, ◌≤◌, ◌++◌, ◌∷◌, [], ◌+◌, ◌^◌, ℕ, suc, List, length, arith, ap, sym, ◌∙◌, refl}
+use Rattle.std.proofs.Common.{◌≤◌, ◌++◌, ◌∷◌, [], ◌+◌, ℕ, List, length, arith, ap, sym, ◌∙◌, refl}
 use Rattle.group_table.specs.Tables.{order}
 use Rattle.linear_algebra.specs.Rows.{IsMatrix}
 use Rattle.linear_algebra.specs.Choices.{rows_at, IsGreedy}
@@ -6,9 +6,8 @@ use Rattle.std.proofs.lemmas.List.{length_push}
 use Rattle.linear_algebra.proofs.GreedyChoice.{greedy-below}
 use Rattle.radical_layers.specs.LayerBasis.{layer_basis as basis_rows, layer_sizes}
 use Rattle.group_algebra.specs.PGroups.{IsPGroup}
-use Rattle.group_algebra.specs.Coordinates.{layers, sizes}
 use Rattle.group_algebra.proofs.SmallPrimes.{p_group}
-use Rattle.group_algebra.proofs.FirstLayers.{AreFirstLayers, rows_of, sizes_of, first-start, first-next, first-end, first-shorter, few-rows, rows-next, sizes-next-of}
+use Rattle.group_algebra.proofs.FirstLayers.{AreFirstLayers, first-start, first-next, first-end, first-shorter, few-rows, rows-next, sizes-next-of}
 use Rattle.group_algebra.proofs.layers.layer_basis.Goals as goal
 
 pub loop-rows-init : goal.loop-rows-init
@@ -47,8 +46,7 @@ loop-rows-preserved c =
     let Es : List (List (List ℕ)) = c.loop-rows.invariant.3.0 in
     let xs : List (List ℕ) = c.loop-rows.invariant.3.1 in
     let E : List (List ℕ) = c.loop-rows.power.rows in
-    let x : List ℕ = c.in_ok-taken.taken in
-    (
+    let x : List ℕ = c.in_ok-taken.taken in (
       (ap (λ m. m.p) c.in_ok-push_layer.ensures ∙ c.loop-rows.invariant.0.0, ap (λ m. m.width) c.in_ok-push_layer.ensures ∙ c.loop-rows.invariant.0.1),
       c.in_ok-next.ensures.kept,
       c.loop-rows.invariant.2,
@@ -74,3 +72,6 @@ returns-clause-sizes c h = c.loop-rows.invariant.3.3 ∙ ap layer_sizes (sym (fi
 pub returns-clause-rows : goal.returns-clause-rows
 returns-clause-rows c h = c.loop-rows.invariant.3.2 ∙ ap basis_rows (sym (first-end c.args.group.now h c.loop-rows.invariant.3.0 c.loop-rows.invariant.3.1 c.loop-rows.power.rows (c.loop-rows.invariant.3.5 h)
     (omega (arith, c.rows-in-loop-rows.ensures.count, c.loop-rows-test.false))))
+
+pub returns-clause-group : goal.returns-clause-group
+returns-clause-group c = c.loop-rows.invariant.2

@@ -1,6 +1,5 @@
-use Rattle.std.proofs.Common.{◌≡◌, ◌<◌, ℕ, List, length}
-use Rattle.group_table.specs.Tables.{order, IsGroupTable}
-use Rattle.linear_algebra.specs.Modular.{IsSmallPrime}
+use Rattle.std.proofs.Common.{◌≡◌, ℕ, List, length}
+use Rattle.group_table.specs.Tables.{order}
 use Rattle.group_algebra.specs.PGroups.{IsPGroup}
 use Rattle.group_algebra.proofs.FirstLayers.{AreFirstLayers, rows_of, sizes_of}
 use Rattle.group_algebra.proofs.layers.layer_basis.Given as goal

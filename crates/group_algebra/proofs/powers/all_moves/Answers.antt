@@ -1,4 +1,4 @@
-use Rattle.std.proofs.Common.{◌≡◌, ◌≤◌, ◌<◌, ◌-◌, ◌++◌, ◌∷◌, [], ℕ, suc, arith, ap, sym, ◌∙◌}
+use Rattle.std.proofs.Common.{◌<◌, ◌-◌, arith, ap, ◌∙◌}
 use Rattle.group_table.specs.Tables.{order}
 use Rattle.group_algebra.proofs.PowerLemmas.{moves-start, moves-step, moves-end}
 use Rattle.group_algebra.proofs.powers.all_moves.Goals as goal

@@ -1,4 +1,4 @@
-use Rattle.std.proofs.Common.{◌≡◌, ◌≤◌, ◌++◌, ℕ}
+use Rattle.std.proofs.Common.{◌≡◌, ◌≤◌, ◌++◌}
 use Rattle.group_table.specs.Tables.{order}
 use Rattle.radical_layers.specs.Moves.{moves_by, moves}
 use Rattle.group_algebra.specs.PGroups.{IsPGroup, group}

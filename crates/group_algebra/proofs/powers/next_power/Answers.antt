@@ -1,4 +1,3 @@
-use Rattle.std.proofs.Common.{◌≡◌, ℕ}
 use Rattle.std.proofs.lemmas.Result.{IfOk-weaker}
 use Rattle.linear_algebra.specs.Rows.{IsEchelonOf}
 use Rattle.group_algebra.proofs.PowerLemmas.{next-is}

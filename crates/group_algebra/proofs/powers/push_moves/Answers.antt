@@ -1,11 +1,11 @@
-use Rattle.std.proofs.Common.{◌≡◌, ◌<◌, ◌++◌, ◌∷◌, [], ℕ, length, map, take, ap, ap₂, sym, ◌∙◌, arith}
+use Rattle.std.proofs.Common.{◌≡◌, ◌<◌, ◌++◌, ◌∷◌, [], length, map, take, ap, ◌∙◌, arith}
 use Rattle.std.proofs.Math.Seq.{take-length}
 use Rattle.group_table.specs.Prime.{prime_value}
 use Rattle.group_table.specs.Tables.{order}
 use Rattle.linear_algebra.specs.Rows.{row}
 use Rattle.radical_layers.specs.Moves.{move_row}
 use Rattle.fp_rows.specs.Refs.{entries_of}
-use Rattle.group_algebra.specs.PGroups.{IsPGroup, group as group_of}
+use Rattle.group_algebra.specs.PGroups.{group as group_of}
 use Rattle.group_algebra.specs.Coordinates.{free_module, sum_coordinates, AreCoefficients}
 use Rattle.group_algebra.specs.Coefficients.{AreSumCoordinates}
 use Rattle.group_algebra.proofs.ListLemmas.{pushed-image}
@@ -18,15 +18,14 @@ loop-i-preserved c =
     let inside : c.loop-i.i < length c.args.list.now.rows = omega (arith, c.rows-i-end.ensures.count, c.loop-i-test.true) in
     let len : length (entries_of c.row.result) ≡ order c.args.group.now = ap length c.row.ensures.entries ∙ c.row.ensures.is_row.length_is ∙ c.requires.same_width.0 in
     let S : AreSumCoordinates c.args.group.now.p (order c.args.group.now) c.write_coefficients.new.out.entries (row c.args.list.now.rows c.loop-i.i)
-        = rw (p, len, c.row.ensures.entries) at c.write_coefficients.ensures.coefficients in
-    (
+    = rw (p, len, c.row.ensures.entries) at c.write_coefficients.ensures.coefficients in (
       p,
       (c.write_coefficients.ensures.prime ∙ c.loop-i.invariant.1.0, c.write_move.ensures.primes.0 ∙ c.loop-i.invariant.1.1, c.write_move.ensures.primes.1 ∙ c.loop-i.invariant.1.2),
       (S.coefficients.length_is, c.write_move.ensures.lengths.0, c.write_move.ensures.lengths.1),
       (ap (λ m. m.p) c.in_ok-push.ensures.pushed ∙ c.loop-i.invariant.3.0, ap (λ m. m.width) c.in_ok-push.ensures.pushed ∙ c.loop-i.invariant.3.1),
       λ h b.
           let C : AreCoefficients c.args.group.now h (entries_of c.view.result) ((sum_coordinates c.args.group.now h).table (row c.args.list.now.rows c.loop-i.i))
-              = rw c.view.ensures.entries (coefficients-of c.args.group.now h c.write_coefficients.new.out.entries (row c.args.list.now.rows c.loop-i.i) S) in
+          = rw c.view.ensures.entries (coefficients-of c.args.group.now h c.write_coefficients.new.out.entries (row c.args.list.now.rows c.loop-i.i) S) in
           ap (λ m. m.rows) c.in_ok-push.ensures.pushed
           ∙ ap (λ rows. rows ++ entries_of c.view-in-loop-i.result ∷ []) (c.loop-i.invariant.4 h b)
           ∙ pushed-image c.args.m.now.rows (move_row (group_of c.args.group.now h) (free_module c.args.group.now h 1) (sum_coordinates c.args.group.now h) (c.args.g, b))

@@ -1,4 +1,4 @@
-use Rattle.std.proofs.Common.{◌≡◌, ◌<◌, ◌++◌, ℕ, length, map, take}
+use Rattle.std.proofs.Common.{◌≡◌, ◌<◌, ◌++◌, length, map, take}
 use Rattle.group_table.specs.Prime.{prime_value}
 use Rattle.group_table.specs.Tables.{order}
 use Rattle.radical_layers.specs.Moves.{move_row}

@@ -1,8 +1,8 @@
-use Rattle.std.proofs.Common.{◌≡◌, ◌<◌, ◌++◌, ◌∷◌, [], ◌+◌, ℕ, length, arith, ap, sym, ◌∙◌}
+use Rattle.std.proofs.Common.{◌≡◌, ◌<◌, ◌++◌, ◌∷◌, [], ◌+◌, length, arith, ap, ◌∙◌}
 use Rattle.std.proofs.lemmas.List.{length_push}
 use Rattle.std.proofs.lemmas.Result.{IfOk-weaker}
 use Rattle.group_table.specs.Tables.{order}
-use Rattle.linear_algebra.specs.Rows.{row, IsEchelonOf}
+use Rattle.linear_algebra.specs.Rows.{IsEchelonOf}
 use Rattle.linear_algebra.specs.Kernels.{unit_row}
 use Rattle.fp_rows.specs.Refs.{entries_of}
 use Rattle.group_algebra.proofs.ListLemmas.{unit-back, rows-pushed}
@@ -13,8 +13,7 @@ pub loop-i-preserved : goal.loop-i-preserved
 loop-i-preserved c =
     let inside : c.loop-i.i < order c.args.group.now = omega (arith, c.loop-i.invariant.2, c.loop-i-test.true) in
     let unit : entries_of c.view.result ≡ unit_row (order c.args.group.now) c.loop-i.i = rw (c.view.ensures.entries, c.set.ensures, c.loop-i.invariant.1.1) in
-    let rows : c.push.new.self.rows ≡ c.loop-i.m.rows ++ entries_of c.view.result ∷ [] = ap (λ m. m.rows) c.in_ok-push.ensures.pushed in
-    (
+    let rows : c.push.new.self.rows ≡ c.loop-i.m.rows ++ entries_of c.view.result ∷ [] = ap (λ m. m.rows) c.in_ok-push.ensures.pushed in (
       (ap (λ m. m.p) c.in_ok-push.ensures.pushed ∙ c.loop-i.invariant.0.0, ap (λ m. m.width) c.in_ok-push.ensures.pushed ∙ c.loop-i.invariant.0.1),
       (
         rw (c.set-in-loop-i.ensures, c.set.ensures) c.loop-i.invariant.1.0,

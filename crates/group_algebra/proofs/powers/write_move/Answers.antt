@@ -1,6 +1,5 @@
-use Rattle.std.proofs.Common.{◌≡◌, ◌-◌, ℕ, length, ap, sym, ◌∙◌, arith}
+use Rattle.std.proofs.Common.{◌≡◌, ◌-◌, length, ap, sym, ◌∙◌}
 use Rattle.group_table.specs.Tables.{order}
-use Rattle.group_table.specs.Prime.{prime_value}
 use Rattle.linear_algebra.specs.Rows.{add_multiple}
 use Rattle.linear_algebra.proofs.RowLemmas.{length-add_multiple}
 use Rattle.fp_rows.specs.Refs.{entries_of}

@@ -1,4 +1,3 @@
-use Rattle.std.proofs.Common.{◌≡◌}
 use Rattle.group_algebra.specs.Places.{AreSpots}
 use Rattle.group_algebra.proofs.places.Places.new.Given as goal
 
