@@ -1,6 +1,7 @@
 pub mod Bytes
 pub mod Canonical
 pub mod Cuts
+pub mod Examples
 pub mod Faults
 pub mod FromRelations
 pub mod Grammar
