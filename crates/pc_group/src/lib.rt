@@ -11,6 +11,8 @@ mod layer_tests;
 pub mod presentation;
 mod rounds;
 mod tables;
+#[cfg(test)]
+mod tests;
 mod word_numbers;
 
 pub use collection::collect;
