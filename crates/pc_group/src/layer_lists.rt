@@ -48,7 +48,8 @@ pub(crate) fn generator_list(
     requires some { 1 < prime }
     requires small { prime ^ (n - i) ≤ 256 }
     requires count { n ≤ 32 }
-    ensures { IfOk result (λ v. Each (λ j x. (i < j → x ≡ prime ^ (j - suc i)) × x < prime ^ (n - i)) (n + 1) v.items) }
+    ensures { IfOk result (λ v.
+        Each (λ j x. (i < j → x ≡ prime ^ (j - suc i)) × x < prime ^ (n - i)) (n + 1) v.items) }
 {
     let mut out = Vec::new(alloc);
     for j in 0..n + 1 {
@@ -61,7 +62,8 @@ pub(crate) fn generator_list(
 /// Each number over the divisor.
 pub(crate) fn scaled(alloc: Global, numbers: &[u16], divisor: usize) -> Result<Vec<u16>, Memory>
     requires { 0 < divisor }
-    ensures { IfOk result (λ v. Each (λ k x. x ≡ get_or numbers.now k 0 / divisor) (length numbers.now) v.items) }
+    ensures { IfOk result (λ v.
+        Each (λ k x. x ≡ get_or numbers.now k 0 / divisor) (length numbers.now) v.items) }
 {
     let mut out = Vec::new(alloc);
     for k in 0..numbers.len() {
@@ -91,7 +93,8 @@ pub(crate) fn element(
     requires gens_len { length gens.now ≡ n + 1 }
     requires commutators { AreBelow width commutators.now }
     requires commutators_len { length commutators.now ≡ (n + 1) * (n + 1) }
-    ensures value { i < j → result ≡ entry_of table.now width (get_or gens.now j 0) (get_or commutators.now (j * (n + 1) + i) 0) }
+    ensures value { i < j → result ≡
+        entry_of table.now width (get_or gens.now j 0) (get_or commutators.now (j * (n + 1) + i) 0) }
     ensures below { result < width }
 {
     if i < j {
@@ -125,7 +128,9 @@ pub(crate) fn element_list(
     requires gens_len { length gens.now ≡ n + 1 }
     requires commutators { AreBelow width commutators.now }
     requires commutators_len { length commutators.now ≡ (n + 1) * (n + 1) }
-    ensures { IfOk result (λ v. Each (λ j x. (i < j → x ≡ entry_of table.now width (get_or gens.now j 0) (get_or commutators.now (j * (n + 1) + i) 0)) × x < width) (n + 1) v.items) }
+    ensures { IfOk result (λ v. Each (λ j x. (i < j → x ≡
+        entry_of table.now width (get_or gens.now j 0) (get_or commutators.now (j * (n + 1) + i) 0))
+        × x < width) (n + 1) v.items) }
 {
     let mut out = Vec::new(alloc);
     for j in 0..n + 1 {
@@ -150,7 +155,10 @@ pub(crate) fn image_list(
     requires some { 0 < width }
     requires elements { AreBelow width elements.now }
     requires place { i < length elements.now }
-    ensures { IfOk result (λ v. Each (λ k x. (x ≡ ascending (entry_of table.now width) 0 (at elements.now) (i + 1) (word_of prime (length elements.now - (i + 1)) k)) × x < width) width v.items) }
+    ensures { IfOk result (λ v. Each (λ k x. (x ≡
+        ascending (entry_of table.now width) 0 (at elements.now) (i + 1)
+        (word_of prime (length elements.now - (i + 1)) k))
+        × x < width) width v.items) }
 {
     let mut out = Vec::new(alloc);
     for k in 0..width {

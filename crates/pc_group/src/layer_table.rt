@@ -24,7 +24,8 @@ pub(crate) fn product_entry(
     requires word { w < length images.now }
     requires row { a < prime * length images.now }
     requires column { b < prime * length images.now }
-    ensures value { result ≡ step_table prime (entry_of next.now (length images.now)) w (at images.now) a b }
+    ensures value { result ≡
+        step_table prime (entry_of next.now (length images.now)) w (at images.now) a b }
     ensures inside { result < prime * length images.now }
 {
     let width = images.len();
@@ -53,7 +54,9 @@ pub(crate) fn layer_table(
     requires small { prime * length images.now ≤ 256 }
     requires word { w < length images.now }
     ensures { let width = prime * length images.now in
-        IfOk result (λ v. HasEntries width (step_table prime (entry_of next.now (length images.now)) w (at images.now)) (width * width) v.items) }
+        IfOk result (λ v.
+        HasEntries width (step_table prime (entry_of next.now (length images.now)) w (at images.now))
+        (width * width) v.items) }
 {
     let width = prime * images.len();
     let mut out = Vec::new(alloc);

@@ -28,7 +28,8 @@ impl Layer<'_> {
     /// The first false power test.
     pub fn power_fault(&self) -> Option<TestName>
         requires { IsSound self.now }
-        ensures { (P : Presented) (m : ℕ) → IsLayerOf P m self.now → result ≡ first_false (power_tests P self.now.index m) }
+        ensures { (P : Presented) (m : ℕ) → IsLayerOf P m self.now →
+            result ≡ first_false (power_tests P self.now.index m) }
     {
         let width = self.images.len();
         for j in self.index + 1..self.gens + 1 {
@@ -74,7 +75,8 @@ impl Layer<'_> {
     /// The first false swap test.
     pub fn swap_fault(&self) -> Option<TestName>
         requires { IsSound self.now }
-        ensures { (P : Presented) (m : ℕ) → IsLayerOf P m self.now → result ≡ first_false (swap_tests P self.now.index m) }
+        ensures { (P : Presented) (m : ℕ) → IsLayerOf P m self.now →
+            result ≡ first_false (swap_tests P self.now.index m) }
     {
         for j in self.index + 1..self.gens + 1 {
             if let Some(name) = self.swap_row(j) {
@@ -87,7 +89,8 @@ impl Layer<'_> {
     /// The fixed test, if it is false.
     pub fn fixed_fault(&self) -> Option<TestName>
         requires { IsSound self.now }
-        ensures { (P : Presented) (m : ℕ) → IsLayerOf P m self.now → result ≡ first_false (fixed_tests P self.now.index m) }
+        ensures { (P : Presented) (m : ℕ) → IsLayerOf P m self.now →
+            result ≡ first_false (fixed_tests P self.now.index m) }
     {
         let w = self.powers[self.index];
         if self.images[w as usize] != w {
@@ -102,7 +105,8 @@ impl Layer<'_> {
     /// The first false twist test.
     pub fn twist_fault(&self) -> Option<TestName>
         requires { IsSound self.now }
-        ensures { (P : Presented) (m : ℕ) → IsLayerOf P m self.now → result ≡ first_false (twist_tests P self.now.index m) }
+        ensures { (P : Presented) (m : ℕ) → IsLayerOf P m self.now →
+            result ≡ first_false (twist_tests P self.now.index m) }
     {
         let width = self.images.len();
         let w = self.powers[self.index] as usize;

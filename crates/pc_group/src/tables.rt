@@ -60,7 +60,9 @@ pub(crate) fn digits_product(
     requires some { 0 < width }
     requires elements { AreBelow width elements.now }
     requires place { j ≤ length elements.now }
-    ensures value { result ≡ ascending (entry_of table.now width) 0 (at elements.now) j (word_of prime (length elements.now - j) k) }
+    ensures value { result ≡
+        ascending (entry_of table.now width) 0 (at elements.now) j
+        (word_of prime (length elements.now - j) k) }
     ensures inside { result < width }
 {
     if j < elements.len() {

@@ -71,7 +71,8 @@ pub(crate) fn power_numbers(alloc: Global, p: &Presentation) -> Result<Vec<u16>,
 /// The numbers of the words of [g_k, g_j], each at k (n + 1) + j.
 pub(crate) fn commutator_numbers(alloc: Global, p: &Presentation) -> Result<Vec<u16>, Memory>
     requires { p.now.prime ^ p.now.gens ≤ 256 }
-    ensures { let count = p.now.gens + 1 in IfOk result (λ v. Each (IsCommutatorNumber p.now) (count * count) v.items) }
+    ensures { let count = p.now.gens + 1 in
+        IfOk result (λ v. Each (IsCommutatorNumber p.now) (count * count) v.items) }
 {
     let count = p.gens() + 1;
     let mut out = Vec::new(alloc);
