@@ -6,6 +6,7 @@ mod mono;
 mod monos;
 mod poly;
 mod polys;
+mod sums;
 mod term;
 
 pub use gens::Gens;

@@ -2,6 +2,7 @@
 
 ghost use Rattle.std.specs.Prelude.{◌≡◌, ◌+◌, ◌<◌, ◌≤◌, [], ◌∷◌, ◌++◌, length, All, OnOk, OnErr, IfSome, IsNone, ◌↔◌, ◌==◌, slice_get, Some, option_map};
 
+use crate::sums::{add_at, find};
 use crate::term::Term;
 use crate::{Gens, Mono};
 use group_table::Memory;
@@ -28,7 +29,7 @@ impl Model for Poly {
 }
 
 impl Poly {
-    ghost use Rattle.gc_poly.specs.Polynomials.{AreStored, AreBelow};
+    ghost use Rattle.gc_poly.specs.Polynomials.{AreStored, AreBelow, IsOverGenerators, IsMonomialOf, IsSumOf};
 
     /// The polynomial 0 of a degree.
     pub fn zero(alloc: Global, degree: u32) -> Poly
@@ -83,5 +84,26 @@ impl Poly {
         } else {
             Some(self.mono(0))
         }
+    }
+
+    /// Adds c times m. c is below p, and m is a monomial of the polynomial's degree.
+    pub fn add_term(&mut self, gens: &Gens, c: u8, m: &Mono) -> Result<(), Memory>
+        requires over { IsOverGenerators gens.now self.old }
+        requires below { c < gens.now.prime }
+        requires monomial { IsMonomialOf gens.now self.old.degree m.now }
+        ensures ok { OnOk result (IsSumOf gens.now self.old.degree
+            (self.old.terms ++ record { scalar = c; monomial = m.now } ∷ []) self.new) }
+        ensures err { OnErr result (self.new ≡ self.old) }
+    {
+        match find(&self.terms, m) {
+            Ok(i) => add_at(gens.prime().value(), &mut self.terms, i, c),
+            Err(i) => {
+                if c != 0 {
+                    let monomial = m.try_clone(*self.terms.allocator())?;
+                    self.terms.insert(i, Term::new(c, monomial))?;
+                }
+            }
+        }
+        Ok(())
     }
 }
