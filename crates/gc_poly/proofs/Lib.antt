@@ -2,6 +2,9 @@ pub mod AddTerm
 pub mod Comparing
 pub mod Edits
 pub mod Finding
+pub mod Joining
 pub mod Places
+pub mod ProductLemmas
+pub mod SumLemmas
 pub mod Terms
 pub mod Trimming

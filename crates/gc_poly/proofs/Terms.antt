@@ -1,15 +1,15 @@
 -- The stored list of terms, edited by a call, is the polynomial with a term added.
-use Rattle.std.proofs.Common.{◌≡◌, ◌≢◌, ◌⊎◌, inl, inr, true, false, ◌+◌, ◌%◌, ◌-◌, ℕ, zero, suc, ◌<◌, ◌≤◌, List, [], ◌∷◌, ◌++◌, length, All, arith, ap, sym, ◌∙◌, refl}
-use Rattle.std.specs.Prelude.{slice_index_or, slice_set, insert, remove, AllPairs}
+use Rattle.std.proofs.Common.{◌≡◌, ◌≢◌, ◌⊎◌, inl, inr, true, false, ◌+◌, ◌%◌, ℕ, zero, suc, ◌<◌, ◌≤◌, List, [], ◌∷◌, ◌++◌, length, arith, ap, sym, ◌∙◌, refl}
+use Rattle.std.specs.Prelude.{slice_index_or, slice_set, insert, remove}
 use Rattle.graded_polynomials.specs.Polynomials.{Term, IsPolynomial, IsSame, coefficient}
 use Rattle.linear_algebra.specs.Modular.{IsCongruent}
 use Rattle.linear_algebra.proofs.Congruences.{congruent_eq}
 use Rattle.graded_polynomials.proofs.Terms.{each-map, coefficient-append}
 use Rattle.graded_polynomials.proofs.Exponents.{cases-greater}
 use Rattle.std.specs.List.{AllByRecursion as Each}
-use Rattle.std.proofs.lemmas.Bool.{cases_eq, cases_Bool}
+use Rattle.std.proofs.lemmas.Bool.{cases_Bool}
 use Rattle.std.proofs.lemmas.List.Elements.{All-from_recursion}
-use Rattle.graded_polynomials.specs.Monomials.{IsGreater, IsMonomial, IsTrimmed, same}
+use Rattle.graded_polynomials.specs.Monomials.{IsGreater, IsMonomial, same}
 use Rattle.gc_poly.specs.Polynomials.{AreStored}
 use Rattle.gc_poly.proofs.Edits.{put, change, erase}
 use Rattle.gc_poly.proofs.Places.{Above, At, IsAt, added-put, added-change, added-erase}

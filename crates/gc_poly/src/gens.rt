@@ -57,7 +57,8 @@ impl Gens {
 
     /// The number of generators.
     pub fn len(&self) -> usize
-        ensures { result ≡ length self.now.degrees }
+        ensures value { result ≡ length self.now.degrees }
+        ensures valid { AreOrdered self.now.degrees }
     {
         self.degrees.len()
     }
@@ -85,6 +86,16 @@ impl Gens {
         ensures { prime_value result ≡ self.now.prime }
     {
         self.prime
+    }
+
+    // The number p.
+    pub(crate) fn modulus(&self) -> u8
+        ensures value { result ≡ self.now.prime }
+        ensures low { 2 ≤ result }
+        ensures high { result ≤ 7 }
+        ensures valid { AreOrdered self.now.degrees }
+    {
+        self.prime.value()
     }
 
     /// The k of the name `x_d_k` of generator i: which one it is among those of its degree d, from 1.

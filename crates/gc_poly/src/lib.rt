@@ -6,6 +6,7 @@ mod mono;
 mod monos;
 mod poly;
 mod polys;
+mod products;
 mod sums;
 mod term;
 
@@ -14,3 +15,5 @@ pub use mono::Mono;
 pub use monos::Monos;
 pub use poly::Poly;
 pub use polys::Polys;
+pub use products::mul;
+pub use sums::{add, sub};

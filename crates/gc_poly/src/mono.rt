@@ -1,7 +1,7 @@
 //! Monomials.
 
-ghost use Rattle.std.specs.Prelude.{◌≡◌, ℕ, ◌<◌, ◌≤◌, ◌==◌, true, false, length, take, IfOk};
-ghost use Rattle.graded_polynomials.specs.Monomials.{exponent, IsTrimmed, IsGreater};
+ghost use Rattle.std.specs.Prelude.{◌≡◌, ℕ, ◌+◌, ◌<◌, ◌≤◌, ◌==◌, true, false, length, take, IfOk};
+ghost use Rattle.graded_polynomials.specs.Monomials.{exponent, joined, IsTrimmed, IsGreater};
 
 use group_table::Memory;
 use smallvec::SmallVec;
@@ -48,7 +48,8 @@ impl Mono {
 
     /// The length of the list of exponents.
     pub fn len(&self) -> usize
-        ensures { result ≡ length self.now }
+        ensures value { result ≡ length self.now }
+        ensures trimmed { IsTrimmed self.now }
     {
         self.exponents.len()
     }
@@ -73,6 +74,18 @@ impl Mono {
             }
         }
         false
+    }
+
+    // The monomial with the exponents added.
+    pub(crate) fn joined(&self, alloc: Global, other: &Mono) -> Result<Mono, Memory>
+        requires { (i : ℕ) → exponent self.now i + exponent other.now i ≤ 255 }
+        ensures { IfOk result (λ m. m ≡ joined self.now other.now) }
+    {
+        let mut exponents = SmallVec::new(alloc);
+        for i in 0..self.len().max(other.len()) {
+            exponents.push(self.exponent(i) + other.exponent(i))?;
+        }
+        Ok(Mono { exponents })
     }
 
     /// An equal monomial.

@@ -96,7 +96,7 @@ impl Poly {
         ensures err { OnErr result (self.new ≡ self.old) }
     {
         match find(&self.terms, m) {
-            Ok(i) => add_at(gens.prime().value(), &mut self.terms, i, c),
+            Ok(i) => add_at(gens.modulus(), &mut self.terms, i, c),
             Err(i) => {
                 if c != 0 {
                     let monomial = m.try_clone(*self.terms.allocator())?;

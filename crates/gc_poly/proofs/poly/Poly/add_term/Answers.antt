@@ -1,12 +1,11 @@
 -- The term at the monomial is changed or taken out, or a term is put in.
-use Rattle.std.proofs.Common.{◌∙◌}
 use Rattle.gc_poly.proofs.AddTerm.{sum-stored, changed-there, put-there, left-alone}
 use Rattle.gc_poly.proofs.poly.Poly.add_term.Goals as goal
 
 pub returns-in-Ok-clause-ok : goal.returns-in-Ok-clause-ok
 returns-in-Ok-clause-ok c =
     changed-there c.args.gens.now c.self.inside.degree c.self.inside.terms.items c.args.self.now c.self.view_is c.requires.over c.args.c c.requires.below c.args.m.now c.requires.monomial
-    c.value.result c.in-Ok.i (c.value.ensures ∙ c.prime.ensures) c.deref.result.now c.deref.ensures.value c.in-Ok.ensures.found.0 c.in-Ok.ensures.found.1
+    c.modulus.result c.in-Ok.i c.modulus.ensures.value c.deref.result.now c.deref.ensures.value c.in-Ok.ensures.found.0 c.in-Ok.ensures.found.1
     c.add_at.new.terms.items c.add_at.ensures.zero c.add_at.ensures.other
 
 pub invariant_of-self : goal.invariant_of-self
