@@ -30,7 +30,8 @@ impl Model for Gens {
 }
 
 impl Gens {
-    ghost use Rattle.gc_poly.specs.Generators.{AreOrdered};
+    ghost use Rattle.graded_polynomials.specs.Monomials.{is_exterior};
+    ghost use Rattle.gc_poly.specs.Generators.{AreOrdered, greatest};
 
     /// No generators yet.
     pub fn new(alloc: Global, p: Prime) -> Gens
@@ -86,6 +87,14 @@ impl Gens {
         ensures { prime_value result ≡ self.now.prime }
     {
         self.prime
+    }
+
+    // Whether generator i has odd degree, for odd p.
+    pub(crate) fn is_exterior(&self, i: usize) -> bool
+        requires { i < length self.now.degrees }
+        ensures { result ≡ is_exterior (greatest self.now) (slice_index self.now.degrees i) }
+    {
+        self.modulus() != 2 && self.degrees[i] % 2 == 1
     }
 
     // The number p.

@@ -1,6 +1,7 @@
 //! Graded commutative polynomials over a prime field, and their text.
 #![tactic(auto)]
 
+mod enumeration;
 mod gens;
 mod mono;
 mod monos;
@@ -10,6 +11,7 @@ mod products;
 mod sums;
 mod term;
 
+pub use enumeration::{count_monomials, monomials};
 pub use gens::Gens;
 pub use mono::Mono;
 pub use monos::Monos;
