@@ -4,6 +4,8 @@ pub mod Chain
 pub mod Seen
 pub mod Loads
 pub mod Replies
+pub mod OneTable
+pub mod Sizes
 pub mod Unique
 pub mod Usage
 pub mod Run

@@ -1,5 +1,5 @@
 -- The answers to commands, as the calls make them.
-use Rattle.std.proofs.Common.{◌≡◌, List, ℕ, Vec, String, Global, Bor, refl, ap, sym, subst}
+use Rattle.std.proofs.Common.{◌≡◌, List, ℕ, Vec, String, Global, Bor, refl, ap, sym, subst, inl}
 use Rattle.std.specs.declared.option.Option.{Option}
 use Rattle.std.specs.declared.result.Result.{Result}
 use Rattle.std.specs.declared.result.Result.TheVariants.{Ok, Err}
@@ -7,9 +7,10 @@ use Rattle.coho_io.specs.Content.{Content}
 use Rattle.power_commutator.specs.Presentations.{Presentation}
 use Rattle.coho_main.specs.declared.stop.Stop.{Stop}
 use Rattle.coho_main.specs.declared.stop.Stop.TheVariants as stop
-use Rattle.coho_main.specs.Steps.{Step, Gives}
+use Rattle.coho_main.specs.Steps.{Step, ◌>>=◌, Gives}
 use Rattle.coho_main.specs.Words.{Command, Group, texts}
-use Rattle.coho_main.specs.Outcome.{Ask, Load, Reply, Comes, group_lines}
+use Rattle.coho_main.specs.Outcome.{Ask, Load, Layers, Reply, Comes, group_lines}
+use Rattle.coho_main.specs.Layers.{AreLayerSizes}
 use Rattle.coho_main.specs.Stops.{Meets, Settles}
 use Rattle.coho_main.specs.Run.{OfFiles}
 use Rattle.coho_main.proofs.Chain.{after_ok, at_stop, settled_meets}
@@ -24,8 +25,11 @@ lines_of lines = texts lines.items
 abbrev itself : Presentation → Presentation
 itself P = P
 
-abbrev pub group_answer : Presentation → Step (List (List ℕ))
-group_answer P = Gives (group_lines P)
+abbrev pub group_answer : Presentation → List ℕ → Step (List (List ℕ))
+group_answer P dimensions = Gives (group_lines P dimensions)
+
+abbrev pub after_load : Presentation → Step (List (List ℕ))
+after_load P = Layers P >>= group_answer P
 
 -- a call met its step, over files that agree
 abbrev pub MeetsOf : {T A : Type 0} → (T → A) → Step A → Option Content → Result T Stop → Type 0
@@ -33,10 +37,11 @@ MeetsOf view step known r = OfFiles known (λ files. Meets view step files files
 
 module _ (known : Option Content) where
   pub group_stop : (path : List ℕ) (s : Stop) → MeetsOf itself (Load path) known (Err s) → MeetsOf lines_of (Reply (Group path)) known (Err s)
-  group_stop path s h = (h.0, h.1, at_stop itself lines_of (Load path) group_answer h.0 h.0 s h.2)
+  group_stop path s h = (h.0, h.1, at_stop itself lines_of (Load path) after_load h.0 h.0 s h.2)
 
-  pub group_then : (path : List ℕ) (P : Presentation) (lines : Lines) → MeetsOf itself (Load path) known (Ok P) → texts lines.items ≡ group_lines P → MeetsOf lines_of (Reply (Group path)) known (Ok lines)
-  group_then path P lines h e = (h.0, h.1, after_ok itself lines_of (Load path) group_answer h.0 h.0 h.0 P (Ok lines) h.2 (ap (λ ls. Ok ls) e, refl))
+  pub group_then : (path : List ℕ) (P : Presentation) (dimensions : List ℕ) (lines : Lines) → MeetsOf itself (Load path) known (Ok P) → AreLayerSizes P dimensions → texts lines.items ≡ group_lines P dimensions → MeetsOf lines_of (Reply (Group path)) known (Ok lines)
+  group_then path P dimensions lines h are e =
+      (h.0, h.1, after_ok itself lines_of (Load path) after_load h.0 h.0 h.0 P (Ok lines) h.2 (inl (dimensions, h.0, (are, refl), (ap (λ ls. Ok ls) e, refl))))
 
   -- a call that wants memory meets every step
   pub memory_meets : {T A : Type 0} (view : T → A) (step : Step A) (s : Stop) → s ≡ stop.Memory → MeetsOf view step known (Err s)

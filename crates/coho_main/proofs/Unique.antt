@@ -11,7 +11,9 @@ use Rattle.pc_text.specs.Faults.{Fault}
 use Rattle.pc_text.specs.Texts.{read}
 use Rattle.coho_main.specs.Steps.{Refusal, Step, ◌>>=◌, Gives, Refuses, OrRefuse, RefuseIf}
 use Rattle.coho_main.specs.Words.{Command, Group, command}
-use Rattle.coho_main.specs.Outcome.{Ask, ReadFront, FitLength, OrFault, Present, FitOrder, UnlessFalse, Describe, Load, Reply, Comes, group_lines, Ending, ending, Outcome}
+use Rattle.coho_main.specs.Outcome.{Ask, ReadFront, FitLength, OrFault, Present, FitOrder, UnlessFalse, Describe, Load, Layers, Reply, Comes, group_lines, Ending, ending, Outcome}
+use Rattle.coho_main.proofs.Replies.{after_load, group_answer}
+use Rattle.coho_main.proofs.OneTable.{one_sizes}
 
 -- no two ends of a step from the same files
 abbrev pub IsFunctional : {A : Type 0} → Step A → Type 0
@@ -64,8 +66,13 @@ describe text =
 load : (path : List ℕ) → IsFunctional (Load path)
 load path = then (ReadFront path) Describe (λ old. or_refuse _ _ old) describe
 
+layers : (P : Presentation) → IsFunctional (Layers P)
+layers P old new new' (Ok xs) (Ok ys) h k = (ap (λ d. Ok d) (one_sizes P xs ys h.0 k.0), h.1 ∙ sym k.1)
+layers P old new new' (Ok xs) (Err r) h k = absurd k
+layers P old new new' (Err r) end' h k = absurd h
+
 reply : (asked : Command) → IsFunctional (Reply asked)
-reply (Group path) = then (Load path) _ (load path) (λ P. gives (group_lines P))
+reply (Group path) = then (Load path) after_load (load path) (λ P. then (Layers P) (group_answer P) (layers P) (λ dimensions. gives (group_lines P dimensions)))
 
 comes : (words : List (List ℕ)) → IsFunctional (Comes words)
 comes words = then (Ask words) _ (or_refuse _ (command words)) reply

@@ -13,9 +13,9 @@ use Rattle.coho_main.specs.declared.status.Status.TheVariants as status
 use Rattle.coho_main.specs.Refusals.{words_refused}
 use Rattle.coho_main.specs.Steps.{Refusal, Step, ◌>>=◌, Gives, Refuses, OrRefuse, RefuseIf}
 use Rattle.coho_main.specs.Words.{Command, Group, command}
-use Rattle.coho_main.specs.Outcome.{ReadFront, FitLength, OrFault, Present, FitOrder, UnlessFalse, Describe, Load, Reply, Comes, group_lines}
+use Rattle.coho_main.specs.Outcome.{ReadFront, FitLength, OrFault, Present, FitOrder, UnlessFalse, Describe, Load, Layers, Reply, Comes, group_lines}
 use Rattle.coho_main.proofs.Loads.{after_length, after_present, after_order}
-use Rattle.coho_main.proofs.Replies.{group_answer}
+use Rattle.coho_main.proofs.Replies.{after_load, group_answer}
 
 -- no refusal of the step is one of the words
 abbrev KeepsWords : {A : Type 0} → Step A → Type 0
@@ -57,7 +57,7 @@ load : (path : List ℕ) → KeepsWords (Load path)
 load path = then (ReadFront path) Describe (λ old. or_refuse _ _ (λ e. cc) old) describe
 
 reply : (asked : Command) → KeepsWords (Reply asked)
-reply (Group path) = then (Load path) group_answer (load path) (λ P. gives (group_lines P))
+reply (Group path) = then (Load path) after_load (load path) (λ P. then (Layers P) (group_answer P) (λ old new r h e. h) (λ dimensions. gives (group_lines P dimensions)))
 
 refused_none : {A : Type 0} (q r : Refusal) (o : Option A) (old new : Content) → OrRefuse q o old (Err r) new → o ≡ None
 refused_none q r None old new h = refl

@@ -1,6 +1,7 @@
 pub mod Steps
 pub mod Words
 pub mod Refusals
+pub mod Layers
 pub mod Outcome
 pub mod Stops
 pub mod Reading

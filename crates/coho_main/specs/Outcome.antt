@@ -1,5 +1,5 @@
 -- What the words come to, over the files that there are.
-use Rattle.std.specs.Prelude.{◌≡◌, ℕ, ◌^◌, List, [], ◌∷◌, ◌++◌, length, take, codes, decimal, nat_lt}
+use Rattle.std.specs.Prelude.{◌≡◌, ℕ, ◌^◌, List, [], ◌∷◌, ◌++◌, length, take, codes, decimal, flat_map, nat_lt}
 use Rattle.std.specs.declared.option.Option.{Option}
 use Rattle.std.specs.declared.option.Option.TheVariants.{None, Some}
 use Rattle.std.specs.declared.result.Result.{Result}
@@ -16,6 +16,7 @@ use Rattle.coho_main.specs.declared.status.Status.TheVariants as status
 use Rattle.coho_main.specs.Steps.{Refusal, Step, ◌>>=◌, Gives, Refuses, OrRefuse, RefuseIf}
 use Rattle.coho_main.specs.Refusals.{words_refused, read_refused, length_refused, text_refused, order_refused, test_refused}
 use Rattle.coho_main.specs.Words.{Command, Group, command}
+use Rattle.coho_main.specs.Layers.{AreLayerSizes}
 
 -- the steps
 
@@ -69,24 +70,38 @@ Load path = do
   text ← ReadFront path
   Describe text
 
+-- the dimensions of the radical layers of the group algebra
+abbrev pub Layers : Presentation → Step (List ℕ)
+Layers P old (Ok dimensions) new = AreLayerSizes P dimensions × (new ≡ old)
+Layers P old (Err refusal) new = ⊥
+
 -- the answers
 
 -- a word, a number and an LF
 abbrev pub line : List ℕ → ℕ → List ℕ
 line word n = word ++ (decimal n ++ 10 ∷ [])
 
-abbrev pub group_lines : Presentation → List (List ℕ)
-group_lines P =
+abbrev pub after_space : ℕ → List ℕ
+after_space n = codes " " ++ decimal n
+
+-- the word layers, the numbers each after a space, and an LF
+abbrev pub layers_line : List ℕ → List ℕ
+layers_line dimensions = codes "layers" ++ (flat_map after_space dimensions ++ 10 ∷ [])
+
+abbrev pub group_lines : Presentation → List ℕ → List (List ℕ)
+group_lines P dimensions =
     line (codes "prime ") P.prime
     ∷ line (codes "gens ") P.gens
     ∷ line (codes "order ") (order P)
+    ∷ layers_line dimensions
     ∷ []
 
 -- the commands, step by step
 abbrev pub Reply : Command → Step (List (List ℕ))
 Reply (Group path) = do
   P ← Load path
-  Gives (group_lines P)
+  dimensions ← Layers P
+  Gives (group_lines P dimensions)
 
 abbrev pub Comes : List (List ℕ) → Step (List (List ℕ))
 Comes words = do

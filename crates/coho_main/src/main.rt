@@ -3,6 +3,7 @@
 
 mod answers;
 mod cause;
+mod layers;
 mod loading;
 mod reading;
 mod running;
@@ -16,6 +17,7 @@ mod writing;
 pub use answers::group_lines;
 pub use cause::Cause;
 use coho_io::{DiskFiles, StdSink};
+pub use layers::radical_dimensions;
 pub use loading::load;
 pub use reading::read_front;
 pub use running::{outcome_is_unique, run};

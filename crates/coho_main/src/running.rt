@@ -7,7 +7,7 @@ ghost use Rattle.coho_main.specs.Refusals.{read_refused, write_refused};
 ghost use Rattle.coho_main.specs.Stops.{Meets, HasReadCause};
 ghost use Rattle.coho_main.specs.Run.{OfFiles, IsSettled, MayWrite, Tells, EndsAs, AnswersFront, WroteFront, ToldFront, NoReadFault};
 
-use crate::{Status, Stop, group_lines, load, read_words, report, write_lines};
+use crate::{Status, Stop, group_lines, load, radical_dimensions, read_words, report, write_lines};
 use coho_io::{Files, Sink};
 use std::alloc::Global;
 
@@ -25,7 +25,8 @@ fn answer_group<'a, F: Files>(
         (HasReadCause (λ p. p ≡ path.now) (F.read_faults files.old) (F.read_faults files.new)) }
 {
     let consistent = load(alloc, files, path)?;
-    Ok(group_lines(alloc, &consistent)?)
+    let dimensions = radical_dimensions(alloc, &consistent)?;
+    Ok(group_lines(alloc, &consistent, &dimensions)?)
 }
 
 // The lines of the answer to the words.

@@ -3,6 +3,7 @@ ghost use Rattle.coho_main.specs.declared.stop.Stop.TheVariants.{Memory as WantO
 ghost use Rattle.coho_main.specs.Stops.{told};
 
 use crate::{Cause, Status};
+use group_table::Memory;
 use std::alloc::{AllocError, AllocFailed, Global};
 
 /// Where a run stops short of its answer.
@@ -30,6 +31,14 @@ impl<'a, T: Drop> From<AllocFailed<T>> for Stop<'a> {
     ghost from_gives = { λ _ s. s ≡ WantOfMemory };
 
     fn from(_: AllocFailed<T>) -> Self {
+        Stop::Memory
+    }
+}
+
+impl<'a> From<Memory> for Stop<'a> {
+    ghost from_gives = { λ _ s. s ≡ WantOfMemory };
+
+    fn from(_: Memory) -> Self {
         Stop::Memory
     }
 }

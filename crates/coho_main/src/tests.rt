@@ -26,12 +26,18 @@ fn run_words(alloc: Global, files: &mut MemFiles, texts: &[&str]) -> Result<Ende
 fn describes_groups(rt: HostRuntime) -> Result<(), Fail> {
     let quaternion = "pgroup 1\nprime 2\ngens 3\ng1^2 = g3\ng2^2 = g3\n[g2,g1] = g3\n";
     for (text, answer) in [
-        (quaternion, "prime 2\ngens 3\norder 8\n"),
-        ("pgroup 1\nprime 2\ngens 0\n", "prime 2\ngens 0\norder 1\n"),
-        ("pgroup 1\nprime 3\ngens 2\n", "prime 3\ngens 2\norder 9\n"),
+        (quaternion, "prime 2\ngens 3\norder 8\nlayers 1 2 2 2 1\n"),
         (
-            "pgroup 1\nprime 2\ngens 7\n",
-            "prime 2\ngens 7\norder 128\n",
+            "pgroup 1\nprime 2\ngens 0\n",
+            "prime 2\ngens 0\norder 1\nlayers 1\n",
+        ),
+        (
+            "pgroup 1\nprime 3\ngens 2\n",
+            "prime 3\ngens 2\norder 9\nlayers 1 2 3 2 1\n",
+        ),
+        (
+            "pgroup 1\nprime 2\ngens 4\n",
+            "prime 2\ngens 4\norder 16\nlayers 1 4 6 4 1\n",
         ),
     ] {
         let mut files = MemFiles::new(rt.alloc());

@@ -1,0 +1,36 @@
+ghost use Rattle.std.specs.Prelude.{◌≡◌, IfOk};
+ghost use Rattle.group_algebra.specs.PGroups.{IsPGroup};
+ghost use Rattle.group_algebra.specs.Coordinates.{sizes};
+ghost use Rattle.coho_main.specs.Layers.{IsTableOf, AreLayerSizes};
+
+use group_algebra::Algebra;
+use group_table::Memory;
+use pc_group::{Consistent, group_of};
+use std::alloc::{AllocError, Global};
+
+// The group algebra of a consistent presentation's group.
+fn algebra_of(alloc: Global, consistent: &Consistent) -> Result<Algebra, Memory>
+    ensures { IfOk result (IsTableOf consistent.now) }
+{
+    let group = group_of(alloc, consistent)?;
+    Algebra::build(alloc, &group)
+}
+
+// The sizes of the layers of the layer basis.
+fn layer_sizes(alloc: Global, algebra: &Algebra) -> Result<Vec<usize>, AllocError>
+    ensures { IfOk result (λ found. (h : IsPGroup algebra.now) → found.items ≡ sizes algebra.now h) }
+{
+    let mut found = Vec::new(alloc);
+    for i in 0..algebra.layers() {
+        found.push(algebra.layer_dim(i))?;
+    }
+    Ok(found)
+}
+
+/// The dimensions of the radical layers of the group algebra.
+pub fn radical_dimensions(alloc: Global, consistent: &Consistent) -> Result<Vec<usize>, Memory>
+    ensures { IfOk result (λ found. AreLayerSizes consistent.now found.items) }
+{
+    let algebra = algebra_of(alloc, consistent)?;
+    Ok(layer_sizes(alloc, &algebra)?)
+}
