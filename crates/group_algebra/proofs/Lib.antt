@@ -9,3 +9,6 @@ pub mod PlaceLemmas
 pub mod LayerRows
 pub mod GainLemmas
 pub mod LayerSizes
+pub mod ElementRows
+pub mod TableLemmas
+pub mod ImageLemmas

@@ -4,3 +4,4 @@ pub mod Coefficients
 pub mod Places
 pub mod Gains
 pub mod Stores
+pub mod Tables

@@ -6,11 +6,15 @@ ghost use Rattle.group_modules.specs.Maps.{block-sum};
 ghost use Rattle.radical_layers.specs.Placing.{place_of};
 ghost use Rattle.fp_rows.specs.Refs.{entries_of, modulus_of};
 ghost use Rattle.group_algebra.specs.PGroups.{IsPGroup, largest_residue, group as group_of};
-ghost use Rattle.group_algebra.specs.Coordinates.{layers, sizes, table_of};
+ghost use Rattle.group_algebra.specs.Coordinates.{free_module, layers, sizes, row_of, table_of, product_with, AreCoefficients};
 
+use crate::combinations::{Images, add_image};
 use crate::layers::layer_basis;
 use crate::places::Places;
-use fp_rows::RowRef;
+use crate::tables::{
+    element_rows, member_rows, product_rows, translate_rows, unit_preimages, write_combination,
+};
+use fp_rows::{Matrix, Row, RowRef};
 use group_table::{Group, Memory};
 use std::alloc::Global;
 use std::marker::Model;
@@ -22,6 +26,12 @@ use std::marker::Model;
 pub struct Algebra {
     group: Group,
     places: Places,
+    // The coefficients of the members of the layer basis, and the layer coordinates of the elements of the group.
+    members: Matrix,
+    elements: Matrix,
+    // The layer coordinates of g times member k at the position k n + g, and of member k times member l at k n + l.
+    translates: Matrix,
+    products: Matrix,
 }
 
 impl Model for Algebra {
@@ -32,7 +42,7 @@ impl Model for Algebra {
 
     ghost view = { λ a. a.group };
 
-    ghost invariant = { λ a. IsStore a.group a.places };
+    ghost invariant = { λ a. IsStore a.group a.places a.members a.elements a.translates a.products };
 }
 
 impl Algebra {
@@ -41,10 +51,19 @@ impl Algebra {
         ensures { IfOk result (λ a. a ≡ g.now) }
     {
         let basis = layer_basis(alloc, g)?;
+        let units = unit_preimages(alloc, g, &basis.rows)?;
+        let members = member_rows(alloc, g, &basis.rows)?;
+        let elements = element_rows(alloc, g, &units)?;
+        let translates = translate_rows(alloc, g, &members, &elements)?;
+        let products = product_rows(alloc, g, &members, &translates)?;
         let places = Places::new(alloc, basis.sizes, g.order() as usize)?;
         Ok(Algebra {
             group: g.try_clone(alloc)?,
             places,
+            members,
+            elements,
+            translates,
+            products,
         })
     }
 
@@ -95,5 +114,77 @@ impl Algebra {
     {
         let _ = &self.group;
         v.get(block)
+    }
+
+    /// Writes the layer coordinates of the member of kG with the coefficients a, by element number.
+    pub fn to_layers(&self, a: RowRef<'_>, out: &mut Row)
+        requires modulus { modulus_of a ≡ self.now.p }
+        requires prime { out.old.p ≡ self.now.p }
+        requires length { length (entries_of a) ≡ order self.now }
+        requires out_length { length out.old.entries ≡ order self.now }
+        ensures prime { out.new.p ≡ out.old.p }
+        ensures layers { (h : IsPGroup self.now) (v : (free_module self.now h 1).of) → AreCoefficients self.now h (entries_of a.entry) v
+            → out.new.entries ≡ row_of self.now h 1 v }
+    {
+        write_combination(a, &self.elements, 0, out);
+    }
+
+    /// Writes the coefficients, by element number, of the member of kG with the layer coordinates v.
+    pub fn from_layers(&self, v: RowRef<'_>, out: &mut Row)
+        requires modulus { modulus_of v ≡ self.now.p }
+        requires prime { out.old.p ≡ self.now.p }
+        requires length { length (entries_of v) ≡ order self.now }
+        requires out_length { length out.old.entries ≡ order self.now }
+        ensures prime { out.new.p ≡ out.old.p }
+        ensures coefficients { (h : IsPGroup self.now) → AreCoefficients self.now h out.new.entries (table_of self.now h 1 (entries_of v.entry)) }
+    {
+        write_combination(v, &self.members, 0, out);
+    }
+
+    /// Writes g v: the left action of an element of the group on a member of kG^rank.
+    pub fn act(&self, rank: usize, g: u16, v: RowRef<'_>, out: &mut Row)
+        requires element { g < order self.now }
+        requires modulus { modulus_of v ≡ self.now.p }
+        requires prime { out.old.p ≡ self.now.p }
+        requires length { length (entries_of v) ≡ order self.now * rank }
+        requires out_length { length out.old.entries ≡ order self.now * rank }
+        ensures prime { out.new.p ≡ out.old.p }
+        ensures moved { (h : IsPGroup self.now) (b : g < order self.now)
+            → out.new.entries
+            ≡ row_of self.now h rank ((free_module self.now h rank).act (g, b) (table_of self.now h rank (entries_of v.entry))) }
+    {
+        let images = Images {
+            rows: &self.translates,
+            first: g as usize,
+            step: self.group.order() as usize,
+        };
+        out.clear();
+        add_image(&self.places, images, rank, 1, v, out);
+    }
+
+    /// Adds a v: the product of a member of kG and one of kG^rank.
+    pub fn scale_add(&self, rank: usize, a: RowRef<'_>, v: RowRef<'_>, out: &mut Row)
+        requires moduli { (modulus_of a ≡ self.now.p) × (modulus_of v ≡ self.now.p) }
+        requires prime { out.old.p ≡ self.now.p }
+        requires factor_length { length (entries_of a) ≡ order self.now }
+        requires length { length (entries_of v) ≡ order self.now * rank }
+        requires out_length { length out.old.entries ≡ order self.now * rank }
+        ensures prime { out.new.p ≡ out.old.p }
+        ensures gained { (h : IsPGroup self.now)
+            → out.new.entries
+            ≡ row_of self.now h rank
+            ((free_module self.now h rank).add (table_of self.now h rank out.old.entries)
+            (product_with self.now h rank (table_of self.now h 1 (entries_of a.entry)) (table_of self.now h rank (entries_of v.entry)))) }
+    {
+        prove!(out.len() == v.len());
+        let n = self.group.order() as usize;
+        for k in 0..n {
+            let images = Images {
+                rows: &self.products,
+                first: k * n,
+                step: 1,
+            };
+            add_image(&self.places, images, rank, a.get(k), v, out);
+        }
     }
 }

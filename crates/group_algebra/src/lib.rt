@@ -7,5 +7,6 @@ mod combinations;
 mod layers;
 mod places;
 mod powers;
+mod tables;
 
 pub use algebra::Algebra;

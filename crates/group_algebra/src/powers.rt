@@ -2,7 +2,8 @@
 
 ghost use Rattle.std.specs.Prelude.{◌≡◌, ◌<◌, ◌++◌, ℕ, suc, List, length, map, OnOk, IfOk};
 ghost use Rattle.group_table.specs.Tables.{IsGroupTable, order};
-ghost use Rattle.linear_algebra.specs.Rows.{entry, IsRow, IsInSpan};
+ghost use Rattle.linear_algebra.specs.Kernels.{unit_row};
+ghost use Rattle.linear_algebra.specs.Rows.{row, entry, IsRow, IsInSpan};
 ghost use Rattle.group_modules.specs.Module.{sub};
 ghost use Rattle.radical_layers.specs.Layers.{IsPowerList};
 ghost use Rattle.radical_layers.specs.Moves.{move_row, moves};
@@ -98,8 +99,10 @@ pub(crate) fn next_power(alloc: Global, group: &Group, list: &Echelon) -> Result
     echelon(alloc, &m)
 }
 
-/// The list of the whole group algebra.
+/// The list of the whole group algebra: the unit rows.
 pub(crate) fn whole_list(alloc: Global, group: &Group) -> Result<Echelon, Memory>
+    ensures units { IfOk result (λ e.
+        (length e.rows ≡ order group.now) × ((k : ℕ) → k < order group.now → row e.rows k ≡ unit_row (order group.now) k)) }
     ensures kept { IfOk result (λ e. (e.p ≡ group.now.p) × (e.width ≡ order group.now)) }
     ensures power { IfOk result (λ e.
         (h : IsPGroup group.now)

@@ -104,7 +104,7 @@ module _ {n : ℕ} (q : ℕ) (F : IsFieldModulo (suc q)) (Γ : Group n) (K : Row
   pub basis-independent : Independent (suc q) (length B) (λ i j. entry (row B i) j)
   basis-independent = joined-independent (suc q) F Y.powers Y.positions A.positions_are smaller Y.count 0
 
-  basis-spans : (x : List ℕ) → IsRow (suc q) n x → IsInSpan (suc q) B (entry x)
+  pub basis-spans : (x : List ℕ) → IsRow (suc q) n x → IsInSpan (suc q) B (entry x)
   basis-spans x r = in_span_trans (joined-spans (suc q) F Y.powers Y.positions A.positions_are smaller Y.count 0 A.ends) ((A.powers_are 0).spans x (r, tt))
 
   pub basis-size : length B ≡ n

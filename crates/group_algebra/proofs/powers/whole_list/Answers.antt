@@ -6,7 +6,9 @@ use Rattle.linear_algebra.specs.Rows.{IsEchelonOf}
 use Rattle.linear_algebra.specs.Kernels.{unit_row}
 use Rattle.fp_rows.specs.Refs.{entries_of}
 use Rattle.group_algebra.proofs.ListLemmas.{unit-back, rows-pushed}
-use Rattle.group_algebra.proofs.PowerLemmas.{whole-is}
+use Rattle.group_algebra.proofs.PowerLemmas.{whole-is, units-one}
+use mathlib.Core.Path.{subst}
+use Rattle.fp_rows.proofs.Primes.{prime_above_one}
 use Rattle.group_algebra.proofs.powers.whole_list.Goals as goal
 
 pub loop-i-preserved : goal.loop-i-preserved
@@ -30,4 +32,15 @@ returns-clause-power c = IfOk-weaker c.echelon.result (λ e. IsEchelonOf c.loop-
     let end : c.loop-i.i ≡ order c.args.group.now = omega (arith, c.loop-i.invariant.2, c.loop-i-test.false, c.loop-i.auto.i-end) in
     whole-is c.args.group.now h c.loop-i.m.rows e.rows (c.loop-i.invariant.3 ∙ end) (rw end at c.loop-i.invariant.4)
     (rw (c.loop-i.invariant.0.0, c.loop-i.invariant.0.1) at E))
+    c.echelon.ensures.rows
+
+pub returns-clause-units : goal.returns-clause-units
+returns-clause-units c = IfOk-weaker c.echelon.result (λ e. IsEchelonOf c.loop-i.m.p c.loop-i.m.width c.loop-i.m.rows e.rows) _
+    (λ e E.
+    let end : c.loop-i.i ≡ order c.args.group.now = omega (arith, c.loop-i.invariant.2, c.loop-i-test.false, c.loop-i.auto.i-end) in
+    let count : length c.loop-i.m.rows ≡ order c.args.group.now = c.loop-i.invariant.3 ∙ end in
+    let above : 1 < c.args.group.now.p = subst (λ p. 1 < p) c.prime-p.ensures (prime_above_one c.prime-p.result) in
+    let same : e.rows ≡ c.loop-i.m.rows = units-one c.args.group.now.p (order c.args.group.now) c.loop-i.m.rows count (rw end at c.loop-i.invariant.4) above e.rows
+    (rw (c.loop-i.invariant.0.0, c.loop-i.invariant.0.1) at E) in
+    (ap length same ∙ count, rw same (rw end at c.loop-i.invariant.4)))
     c.echelon.ensures.rows

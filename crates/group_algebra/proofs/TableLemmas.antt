@@ -1,0 +1,115 @@
+-- The rows that an algebra keeps, one at a time.
+use Rattle.std.proofs.Common.{◌≡◌, ℕ, ◌+◌, ◌*◌, ◌/◌, ◌%◌, ◌<◌, ◌≤◌, ◌⊎◌, List, [], ◌∷◌, ◌++◌, length, replicate, inl, inr, suc, arith, ap, sym, ◌∙◌, refl}
+use Rattle.std.proofs.lemmas.Bool.{cases_lt}
+use Rattle.std.proofs.lemmas.List.{get_or_push, length_push}
+use Rattle.std.proofs.Math.Nat.{mul-le-mul_left, mul-le-mul_right, div-add-mod, mod-lt}
+use mathlib.Core.Path.{subst}
+use Rattle.group_table.specs.Tables.{GroupTable, order}
+use Rattle.linear_algebra.specs.Rows.{row, entry, IsInSpan, AreInSpan}
+use Rattle.linear_algebra.specs.Choices.{IsPreimage, ArePreimages}
+use Rattle.linear_algebra.specs.Kernels.{unit_row}
+use Rattle.linear_algebra.proofs.Spans.{row_before_push}
+use Rattle.group_modules.specs.Field.{Below}
+use Rattle.fp_rows.specs.Values.{MatrixValue}
+use Rattle.radical_layers.specs.LayerBasis.{layer_basis}
+use Rattle.radical_layers.proofs.LayerForm.{basis-spans}
+use Rattle.radical_layers.proofs.UnitRow.{unit-is-row}
+use Rattle.group_algebra.specs.PGroups.{IsPGroup, largest_residue, group}
+use Rattle.group_algebra.specs.Coordinates.{residues, field, sum_coordinates, layers, layers_are, free_module, row_of, member, AreCoefficients}
+use Rattle.group_algebra.specs.Coefficients.{AreSumCoordinates, IsTranslate}
+use Rattle.group_algebra.specs.Gains.{stepped, GainsCombination}
+use Rattle.group_algebra.specs.Tables.{HasShape, AreMembers, TakesSumsToLayers, IsElementRow, IsTranslateRow, IsProductRow, EachRow, element}
+use Rattle.group_algebra.proofs.Members.{translate-is}
+use Rattle.group_algebra.proofs.ElementRows.{one, layers-of-sums, element-coefficients, product-row, times-one-is}
+
+pub each-pushed : (P : ℕ → List ℕ → Type 0) (rows : List (List ℕ)) (x : List ℕ) → EachRow P rows → P (length rows) x → EachRow P (rows ++ x ∷ [])
+each-pushed P rows x h p i l = go (cases_lt i (length rows))
+  where
+    go : (i < length rows) ⊎ (length rows ≤ i) → P i (row (rows ++ x ∷ []) i)
+    go (inl m) = subst (P i) (sym (row_before_push rows x i m)) (h i m)
+    go (inr m) = let e : length rows ≡ i = (let c : length (rows ++ x ∷ []) ≡ length rows + 1 = length_push rows x in omega (arith, c, l, m)) in
+        subst (P i) (sym (get_or_push rows x [] i e)) (subst (λ k. P k x) e p)
+
+pub shape-pushed : (G : GroupTable) (k : ℕ) (m m' : MatrixValue) (x : List ℕ) → HasShape G k m → m' ≡ record m { rows = m.rows ++ x ∷ [] } → HasShape G (k + 1) m'
+shape-pushed G k m m' x H e = record {
+  prime = ap (λ y. y.p) e ∙ H.prime;
+  width = ap (λ y. y.width) e ∙ H.width;
+  rows = ap (λ y. length y.rows) e ∙ length_push m.rows x ∙ ap (λ y. y + 1) H.rows;
+}
+
+-- a position determines its two parts
+pub parts : (n k g k' g' : ℕ) → g < n → g' < n → k * n + g ≡ k' * n + g' → (k ≡ k') × (g ≡ g')
+parts n k g k' g' l l' e = go (cases_lt k k') (cases_lt k' k)
+  where
+    less : (a b c d : ℕ) → c < n → a < b → a * n + c < b * n + d
+    less a b c d m o = let z : (a + 1) * n ≤ b * n = mul-le-mul_right n (let y : a + 1 ≤ b = omega (arith, o) in y) in omega (arith, z, m)
+
+    go : (k < k') ⊎ (k' ≤ k) → (k' < k) ⊎ (k ≤ k') → (k ≡ k') × (g ≡ g')
+    go (inl m) h = absurd (let z : k * n + g < k' * n + g' = less k k' g g' l m in omega (arith, z, e))
+    go (inr m) (inl o) = absurd (let z : k' * n + g' < k * n + g = less k' k g' g l' o in omega (arith, z, e))
+    go (inr m) (inr o) = let z : k ≡ k' = omega (arith, m, o) in let y : k * n ≡ k' * n = ap (λ x. x * n) z in (z, omega (arith, y, e))
+
+-- the row and the column of a position
+pub split : (n i : ℕ) → 0 < n → i < n * n → (i ≡ i / n * n + i % n) × (i / n < n) × (i % n < n)
+split n i some l =
+    let e : n * (i / n) + i % n ≡ i = div-add-mod i n in
+    let m : i % n < n = mod-lt i some in
+    (omega (arith, e), below (cases_lt (i / n) n) e, m)
+  where
+    below : (i / n < n) ⊎ (n ≤ i / n) → n * (i / n) + i % n ≡ i → i / n < n
+    below (inl b) e = b
+    below (inr b) e = absurd (let z : n * n ≤ n * (i / n) = mul-le-mul_left n b in omega (arith, z, e, l))
+
+module _ (G : GroupTable) where
+  abbrev n : ℕ
+  n = order G
+
+  -- the members of the layer basis span the unit rows
+  pub units-in-span : (h : IsPGroup G) (B W : List (List ℕ)) → B ≡ layer_basis (layers G h) → length W ≡ n → ((k : ℕ) → k < n → row W k ≡ unit_row n k) → AreInSpan G.p B W
+  units-in-span h B W e len units i l =
+      let m : i < n = omega (arith, l, len) in
+      subst (λ E. IsInSpan G.p E (entry (row W i))) (sym e)
+      (subst (λ p. IsInSpan p (layer_basis (layers G h)) (entry (row W i))) (residues G h)
+      (subst (λ x. IsInSpan (suc (largest_residue G)) (layer_basis (layers G h)) (entry x)) (sym (units i m))
+      (basis-spans (largest_residue G) (field G h) (group G h) (sum_coordinates G h) (layers G h) (layers_are G h) (unit_row n i)
+      (unit-is-row (suc (largest_residue G)) n i (field G h).above_one m))))
+
+  pub sums-to-layers : (B W U none : List (List ℕ)) → ((h : IsPGroup G) → B ≡ layer_basis (layers G h)) → length W ≡ n → ((k : ℕ) → k < n → row W k ≡ unit_row n k)
+      → ArePreimages G.p B none W U → TakesSumsToLayers G U
+  sums-to-layers B W U none e len units P h v a s r A S C = layers-of-sums G h U W none a s r v len units
+      (λ i l. subst (λ E. IsPreimage G.p E none (row W i) (row U i)) (e h) (P.each i (let z : i < length W = omega (arith, l, len) in z))) A S C
+
+  pub element-row : (U : List (List ℕ)) (g : ℕ) (s r : List ℕ) → TakesSumsToLayers G U → AreSumCoordinates G.p n (unit_row n g) s
+      → GainsCombination G.p s (stepped U 0 1) (replicate n 0) r → IsElementRow G g r
+  element-row U g s r T S C h b e = T h (element G h b) (unit_row n g) s r
+      (subst (λ k. AreCoefficients G h (unit_row n k) (element G h b)) (sym e) (element-coefficients G h b)) S C
+
+  pub elements-at : (E : List (List ℕ)) → length E ≡ n → EachRow (IsElementRow G) E → (h : IsPGroup G) (g : Below n) → stepped E 0 1 g.0 ≡ row_of G h 1 ((free_module G h 1).act g (one G h))
+  elements-at E len H h g = ap (row E) (let z : 0 + g.0 * 1 ≡ g.0 = omega arith in z) ∙ H g.0 (let l : g.0 < n = g.1 in omega (arith, l, len)) h g refl
+
+  pub members-at : (rows : List (List ℕ)) → AreMembers G rows → (h : IsPGroup G) (k : ℕ) → k < n → AreCoefficients G h (stepped rows 0 1 k) (member G h k)
+  members-at rows A h k l = subst (λ i. AreCoefficients G h (row rows i) (member G h k)) (let z : k ≡ 0 + k * 1 = omega arith in z) (A h k l)
+
+  pub translate-row : (members E : List (List ℕ)) (i k g : ℕ) (t r : List ℕ) → AreMembers G members → length E ≡ n → EachRow (IsElementRow G) E
+      → i ≡ k * n + g → g < n → IsTranslate G g (row members k) t → GainsCombination G.p t (stepped E 0 1) (replicate n 0) r → IsTranslateRow G i r
+  translate-row members E i k g t r A len H e l T C h k' g' m d =
+      let b : g'.0 < n = g'.1 in
+      let s : (k ≡ k') × (g ≡ g'.0) = parts n k g k' g'.0 l b (sym e ∙ d) in
+      product-row G h t ((free_module G h 1).act g' (member G h k')) (one G h) (stepped E 0 1) r
+      (translate-is G h g' (row members k') t (member G h k')
+      (subst (λ x. IsTranslate G g'.0 (row members x) t) s.0 (subst (λ x. IsTranslate G x (row members k) t) s.1 T)) (A h k' m))
+      (elements-at E len H h) C
+      ∙ ap (row_of G h 1) (times-one-is G h ((free_module G h 1).act g' (member G h k')))
+
+  pub product-of-members : (members T : List (List ℕ)) (i k l : ℕ) (r : List ℕ) → AreMembers G members → length T ≡ n * n → EachRow (IsTranslateRow G) T
+      → i ≡ k * n + l → l < n → GainsCombination G.p (row members k) (stepped T (l * n) 1) (replicate n 0) r → IsProductRow G i r
+  product-of-members members T i k l r A len H e b C h k' l' m o d =
+      let s : (k ≡ k') × (l ≡ l') = parts n k l k' l' b o (sym e ∙ d) in
+      product-row G h (row members k') (member G h k') (member G h l') (stepped T (l' * n) 1) r (A h k' m) (λ g. at g)
+      (subst (λ x. GainsCombination G.p (row members k') (stepped T (x * n) 1) (replicate n 0) r) s.1
+      (subst (λ x. GainsCombination G.p (row members x) (stepped T (l * n) 1) (replicate n 0) r) s.0 C))
+    where
+      at : (g : Below n) → stepped T (l' * n) 1 g.0 ≡ row_of G h 1 ((free_module G h 1).act g (member G h l'))
+      at g = H (l' * n + g.0 * 1)
+          (let z : (l' + 1) * n ≤ n * n = mul-le-mul_right n (let y : l' + 1 ≤ n = omega (arith, o) in y) in let c : g.0 < n = g.1 in omega (arith, z, c, len))
+          h l' g o (let z : l' * n + g.0 * 1 ≡ l' * n + g.0 = omega arith in z)

@@ -1,0 +1,14 @@
+use Rattle.std.proofs.Common.{◌≡◌, length, replicate}
+use Rattle.group_table.specs.Prime.{prime_value}
+use Rattle.group_table.specs.Tables.{order}
+use Rattle.group_algebra.specs.Tables.{HasShape, IsElementRow, EachRow}
+use Rattle.group_algebra.proofs.tables.element_rows.Given as goal
+
+abbrev pub invariant-loop-g : goal.invariant-loop-g
+invariant-loop-g l =
+    ((prime_value l.p ≡ l.group.p) × (l.n ≡ order l.group))
+    × HasShape l.group l.g l.m
+    × ((l.a.p ≡ l.group.p) × (l.a.entries ≡ replicate (order l.group) 0))
+    × ((l.sums.p ≡ l.group.p) × (length l.sums.entries ≡ order l.group))
+    × ((l.out.p ≡ l.group.p) × (length l.out.entries ≡ order l.group))
+    × EachRow (IsElementRow l.group) l.m.rows

@@ -1,0 +1,11 @@
+use Rattle.std.proofs.Common.{◌≡◌, ◌≤◌, length}
+use Rattle.group_table.specs.Tables.{order}
+use Rattle.group_algebra.specs.Tables.{HasShape, IsProductRow, EachRow}
+use Rattle.group_algebra.proofs.tables.product_rows.Given as goal
+
+abbrev pub invariant-loop-i : goal.invariant-loop-i
+invariant-loop-i l =
+    ((l.n ≡ order l.group) × (l.n ≤ 256))
+    × HasShape l.group l.i l.m
+    × ((l.out.p ≡ l.group.p) × (length l.out.entries ≡ order l.group))
+    × EachRow (IsProductRow l.group) l.m.rows
