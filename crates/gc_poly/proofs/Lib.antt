@@ -12,3 +12,4 @@ pub mod ProductLemmas
 pub mod SumLemmas
 pub mod Terms
 pub mod Trimming
+pub mod Writing

@@ -10,6 +10,7 @@ mod polys;
 mod products;
 mod sums;
 mod term;
+mod text;
 
 pub use enumeration::{count_monomials, monomials};
 pub use gens::Gens;
@@ -19,3 +20,4 @@ pub use poly::Poly;
 pub use polys::Polys;
 pub use products::mul;
 pub use sums::{add, sub};
+pub use text::write_text;

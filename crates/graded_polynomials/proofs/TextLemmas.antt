@@ -3,13 +3,13 @@ use Rattle.std.proofs.Common.{◌≡◌, ◌≢◌, ℕ, List, [], ◌∷◌, �
 use Rattle.std.specs.Prelude.{codes}
 use Rattle.std.specs.Fmt.{digits}
 use Rattle.std.specs.List.{AllByRecursion as Each}
-use Rattle.graded_polynomials.specs.Texts.{joined_by, text}
+use Rattle.graded_polynomials.specs.Texts.{joined_by, polynomial_text}
 
-sample : text (1 ∷ 1 ∷ 2 ∷ []) (record { scalar = 2; monomial = 1 ∷ 1 ∷ [] } ∷ record { scalar = 1; monomial = 0 ∷ 0 ∷ 1 ∷ [] } ∷ []) ≡ codes "2*x_1_1*x_1_2+x_2_1"
+sample : polynomial_text (1 ∷ 1 ∷ 2 ∷ []) (record { scalar = 2; monomial = 1 ∷ 1 ∷ [] } ∷ record { scalar = 1; monomial = 0 ∷ 0 ∷ 1 ∷ [] } ∷ []) ≡ codes "2*x_1_1*x_1_2+x_2_1"
 unfolding digits
 sample = refl
 
-sample-power : text (1 ∷ 1 ∷ 2 ∷ []) (record { scalar = 1; monomial = 2 ∷ [] } ∷ []) ≡ codes "x_1_1^2"
+sample-power : polynomial_text (1 ∷ 1 ∷ 2 ∷ []) (record { scalar = 1; monomial = 2 ∷ [] } ∷ []) ≡ codes "x_1_1^2"
 unfolding digits
 sample-power = refl
 

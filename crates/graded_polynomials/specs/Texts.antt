@@ -40,9 +40,9 @@ pieces_text c (p ∷ ps) = joined_by star (cond (eqb c 1) (p ∷ ps) (decimal c 
 abbrev pub term_text : List ℕ → Term → List ℕ
 term_text ds t = pieces_text t.scalar (factor_texts ds 0 t.monomial)
 
-abbrev pub text : List ℕ → List Term → List ℕ
-text ds [] = codes "0"
-text ds (t ∷ f) = joined_by plus_sign (map (term_text ds) (t ∷ f))
+abbrev pub polynomial_text : List ℕ → List Term → List ℕ
+polynomial_text ds [] = codes "0"
+polynomial_text ds (t ∷ f) = joined_by plus_sign (map (term_text ds) (t ∷ f))
 
 -- a term as it is read: a numeral, and powers of generators in the order in which they stand
 pub record Factor : Type 0 where
