@@ -3,6 +3,7 @@
 ghost use Rattle.std.specs.Prelude.{◌≡◌, ◌+◌, ◌∷◌, ◌++◌, ◌<◌, ◌≤◌, [], length, ◌==◌, slice_index, All, OnOk, OnErr};
 ghost use Rattle.group_table.specs.Prime.{prime_value};
 ghost use Rattle.graded_polynomials.specs.Texts.{ordinal};
+ghost use Rattle.linear_algebra.specs.Modular.{IsSmallPrime};
 
 use group_table::{Memory, Prime};
 use std::alloc::Global;
@@ -84,7 +85,8 @@ impl Gens {
 
     /// The prime p.
     pub fn prime(&self) -> Prime
-        ensures { prime_value result ≡ self.now.prime }
+        ensures value { prime_value result ≡ self.now.prime }
+        ensures prime { IsSmallPrime self.now.prime }
     {
         self.prime
     }

@@ -21,3 +21,6 @@ pub use polys::Polys;
 pub use products::mul;
 pub use sums::{add, sub};
 pub use text::write_text;
+
+#[cfg(test)]
+mod tests;

@@ -1,0 +1,107 @@
+//! Values worked out by hand.
+
+ghost use Rattle.std.specs.Prelude.{◌≡◌, ◌≤◌, IfOk};
+ghost use Rattle.gc_poly.specs.Polynomials.{IsOverGenerators};
+
+use crate::{
+    Gens, Mono, Monos, Poly, Polys, add, count_monomials, monomials, mul, sub, write_text,
+};
+use group_table::{Memory, Prime};
+use std::alloc::Global;
+use std::test::Fail;
+
+// Generators of degrees 1, 1 and 2.
+fn small_gens(alloc: Global, p: Prime) -> Result<Gens, Memory> {
+    let mut gens = Gens::new(alloc, p);
+    gens.push(1)?;
+    gens.push(1)?;
+    gens.push(2)?;
+    Ok(gens)
+}
+
+// Monomial i of degree d as a polynomial, or 0 where there are fewer.
+fn monomial(alloc: Global, gens: &Gens, d: u32, i: usize) -> Result<Poly, Memory>
+    requires { d ≤ 24 }
+    ensures over { IfOk result (IsOverGenerators gens.now) }
+    ensures degree { IfOk result (λ f. f.degree ≡ d) }
+{
+    let _p = gens.prime();
+    let list = monomials(alloc, gens, d)?;
+    let mut f = Poly::zero(alloc, d);
+    if i < list.len() {
+        f.add_term(gens, 1, list.get(i))?;
+    }
+    Ok(f)
+}
+
+fn text_of(alloc: Global, gens: &Gens, f: &Poly) -> Result<String, Fail>
+    requires { IsOverGenerators gens.now f.now }
+{
+    let mut text = Vec::new(alloc);
+    write_text(gens, f, &mut text)?;
+    Ok(String::from_utf8(text)?)
+}
+
+#[test]
+fn monomials_of_degree_two(rt: HostRuntime) -> Result<(), Fail> {
+    let cases = [
+        (Prime::P2, ["x_1_1^2", "x_1_1*x_1_2", "x_1_2^2", "x_2_1"]),
+        (Prime::P3, ["x_1_1*x_1_2", "x_2_1", "0", "0"]),
+    ];
+    for (p, texts) in cases {
+        let gens = small_gens(rt.alloc(), p)?;
+        for (i, text) in texts.iter().enumerate() {
+            let f = monomial(rt.alloc(), &gens, 2, i)?;
+            assert_eq!(rt; text_of(rt.alloc(), &gens, &f)?.as_str(), *text);
+        }
+    }
+    Ok(())
+}
+
+#[test]
+fn products_and_sums(rt: HostRuntime) -> Result<(), Fail> {
+    let gens = small_gens(rt.alloc(), Prime::P3)?;
+    let x = monomial(rt.alloc(), &gens, 1, 0)?;
+    let y = monomial(rt.alloc(), &gens, 1, 1)?;
+    let yx = mul(rt.alloc(), &gens, &y, &x)?;
+    assert_eq!(rt; text_of(rt.alloc(), &gens, &yx)?.as_str(), "2*x_1_1*x_1_2");
+    let xx = mul(rt.alloc(), &gens, &x, &x)?;
+    assert_eq!(rt; text_of(rt.alloc(), &gens, &xx)?.as_str(), "0");
+    let sum = add(rt.alloc(), &gens, &x, &y)?;
+    assert_eq!(rt; text_of(rt.alloc(), &gens, &sum)?.as_str(), "x_1_1+x_1_2");
+    let difference = sub(rt.alloc(), &gens, &x, &y)?;
+    assert_eq!(rt;
+        text_of(rt.alloc(), &gens, &difference)?.as_str(),
+        "x_1_1+2*x_1_2"
+    );
+    Ok(())
+}
+
+#[test]
+fn numbers_of_monomials(rt: HostRuntime) -> Result<(), Fail> {
+    let mut gens = Gens::new(rt.alloc(), Prime::P2);
+    gens.push(1)?;
+    gens.push(1)?;
+    gens.push(1)?;
+    gens.push(1)?;
+    gens.push(4)?;
+    gens.push(4)?;
+    assert_eq!(rt; count_monomials(&gens, 19), 4844);
+    assert_eq!(rt; gens.number(3), 4);
+    assert_eq!(rt; gens.number(5), 2);
+    Ok(())
+}
+
+#[test]
+fn lists_of_monomials(rt: HostRuntime) -> Result<(), Fail> {
+    let gens = small_gens(rt.alloc(), Prime::P2)?;
+    let list = monomials(rt.alloc(), &gens, 2)?;
+    assert_eq!(rt; list.len(), 4);
+    let square = Mono::of(rt.alloc(), &[0, 2, 0])?;
+    assert_eq!(rt; list.position(&square), Some(2));
+    assert_eq!(rt; square.exponent(1), 2);
+    assert_eq!(rt; square.exponent(7), 0);
+    let absent = Mono::of(rt.alloc(), &[1])?;
+    assert_eq!(rt; list.position(&absent), None);
+    Ok(())
+}
