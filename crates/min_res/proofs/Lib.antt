@@ -1,0 +1,13 @@
+pub mod GeneratorMoves
+pub mod ProductLists
+pub mod StageLaws
+pub mod NextStage
+pub mod BlockSums
+pub mod AddZero
+pub mod PartialSums
+pub mod MoveRows
+pub mod MatrixRows
+pub mod FirstKernel
+pub mod StageAbove
+pub mod StageLists
+pub mod StageReadings

@@ -1,0 +1,10 @@
+use Rattle.std.proofs.Common.{◌≡◌, length}
+use Rattle.group_table.specs.Tables.{order}
+use Rattle.min_res.specs.Products.{AreProducts}
+use Rattle.min_res.proofs.generators.add_all.Given as goal
+
+abbrev pub invariant-loop-i : goal.invariant-loop-i
+invariant-loop-i l = record {
+  marks : length l.seen.items ≡ order l.group;
+  products : AreProducts l.group l.generators l.products.items l.seen.items;
+}

@@ -1,0 +1,10 @@
+use Rattle.std.proofs.Common.{◌≡◌, length}
+use Rattle.group_table.specs.Tables.{order}
+use Rattle.min_res.specs.Products.{AreProducts}
+use Rattle.min_res.proofs.generators.add_multiples.Given as goal
+
+abbrev pub invariant-loop-s : goal.invariant-loop-s
+invariant-loop-s l = record {
+  marks : length l.seen.items ≡ order l.group;
+  products : AreProducts l.group l.generators l.products.items l.seen.items;
+}

@@ -1,0 +1,8 @@
+pub mod Products
+pub mod Stages
+pub mod Values
+pub mod Defined
+pub mod RowMaps
+pub mod Shapes
+pub mod Refusals
+pub mod Stores

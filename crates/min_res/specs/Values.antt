@@ -1,0 +1,35 @@
+-- What contracts see of a stage and of a resolution.
+use Rattle.std.specs.Prelude.{ℕ, List, [], Option, unwrap_or}
+use Rattle.group_table.specs.Tables.{GroupTable}
+use Rattle.fp_rows.specs.Values.{MatrixValue}
+
+-- a boundary map and its section
+pub record BoundaryValue : Type 0 where
+  -- the reduced echelon list of the kernel before
+  pub source : MatrixValue
+  -- the places in it of the boundary's rows
+  pub positions : List ℕ
+  -- the rows, in layer coordinates, of the values of the boundary at the unit rows
+  pub matrix : MatrixValue
+  -- the section of each row of the source
+  pub sections : MatrixValue
+
+-- a stage: its degree, its rank, the reduced echelon list of its kernel, and its boundary in degrees above 0
+pub record StageValue : Type 0 where
+  pub degree : ℕ
+  pub rank : ℕ
+  pub kernel : MatrixValue
+  pub boundary : Option BoundaryValue
+
+-- no rows
+abbrev pub no_rows : MatrixValue
+no_rows = record { p = 0; width = 0; rows = [] }
+
+-- the boundary of a stage, and an empty one in degree 0
+abbrev pub boundary_of : StageValue → BoundaryValue
+boundary_of s = unwrap_or s.boundary (record { source = no_rows; positions = []; matrix = no_rows; sections = no_rows })
+
+-- the stages 0 to last of a group: that of a degree is IsStageAt of specs/Defined, so these two say all
+pub record ResolutionValue : Type 0 where
+  pub group : GroupTable
+  pub last : ℕ

@@ -1,0 +1,17 @@
+//! The minimal resolution of the field of p elements over the group algebra of a p-group, a stage at a time.
+#![tactic(auto)]
+
+mod boundary;
+mod combine;
+mod fault;
+mod first;
+mod generators;
+mod matrices;
+mod moves;
+mod next;
+mod resolution;
+mod stage;
+
+pub use fault::ResFault;
+pub use resolution::Resolution;
+pub use stage::Stage;

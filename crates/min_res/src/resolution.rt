@@ -1,0 +1,150 @@
+//! A minimal resolution, a stage at a time.
+
+ghost use Rattle.fp_rows.specs.Refs.{entries_of, modulus_of};
+ghost use Rattle.group_algebra.specs.PGroups.{IsPGroup};
+ghost use Rattle.group_table.specs.Tables.{order};
+ghost use Rattle.min_res.specs.Defined.{InK, IsExactMinimal, IsSectionOf, IsStageAt, σ};
+ghost use Rattle.min_res.specs.Refusals.{IsRefusal};
+ghost use Rattle.min_res.specs.Stages.{rank_of};
+ghost use Rattle.std.specs.Prelude.{◌≡◌, ◌≤◌, ◌<◌, ◌+◌, ◌-◌, ◌*◌, ◌^◌, ◌↔◌, suc, length, IfErr, IfOk, IfSome, IsNone, OnErr, OnOk};
+
+use crate::fault::ResFault;
+use crate::first::first_stage;
+use crate::generators::generators;
+use crate::next::next_stage;
+use crate::stage::Stage;
+use fp_rows::{Row, RowRef};
+use group_algebra::Algebra;
+use group_table::Memory;
+use std::alloc::Global;
+use std::marker::Model;
+use std::rc::Rc;
+
+/// The stages 0 to `last` of the minimal resolution of the field of p elements over the group algebra of a p-group.
+///
+/// It is seen as the group and the number `last`: the stage of each degree is that of the group, so a resolution that is extended keeps
+/// its algebra and all its stages, and what was made from it is made from the longer one.
+#[derive(Drop)]
+pub struct Resolution {
+    alloc: Global,
+    algebra: Algebra,
+    generators: Vec<u16>,
+    stages: Vec<Rc<Stage>>,
+}
+
+impl Model for Resolution {
+    ghost use Rattle.std.specs.Prelude.{◌-◌, length};
+    ghost use Rattle.min_res.specs.Values.{ResolutionValue};
+    ghost use Rattle.min_res.specs.Stores.{stage_values, IsResolutionStore};
+
+    ghost Value = { ResolutionValue };
+
+    ghost view = { λ r. record { group = r.algebra; last = length r.stages.items - 1 } };
+
+    ghost invariant = { λ r. IsResolutionStore r.algebra r.generators.items (stage_values r.stages.items) };
+}
+
+impl Resolution {
+    /// The resolution with the stage of degree 0 alone.
+    pub fn start(alloc: Global, a: Algebra) -> Result<Resolution, Memory>
+        ensures { IfOk result (λ r. r ≡ record { group = a; last = 0 }) }
+    {
+        let generators = generators(alloc, a.group())?;
+        let first = Rc::new(alloc, first_stage(alloc, &a)?)?;
+        let mut stages = Vec::new(alloc);
+        stages.push(first)?;
+        Ok(Resolution {
+            alloc,
+            algebra: a,
+            generators,
+            stages,
+        })
+    }
+
+    /// Adds the next stage. `TooLarge` comes exactly where the order of the group times its rank is above the limit. After an error the
+    /// resolution is as before.
+    pub fn extend(&mut self, limit: u64) -> Result<(), ResFault>
+        requires few { self.old.last + 1 < 2 ^ 32 }
+        requires limit { limit ≤ 2 ^ 28 }
+        ensures grown { OnOk result (self.new ≡ record self.old { last = suc self.old.last }) }
+        ensures within { OnOk result ((h : IsPGroup self.old.group) → order self.old.group * rank_of self.old.group h (suc self.old.last) ≤ limit) }
+        ensures refused { IfErr result (λ e. (h : IsPGroup self.old.group) → IsRefusal self.old.group h (suc self.old.last) limit e) }
+        ensures kept { OnErr result (self.new ≡ self.old) }
+
+        // What the new stage is, for a reader of this clause alone.
+        ensures exact_minimal { OnOk result ((h : IsPGroup self.old.group) → IsExactMinimal self.old.group h self.old.last) }
+        ensures section { OnOk result ((h : IsPGroup self.old.group) → IsSectionOf self.old.group h self.old.last) }
+    {
+        let stage = self.next(limit)?;
+        let shared = Rc::new(self.alloc, stage)?;
+        self.stages.push(shared)?;
+        Ok(())
+    }
+
+    // The stage after the last one.
+    fn next(&self, limit: u64) -> Result<Stage, ResFault>
+        requires few { self.now.last + 1 < 2 ^ 32 }
+        requires limit { limit ≤ 2 ^ 28 }
+        ensures stage { IfOk result (λ s. (h : IsPGroup self.now.group) → IsStageAt self.now.group h (suc self.now.last) s) }
+        ensures width { IfOk result (λ s. s.kernel.width ≤ limit) }
+        ensures refusal { IfErr result (λ e. (h : IsPGroup self.now.group) → IsRefusal self.now.group h (suc self.now.last) limit e) }
+    {
+        let _group = self.algebra.group();
+        let last = self.at(self.stages.len() - 1);
+        match next_stage(self.alloc, &self.algebra, &self.generators, last, limit) {
+            Ok(stage) => Ok(stage),
+            Err(fault) => Err(fault),
+        }
+    }
+
+    // The stage of degree d, which is at most `last`.
+    fn at(&self, d: usize) -> &Rc<Stage>
+        requires { d ≤ self.now.last }
+        ensures stage { (h : IsPGroup self.now.group) → IsStageAt self.now.group h d result.now.value }
+        ensures small { result.now.value.kernel.width ≤ 2 ^ 28 }
+    {
+        &self.stages[d]
+    }
+
+    /// The group algebra.
+    pub fn algebra(&self) -> &Algebra
+        ensures { result.now ≡ self.now.group }
+    {
+        &self.algebra
+    }
+
+    /// The degree of the last stage.
+    pub fn last(&self) -> u32
+        ensures { result ≡ self.now.last }
+    {
+        (self.stages.len() - 1) as u32
+    }
+
+    /// The stage of degree d, and `None` exactly where d is above `last`.
+    pub fn stage(&self, d: u32) -> Option<&Rc<Stage>>
+        ensures none { IsNone result ↔ (self.now.last < d) }
+        ensures stage { IfSome result (λ s. (h : IsPGroup self.now.group) → IsStageAt self.now.group h d s.now.value) }
+    {
+        if d <= self.last() {
+            Some(self.at(d as usize))
+        } else {
+            None
+        }
+    }
+
+    /// Writes the section of v, a member of K_(d-1), under the boundary of degree d, which is from 1 to `last`.
+    pub fn section(&self, d: u32, v: RowRef<'_>, out: &mut Row)
+        requires from { 1 ≤ d }
+        requires to { d ≤ self.now.last }
+        requires prime { modulus_of v ≡ self.now.group.p }
+        requires member { (h : IsPGroup self.now.group) → InK self.now.group h (d - 1) (entries_of v) }
+        requires out_prime { out.old.p ≡ self.now.group.p }
+        requires out_length { (h : IsPGroup self.now.group) → length out.old.entries ≡ order self.now.group * rank_of self.now.group h d }
+        ensures prime { out.new.p ≡ out.old.p }
+        ensures value { (h : IsPGroup self.now.group) → out.new.entries ≡ σ self.now.group h (d - 1) (entries_of v.entry) }
+    {
+        let _group = self.algebra.group();
+        let stage = self.at(d as usize);
+        stage.section(v, out);
+    }
+}
