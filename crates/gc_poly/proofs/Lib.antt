@@ -9,6 +9,7 @@ pub mod Joining
 pub mod Ordered
 pub mod Places
 pub mod ProductLemmas
+pub mod Substituting
 pub mod SumLemmas
 pub mod Terms
 pub mod Trimming

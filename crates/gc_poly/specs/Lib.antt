@@ -2,3 +2,4 @@ pub mod AllMonomials
 pub mod Generators
 pub mod Lists
 pub mod Polynomials
+pub mod Substitution

@@ -8,6 +8,7 @@ mod monos;
 mod poly;
 mod polys;
 mod products;
+mod substitution;
 mod sums;
 mod term;
 mod text;
@@ -19,6 +20,7 @@ pub use monos::Monos;
 pub use poly::Poly;
 pub use polys::Polys;
 pub use products::mul;
+pub use substitution::subst;
 pub use sums::{add, sub};
 pub use text::write_text;
 
