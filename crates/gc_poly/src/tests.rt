@@ -1,17 +1,20 @@
 //! Values worked out by hand.
 
-ghost use Rattle.std.specs.Prelude.{◌≡◌, ◌≤◌, IfOk};
+ghost use Rattle.std.specs.Prelude.{◌≡◌, ◌≤◌, [], ◌∷◌, IfOk};
+ghost use Rattle.group_table.specs.Prime.{prime_value};
 ghost use Rattle.gc_poly.specs.Polynomials.{IsOverGenerators};
 
 use crate::{
-    Gens, Mono, Monos, Poly, Polys, add, count_monomials, monomials, mul, sub, write_text,
+    Gens, Mono, Poly, Polys, add, count_monomials, monomials, mul, sub, subst, write_text,
 };
 use group_table::{Memory, Prime};
 use std::alloc::Global;
 use std::test::Fail;
 
 // Generators of degrees 1, 1 and 2.
-fn small_gens(alloc: Global, p: Prime) -> Result<Gens, Memory> {
+fn small_gens(alloc: Global, p: Prime) -> Result<Gens, Memory>
+    ensures { IfOk result (λ gens. gens.prime ≡ prime_value p) }
+{
     let mut gens = Gens::new(alloc, p);
     gens.push(1)?;
     gens.push(1)?;
@@ -103,5 +106,41 @@ fn lists_of_monomials(rt: HostRuntime) -> Result<(), Fail> {
     assert_eq!(rt; square.exponent(7), 0);
     let absent = Mono::of(rt.alloc(), &[1])?;
     assert_eq!(rt; list.position(&absent), None);
+    Ok(())
+}
+
+// The one generator of degree 1.
+fn one_gen(alloc: Global, p: Prime) -> Result<Gens, Memory>
+    ensures { IfOk result (λ gens. gens ≡ record { prime = prime_value p; degrees = 1 ∷ [] }) }
+{
+    let mut gens = Gens::new(alloc, p);
+    gens.push(1)?;
+    Ok(gens)
+}
+
+// The list of one polynomial.
+fn only(alloc: Global, f: Poly) -> Result<Polys, Memory>
+    ensures { IfOk result (λ fs. fs ≡ f ∷ []) }
+{
+    let mut list = Polys::new(alloc);
+    list.push(f)?;
+    Ok(list)
+}
+
+#[test]
+fn substitutions(rt: HostRuntime) -> Result<(), Fail> {
+    let from = one_gen(rt.alloc(), Prime::P2)?;
+    let to = small_gens(rt.alloc(), Prime::P2)?;
+    let square = monomial(rt.alloc(), &from, 2, 0)?;
+    let x = monomial(rt.alloc(), &to, 1, 0)?;
+    let y = monomial(rt.alloc(), &to, 1, 1)?;
+    let sum = add(rt.alloc(), &to, &x, &y)?;
+    let images = only(rt.alloc(), sum)?;
+    assert_eq!(rt; images.len(), 1);
+    let image = subst(rt.alloc(), &from, &to, &square, &images)?;
+    assert_eq!(rt;
+        text_of(rt.alloc(), &to, &image)?.as_str(),
+        "x_1_1^2+x_1_2^2"
+    );
     Ok(())
 }
