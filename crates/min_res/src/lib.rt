@@ -15,3 +15,6 @@ mod stage;
 pub use fault::ResFault;
 pub use resolution::Resolution;
 pub use stage::Stage;
+
+#[cfg(test)]
+mod tests;

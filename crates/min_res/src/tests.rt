@@ -1,0 +1,228 @@
+ghost use Rattle.std.specs.Prelude.{◌≡◌, ◌*◌, ◌<◌, All, IfOk, vec_len};
+
+use super::*;
+use fp_rows::{Row, RowRef};
+use group_algebra::Algebra;
+use group_table::{Group, Prime};
+use std::alloc::{AllocError, Global};
+use std::process::Abort;
+use std::test::Fail;
+
+// The words 1, a, b, ab, c, ac, bc, abc with a and b of order 2 and their commutator c.
+const DIHEDRAL: [u16; 64] = [
+    0, 1, 2, 3, 4, 5, 6, 7, //
+    1, 0, 3, 2, 5, 4, 7, 6, //
+    2, 7, 0, 5, 6, 3, 4, 1, //
+    3, 6, 1, 4, 7, 2, 5, 0, //
+    4, 5, 6, 7, 0, 1, 2, 3, //
+    5, 4, 7, 6, 1, 0, 3, 2, //
+    6, 3, 4, 1, 2, 7, 0, 5, //
+    7, 2, 5, 0, 3, 6, 1, 4, //
+];
+
+// The words 1, i, j, ij, -1, -i, -j, -ij.
+const QUATERNION: [u16; 64] = [
+    0, 1, 2, 3, 4, 5, 6, 7, //
+    1, 4, 3, 6, 5, 0, 7, 2, //
+    2, 7, 4, 1, 6, 3, 0, 5, //
+    3, 2, 5, 4, 7, 6, 1, 0, //
+    4, 5, 6, 7, 0, 1, 2, 3, //
+    5, 0, 7, 2, 1, 4, 3, 6, //
+    6, 3, 0, 5, 2, 7, 4, 1, //
+    7, 6, 1, 0, 3, 2, 5, 4, //
+];
+
+// The pairs of numbers modulo 3.
+const NINE: [u16; 81] = [
+    0, 1, 2, 3, 4, 5, 6, 7, 8, //
+    1, 2, 0, 4, 5, 3, 7, 8, 6, //
+    2, 0, 1, 5, 3, 4, 8, 6, 7, //
+    3, 4, 5, 6, 7, 8, 0, 1, 2, //
+    4, 5, 3, 7, 8, 6, 1, 2, 0, //
+    5, 3, 4, 8, 6, 7, 2, 0, 1, //
+    6, 7, 8, 0, 1, 2, 3, 4, 5, //
+    7, 8, 6, 1, 2, 0, 4, 5, 3, //
+    8, 6, 7, 2, 0, 1, 5, 3, 4, //
+];
+
+const KLEIN: [u16; 16] = [
+    0, 1, 2, 3, //
+    1, 0, 3, 2, //
+    2, 3, 0, 1, //
+    3, 2, 1, 0, //
+];
+
+fn table_of(
+    rt: &impl Abort,
+    alloc: Global,
+    order: u16,
+    entries: &[u16],
+) -> Result<Vec<u16>, AllocError>
+    ensures { IfOk result (λ table. (vec_len table ≡ order * order) × All (λ e. e < order) table.items) }
+{
+    assert_eq!(rt; entries.len(), order as usize * order as usize);
+    assert!(rt; entries.iter().all(|e| *e < order));
+    Vec::from_slice(alloc, entries)
+}
+
+fn resolved(
+    rt: &impl Abort,
+    alloc: Global,
+    group: &Group,
+    degree: u32,
+) -> Result<Resolution, Fail> {
+    let algebra = Algebra::build(alloc, group)?;
+    let mut resolution = Resolution::start(alloc, algebra)?;
+    for _d in 0..degree {
+        assert!(rt; resolution.last() < 24);
+        resolution.extend(4096)?;
+    }
+    Ok(resolution)
+}
+
+// Whether the stage has this rank and this dimension of its kernel.
+fn has_stage(resolution: &Resolution, d: u32, rank: usize, kernel: usize) -> bool {
+    match resolution.stage(d) {
+        Some(stage) => stage.degree() == d
+            && stage.rank() == rank
+            && stage.kernel().rows() == kernel,
+        None => false,
+    }
+}
+
+fn has_rank(resolution: &Resolution, d: u32, rank: usize) -> bool {
+    match resolution.stage(d) {
+        Some(stage) => stage.rank() == rank,
+        None => false,
+    }
+}
+
+// Whether row i of the boundary has this place in the list of the kernel before.
+fn has_position(resolution: &Resolution, d: u32, i: usize, position: u32) -> bool {
+    match resolution.stage(d) {
+        Some(stage) => stage.degree() > 0 && i < stage.rank() && stage.position(i) == position,
+        None => false,
+    }
+}
+
+fn shows(r: RowRef<'_>, entries: &[u8]) -> bool {
+    r.len() == entries.len() && (0..r.len()).all(|i| r.get(i) == entries[i])
+}
+
+#[test]
+fn resolves_the_dihedral_group(rt: HostRuntime) -> Result<(), Fail> {
+    let table = table_of(&rt, rt.alloc(), 8, &DIHEDRAL)?;
+    let group = Group::from_table(rt.alloc(), Prime::P2, 3, table)?;
+    let resolution = resolved(&rt, rt.alloc(), &group, 2)?;
+    for (d, rank, kernel) in [(0, 1, 7), (1, 2, 9), (2, 3, 15)] {
+        assert!(rt; has_stage(&resolution, d, rank, kernel), "at {d}");
+    }
+    for (d, i, position) in [(1, 0, 0), (1, 1, 1), (2, 0, 0), (2, 1, 1), (2, 2, 5)] {
+        assert!(rt; has_position(&resolution, d, i, position), "at {d}, {i}");
+    }
+    assert!(rt; resolution.stage(3).is_none());
+    Ok(())
+}
+
+#[test]
+fn resolves_the_trivial_group(rt: HostRuntime) -> Result<(), Fail> {
+    let table = table_of(&rt, rt.alloc(), 1, &[0])?;
+    let group = Group::from_table(rt.alloc(), Prime::P2, 0, table)?;
+    let resolution = resolved(&rt, rt.alloc(), &group, 1)?;
+    assert!(rt; has_stage(&resolution, 0, 1, 0));
+    assert!(rt; has_stage(&resolution, 1, 0, 0));
+    Ok(())
+}
+
+#[test]
+fn names_the_dimension_above_the_limit(rt: HostRuntime) -> Result<(), Fail> {
+    let table = table_of(&rt, rt.alloc(), 4, &KLEIN)?;
+    let group = Group::from_table(rt.alloc(), Prime::P2, 2, table)?;
+    let mut resolution = resolved(&rt, rt.alloc(), &group, 0)?;
+    assert_eq!(rt; resolution.last(), 0);
+    assert!(rt; resolution.extend(10).is_ok());
+    assert_eq!(rt; resolution.last(), 1);
+    let fault = resolution.extend(10).err();
+    assert_eq!(rt;
+        fault,
+        Some(ResFault::TooLarge {
+            degree: 2,
+            dimension: 12
+        })
+    );
+    assert_eq!(rt; resolution.last(), 1);
+    assert!(rt; resolution.extend(12).is_ok());
+    Ok(())
+}
+
+#[test]
+fn has_the_ranks_of_the_quaternion_group(rt: HostRuntime) -> Result<(), Fail> {
+    let table = table_of(&rt, rt.alloc(), 8, &QUATERNION)?;
+    let group = Group::from_table(rt.alloc(), Prime::P2, 3, table)?;
+    let resolution = resolved(&rt, rt.alloc(), &group, 6)?;
+    for (d, rank) in [(0, 1), (1, 2), (2, 2), (3, 1), (4, 1), (5, 2), (6, 2)] {
+        assert!(rt; has_rank(&resolution, d, rank), "at {d}");
+    }
+    Ok(())
+}
+
+#[test]
+fn has_the_ranks_of_an_elementary_group(rt: HostRuntime) -> Result<(), Fail> {
+    let table = table_of(&rt, rt.alloc(), 9, &NINE)?;
+    let group = Group::from_table(rt.alloc(), Prime::P3, 2, table)?;
+    let resolution = resolved(&rt, rt.alloc(), &group, 4)?;
+    for (d, rank) in [(0, 1), (1, 2), (2, 3), (3, 4), (4, 5)] {
+        assert!(rt; has_rank(&resolution, d, rank), "at {d}");
+    }
+    Ok(())
+}
+
+// The boundary of degree 1 of the group of two elements takes 1 to g - 1, and g - 1 to 0; in the basis 1, g - 1.
+#[test]
+fn reads_the_stage_of_two_elements(rt: HostRuntime) -> Result<(), Fail> {
+    let table = table_of(&rt, rt.alloc(), 2, &[0, 1, 1, 0])?;
+    let group = Group::from_table(rt.alloc(), Prime::P2, 1, table)?;
+    let resolution = resolved(&rt, rt.alloc(), &group, 2)?;
+    assert!(rt; has_stage(&resolution, 2, 1, 1));
+    let stage = resolution.stage(1).ok_or("no stage")?;
+    let source = stage.source().ok_or("no source")?;
+    assert!(rt; stage.degree() > 0 && stage.rank() == 1 && source.rows() == 1);
+    assert!(rt; shows(source.row(0), &[0, 1]));
+    assert!(rt; stage.degree() > 0 && stage.rank() > 0);
+    assert!(rt; shows(stage.image(0), &[0, 1]));
+    assert!(rt; stage.degree() > 0 && source.rows() > 0);
+    assert!(rt; shows(stage.section_row(0), &[1, 0]));
+    Ok(())
+}
+
+// Writes the boundary of the first unit row, and the section of that.
+fn there_and_back(alloc: Global, stage: &Stage) -> Result<Option<(Row, Row)>, Fail> {
+    let Some(source) = stage.source() else {
+        return Ok(None);
+    };
+    let prime = stage.kernel().prime();
+    let mut value = Row::zero(alloc, prime, source.width())?;
+    let mut unit = Row::zero(alloc, prime, stage.kernel().width())?;
+    if unit.len() == 0 || stage.degree() == 0 || prime.value() < 2 {
+        return Ok(None);
+    }
+    unit.set(0, 1);
+    stage.boundary(unit.view(), &mut value);
+    if value.len() != source.width() {
+        return Ok(None);
+    }
+    stage.section(value.view(), &mut unit);
+    Ok(Some((value, unit)))
+}
+
+#[test]
+fn goes_there_and_back(rt: HostRuntime) -> Result<(), Fail> {
+    let table = table_of(&rt, rt.alloc(), 2, &[0, 1, 1, 0])?;
+    let group = Group::from_table(rt.alloc(), Prime::P2, 1, table)?;
+    let resolution = resolved(&rt, rt.alloc(), &group, 1)?;
+    let stage = resolution.stage(1).ok_or("no stage")?;
+    let (value, unit) = there_and_back(rt.alloc(), stage)?.ok_or("no boundary")?;
+    assert!(rt; shows(value.view(), &[0, 1]));
+    assert!(rt; shows(unit.view(), &[1, 0]));
+    Ok(())
+}
