@@ -6,6 +6,8 @@ pub mod Loads
 pub mod Replies
 pub mod OneTable
 pub mod Sizes
+pub mod StageRows
+pub mod OneResolution
 pub mod Unique
 pub mod Usage
 pub mod Run

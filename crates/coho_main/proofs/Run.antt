@@ -21,7 +21,7 @@ use Rattle.coho_main.specs.Refusals.{words_refused, read_refused, write_refused,
 use Rattle.coho_main.specs.Steps.{Refusal}
 use Rattle.coho_main.specs.Stops.{refusal_of, told, Meets, HasReadCause, IsWriteStop}
 use Rattle.coho_main.specs.Run.{Agrees, OfFiles, IsSettled, Tells, EndsAs, AnswersFront, WroteFront, MayTell, ToldFront, NoReadFault}
-use Rattle.coho_main.specs.Words.{Group, IsRead, command}
+use Rattle.coho_main.specs.Words.{Command, IsRead, command}
 use Rattle.coho_main.proofs.Replies.{Lines, lines_of, MeetsOf}
 use Rattle.coho_main.proofs.Seen.{some_files}
 use Rattle.coho_main.proofs.Unique.{outcome_unique}
@@ -90,7 +90,7 @@ module _ (answer : Status) (err err_now : Option (List ℕ)) (n m : ℕ) where
     ReadHere s = HasReadCause (IsRead words) before now s
 
     no_command : (path : List ℕ) → IsRead words path → command words ≡ None → ⊥
-    no_command path is none = let no : ◌≡◌ {A = Option _} (Some (Group path)) None = sym is ∙ none in absurd (cc)
+    no_command path is none = let no : ◌≡◌ {A = Option Command} (Some is.0) None = sym is.1 ∙ none in absurd (cc)
 
     -- where the words are not those of a command
     pub words_stop : (known : Option Content) (s : Stop) → ReportedHere s → MeetsOf lines_of (Comes words) known (Err s) → ReadHere s → command words ≡ None → IsOrMemory status.Usage answer
@@ -108,6 +108,7 @@ module _ (answer : Status) (err err_now : Option (List ℕ)) (n m : ℕ) where
     not_read (cause.Text kind line column) e = cc
     not_read cause.Order e = cc
     not_read (cause.Inconsistent name) e = cc
+    not_read (cause.Stage d X) e = cc
 
     abbrev ReadTold : Type 0
     ReadTold = (path : List ℕ) × IsRead words path × Rose (before path) (now path) × Tells err err_now n m (read_refused path).line

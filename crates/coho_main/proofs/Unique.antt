@@ -10,10 +10,12 @@ use Rattle.power_commutator.specs.Presentations.{Presentation, first_fault}
 use Rattle.pc_text.specs.Faults.{Fault}
 use Rattle.pc_text.specs.Texts.{read}
 use Rattle.coho_main.specs.Steps.{Refusal, Step, ◌>>=◌, Gives, Refuses, OrRefuse, RefuseIf}
-use Rattle.coho_main.specs.Words.{Command, Group, command}
-use Rattle.coho_main.specs.Outcome.{Ask, ReadFront, FitLength, OrFault, Present, FitOrder, UnlessFalse, Describe, Load, Layers, Reply, Comes, group_lines, Ending, ending, Outcome}
-use Rattle.coho_main.proofs.Replies.{after_load, group_answer}
+use Rattle.coho_main.specs.Words.{Command, Group, Resolve, command}
+use Rattle.coho_main.specs.Outcome.{Ask, ReadFront, FitLength, OrFault, Present, FitOrder, UnlessFalse, Describe, Load, Layers, Stages, Reply, Comes, group_lines, stage_lines, Ending, ending, Outcome}
+use Rattle.coho_main.proofs.Replies.{after_load, group_answer, after_load_of, stage_answer}
 use Rattle.coho_main.proofs.OneTable.{one_sizes}
+use Rattle.coho_main.specs.Refusals.{stage_refused}
+use Rattle.coho_main.proofs.OneResolution.{one_list, one_above, not_both}
 
 -- no two ends of a step from the same files
 abbrev pub IsFunctional : {A : Type 0} → Step A → Type 0
@@ -71,8 +73,17 @@ layers P old new new' (Ok xs) (Ok ys) h k = (ap (λ d. Ok d) (one_sizes P xs ys 
 layers P old new new' (Ok xs) (Err r) h k = absurd k
 layers P old new new' (Err r) end' h k = absurd h
 
+stages : (P : Presentation) (n : ℕ) → IsFunctional (Stages P n)
+stages P n old new new' (Ok xs) (Ok ys) h k = (ap (λ s. Ok s) (one_list P n xs ys h.0 k.0), h.1 ∙ sym k.1)
+stages P n old new new' (Ok xs) (Err r) h k = absurd (not_both P n xs k.0.0 k.0.1 h.0 k.0.2)
+stages P n old new new' (Err r) (Ok ys) h k = absurd (not_both P n ys h.0.0 h.0.1 k.0 h.0.2)
+stages P n old new new' (Err r) (Err q) h k =
+    let same = one_above P n h.0.0 h.0.1 k.0.0 k.0.1 h.0.2 k.0.2 in
+    (ap (λ r. Err r) (h.0.3 ∙ ap (λ d. stage_refused d h.0.1) same.0 ∙ ap (stage_refused k.0.0) same.1 ∙ sym k.0.3), h.1 ∙ sym k.1)
+
 reply : (asked : Command) → IsFunctional (Reply asked)
 reply (Group path) = then (Load path) after_load (load path) (λ P. then (Layers P) (group_answer P) (layers P) (λ dimensions. gives (group_lines P dimensions)))
+reply (Resolve path n) = then (Load path) (after_load_of n) (load path) (λ P. then (Stages P n) stage_answer (stages P n) (λ found. gives (stage_lines found)))
 
 comes : (words : List (List ℕ)) → IsFunctional (Comes words)
 comes words = then (Ask words) _ (or_refuse _ (command words)) reply

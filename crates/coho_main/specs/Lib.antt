@@ -7,3 +7,5 @@ pub mod Stops
 pub mod Reading
 pub mod Run
 pub mod Statuses
+pub mod Stages
+pub mod Resolving

@@ -1,5 +1,5 @@
 -- What the words come to, over the files that there are.
-use Rattle.std.specs.Prelude.{◌≡◌, ℕ, ◌^◌, List, [], ◌∷◌, ◌++◌, length, take, codes, decimal, flat_map, nat_lt}
+use Rattle.std.specs.Prelude.{◌≡◌, ℕ, ◌+◌, ◌^◌, List, [], ◌∷◌, ◌++◌, length, map, take, codes, decimal, flat_map, nat_lt}
 use Rattle.std.specs.declared.option.Option.{Option}
 use Rattle.std.specs.declared.option.Option.TheVariants.{None, Some}
 use Rattle.std.specs.declared.result.Result.{Result}
@@ -14,9 +14,10 @@ use Rattle.pc_text.specs.Texts.{read}
 use Rattle.coho_main.specs.declared.status.Status.{Status}
 use Rattle.coho_main.specs.declared.status.Status.TheVariants as status
 use Rattle.coho_main.specs.Steps.{Refusal, Step, ◌>>=◌, Gives, Refuses, OrRefuse, RefuseIf}
-use Rattle.coho_main.specs.Refusals.{words_refused, read_refused, length_refused, text_refused, order_refused, test_refused}
-use Rattle.coho_main.specs.Words.{Command, Group, command}
+use Rattle.coho_main.specs.Refusals.{words_refused, read_refused, length_refused, text_refused, order_refused, test_refused, stage_refused}
+use Rattle.coho_main.specs.Words.{Command, Group, Resolve, command}
 use Rattle.coho_main.specs.Layers.{AreLayerSizes}
+use Rattle.coho_main.specs.Stages.{Summary, AreStagesOf, IsStageAbove}
 
 -- the steps
 
@@ -75,6 +76,12 @@ abbrev pub Layers : Presentation → Step (List ℕ)
 Layers P old (Ok dimensions) new = AreLayerSizes P dimensions × (new ≡ old)
 Layers P old (Err refusal) new = ⊥
 
+-- the stages of the minimal resolution to degree n, or the first that is above the limit
+abbrev pub Stages : Presentation → ℕ → Step (List Summary)
+Stages P n old (Ok stages) new = AreStagesOf P n stages × (new ≡ old)
+Stages P n old (Err refusal) new =
+    ((d : ℕ) × (X : ℕ) × IsStageAbove P n d X × (refusal ≡ stage_refused d X)) × (new ≡ old)
+
 -- the answers
 
 -- a word, a number and an LF
@@ -96,12 +103,33 @@ group_lines P dimensions =
     ∷ layers_line dimensions
     ∷ []
 
+-- the word rows, and the places counted from 1
+abbrev pub rows_words : Option (List ℕ) → List ℕ
+rows_words None = []
+rows_words (Some places) = codes " rows" ++ flat_map (λ i. after_space (i + 1)) places
+
+-- the degree, the rank and the dimension of the kernel of a stage, and the rows of its boundary
+abbrev pub stage_line : Summary → List ℕ
+stage_line s =
+    codes "stage "
+    ++ (decimal s.degree ++ (codes " rank "
+    ++ (decimal s.rank ++ (codes " kernel "
+    ++ (decimal s.kernel ++ (rows_words s.rows ++ 10 ∷ []))))))
+
+-- a line for each stage
+abbrev pub stage_lines : List Summary → List (List ℕ)
+stage_lines stages = map stage_line stages
+
 -- the commands, step by step
 abbrev pub Reply : Command → Step (List (List ℕ))
 Reply (Group path) = do
   P ← Load path
   dimensions ← Layers P
   Gives (group_lines P dimensions)
+Reply (Resolve path n) = do
+  P ← Load path
+  stages ← Stages P n
+  Gives (stage_lines stages)
 
 abbrev pub Comes : List (List ℕ) → Step (List (List ℕ))
 Comes words = do

@@ -56,6 +56,16 @@ test_refused name = record {
   line = codes "coho: inconsistent: " ++ (test_words name ++ 10 ∷ []);
 }
 
+-- the stage of degree d has a free module of dimension X
+abbrev pub stage_refused : ℕ → ℕ → Refusal
+stage_refused d X = record {
+  status = status.Limit;
+  line =
+      codes "coho: limit: stage "
+      ++ (decimal d ++ (codes " of the group has dimension "
+      ++ (decimal X ++ (codes ", above 4096" ++ 10 ∷ []))));
+}
+
 -- a write to out that failed
 abbrev pub write_refused : Refusal
 write_refused = record { status = status.Write; line = codes "coho: write failed" ++ 10 ∷ [] }

@@ -9,7 +9,7 @@ use Rattle.coho_main.specs.declared.cause.Cause.TheVariants as cause
 use Rattle.coho_main.specs.declared.stop.Stop.{Stop}
 use Rattle.coho_main.specs.declared.stop.Stop.TheVariants as stop
 use Rattle.coho_main.specs.Steps.{Refusal, Step}
-use Rattle.coho_main.specs.Refusals.{words_refused, read_refused, length_refused, text_refused, order_refused, test_refused, write_refused, memory_refused}
+use Rattle.coho_main.specs.Refusals.{words_refused, read_refused, length_refused, text_refused, order_refused, test_refused, stage_refused, write_refused, memory_refused}
 
 -- the refusal of a cause
 abbrev pub refusal_of : Cause → Refusal
@@ -19,6 +19,7 @@ refusal_of (cause.Text kind line column) =
     text_refused (record { kind = kind; line = line; column = column })
 refusal_of cause.Order = order_refused
 refusal_of (cause.Inconsistent name) = test_refused name
+refusal_of (cause.Stage d X) = stage_refused d X
 
 -- the status and the line of a stop
 abbrev pub told : Stop → Refusal

@@ -1,7 +1,12 @@
-ghost use Rattle.std.specs.Prelude.{◌≡◌, IfOk, string_bytes};
-ghost use Rattle.coho_main.specs.Outcome.{layers_line, group_lines};
+ghost use Rattle.std.specs.Prelude.{◌≡◌, ◌+◌, ◌≤◌, ◌<◌, ◌++◌, codes, flat_map, length, IfOk, string_bytes};
+ghost use Rattle.group_algebra.specs.PGroups.{IsPGroup};
+ghost use Rattle.min_res.specs.Values.{boundary_of};
+ghost use Rattle.coho_main.specs.Outcome.{after_space, group_lines, layers_line, rows_words, stage_line};
+ghost use Rattle.coho_main.specs.Stages.{HasRows, summary};
+ghost use Rattle.coho_main.specs.Resolving.{TellsStage, TellsStages};
 ghost use Rattle.coho_main.specs.Words.{texts};
 
+use min_res::{Resolution, Stage};
 use pc_group::Consistent;
 use std::alloc::{AllocError, Global};
 
@@ -36,5 +41,73 @@ pub fn group_lines(
     lines.push(format!(in alloc; "gens {gens}\n")?)?;
     lines.push(format!(in alloc; "order {order}\n")?)?;
     lines.push(layers_line(alloc, dimensions)?)?;
+    Ok(lines)
+}
+
+// The places of the rows of the boundary of a stage above degree 0.
+fn places(alloc: Global, stage: &Stage) -> Result<String, AllocError>
+    requires rows { stage.now.rank ≡ length (boundary_of stage.now).positions }
+    requires above_zero { 0 < stage.now.degree }
+    ensures { IfOk result (λ text. string_bytes text
+        ≡ codes " rows" ++ flat_map (λ i. after_space (i + 1)) (boundary_of stage.now).positions) }
+{
+    let mut text = String::from_str(alloc, " rows")?;
+    for i in 0..stage.rank() {
+        let place = u64::from(stage.position(i)) + 1;
+        let word = format!(in alloc; " {place}")?;
+        text.push_str(&word)?;
+    }
+    Ok(text)
+}
+
+// The same, and nothing for the stage of degree 0.
+#[tactic(auto, using(crate::proofs::StageRows::no_rows_at_zero, crate::proofs::StageRows::rows_above, crate::proofs::StageRows::count_above))]
+fn rows_words(alloc: Global, stage: &Stage) -> Result<String, AllocError>
+    requires { HasRows stage.now }
+    ensures { IfOk result (λ text. string_bytes text ≡ rows_words (summary stage.now).rows) }
+{
+    if stage.degree() == 0 {
+        Ok(String::new(alloc))
+    } else {
+        places(alloc, stage)
+    }
+}
+
+// The line of a stage.
+fn stage_line(alloc: Global, stage: &Stage) -> Result<String, AllocError>
+    requires { HasRows stage.now }
+    ensures { IfOk result (λ text. string_bytes text ≡ stage_line (summary stage.now)) }
+{
+    let degree = stage.degree();
+    let rank = stage.rank();
+    let kernel = stage.kernel().rows();
+    let rows = rows_words(alloc, stage)?;
+    format!(in alloc; "stage {degree} rank {rank} kernel {kernel}{rows}\n")
+}
+
+// The line of the stage of degree d.
+fn line_at(alloc: Global, resolution: &Resolution, d: u32) -> Result<String, AllocError>
+    requires group { IsPGroup resolution.now.group }
+    requires degree { d ≤ resolution.now.last }
+    ensures { IfOk result (λ text. TellsStage resolution.now.group d (string_bytes text)) }
+{
+    match resolution.stage(d) {
+        Some(stage) => stage_line(alloc, stage),
+        None => unreachable!(),
+    }
+}
+
+/// The lines of the answer to `resolve`.
+#[tactic(auto, using(crate::proofs::StageRows::no_lines))]
+pub fn stage_lines(alloc: Global, resolution: &Resolution) -> Result<Vec<String>, AllocError>
+    requires group { IsPGroup resolution.now.group }
+    requires few { resolution.now.last ≤ 24 }
+    ensures { IfOk result (λ lines. TellsStages resolution.now.group (resolution.now.last + 1) (texts lines.items)) }
+{
+    let count = resolution.last() + 1;
+    let mut lines = Vec::new(alloc);
+    for d in 0..count {
+        lines.push(line_at(alloc, resolution, d)?)?;
+    }
     Ok(lines)
 }

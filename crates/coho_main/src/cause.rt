@@ -20,6 +20,8 @@ pub enum Cause {
     Order,
     /// The first false consistency test.
     Inconsistent(TestName),
+    /// The free module of the stage of this degree has a dimension above 4096.
+    Stage { degree: u32, dimension: u64 },
 }
 
 impl Cause {
@@ -32,6 +34,7 @@ impl Cause {
             Cause::Text { .. } => Status::Text,
             Cause::Order => Status::Limit,
             Cause::Inconsistent(_) => Status::Inconsistent,
+            Cause::Stage { .. } => Status::Limit,
         }
     }
 
@@ -54,6 +57,11 @@ impl Cause {
             Cause::Inconsistent(test) => {
                 let test = test_words(alloc, test)?;
                 format!(in alloc; "coho: inconsistent: {test}\n")
+            }
+            Cause::Stage { degree, dimension } => {
+                format!(in alloc;
+                    "coho: limit: stage {degree} of the group has dimension {dimension}, above 4096\n"
+                )
             }
         }
     }

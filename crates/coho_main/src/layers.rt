@@ -8,8 +8,8 @@ use group_table::Memory;
 use pc_group::{Consistent, group_of};
 use std::alloc::{AllocError, Global};
 
-// The group algebra of a consistent presentation's group.
-fn algebra_of(alloc: Global, consistent: &Consistent) -> Result<Algebra, Memory>
+/// The group algebra of a consistent presentation's group.
+pub fn algebra_of(alloc: Global, consistent: &Consistent) -> Result<Algebra, Memory>
     ensures { IfOk result (IsTableOf consistent.now) }
 {
     let group = group_of(alloc, consistent)?;

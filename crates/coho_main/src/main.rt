@@ -1,12 +1,14 @@
-//! The program: describes the group of a presentation text. `run` does all that it does, over any files and sinks.
+//! The program: describes the group of a presentation text, and finds its minimal resolution. `run` does all that it does, over any files and sinks.
 #![tactic(auto)]
 
 mod answers;
 mod cause;
+mod degree;
 mod layers;
 mod loading;
 mod reading;
 mod running;
+mod stages;
 mod status;
 mod stop;
 #[cfg(test)]
@@ -14,18 +16,20 @@ mod tests;
 mod words;
 mod writing;
 
-pub use answers::group_lines;
+pub use answers::{group_lines, stage_lines};
 pub use cause::Cause;
 use coho_io::{DiskFiles, StdSink};
-pub use layers::radical_dimensions;
+pub use degree::read_degree;
+pub use layers::{algebra_of, radical_dimensions};
 pub use loading::load;
 pub use reading::read_front;
 pub use running::{outcome_is_unique, run};
+pub use stages::resolution_of;
 pub use status::Status;
 use std::process::ExitCode;
 use std::{env, io};
 pub use stop::Stop;
-pub use words::read_words;
+pub use words::{Command, read_words};
 pub use writing::{report, write_lines};
 
 // The words after the program's name.

@@ -1,13 +1,16 @@
-ghost use Rattle.std.specs.Prelude.{◌≡◌, ◌≢◌, ◌⊎◌, ℕ, List, None, Some, IfErr};
+ghost use Rattle.std.specs.Prelude.{◌≡◌, ◌≢◌, ◌≤◌, ◌⊎◌, ℕ, List, None, Some, IfErr};
 ghost use Rattle.coho_io.specs.Content.{Content};
 ghost use Rattle.coho_io.specs.Causes.{Rose, NoneFell};
-ghost use Rattle.coho_main.specs.Words.{Group, IsRead, command, texts};
+ghost use Rattle.coho_main.specs.Words.{Group, IsRead, Resolve, command, texts};
 ghost use Rattle.coho_main.specs.Outcome.{Reply, Comes, Ending, Outcome};
 ghost use Rattle.coho_main.specs.Refusals.{read_refused, write_refused};
 ghost use Rattle.coho_main.specs.Stops.{Meets, HasReadCause};
 ghost use Rattle.coho_main.specs.Run.{OfFiles, IsSettled, MayWrite, Tells, EndsAs, AnswersFront, WroteFront, ToldFront, NoReadFault};
 
-use crate::{Status, Stop, group_lines, load, radical_dimensions, read_words, report, write_lines};
+use crate::{
+    Command, Status, Stop, group_lines, load, radical_dimensions, read_words, report,
+    resolution_of, stage_lines, write_lines,
+};
 use coho_io::{Files, Sink};
 use std::alloc::Global;
 
@@ -29,6 +32,26 @@ fn answer_group<'a, F: Files>(
     Ok(group_lines(alloc, &consistent, &dimensions)?)
 }
 
+// The lines of the answer to `resolve`.
+fn answer_resolve<'a, F: Files>(
+    alloc: Global,
+    files: &mut F,
+    path: &'a str,
+    n: u32,
+) -> Result<Vec<String>, Stop<'a>>
+    requires { n ≤ 24 }
+    ensures step { OfFiles (F.content files.old)
+        (λ seen. Meets (λ lines. texts lines.items) (Reply (Resolve path.now n)) seen seen result) }
+    ensures content { F.content files.new ≡ F.content files.old }
+    ensures later { NoneFell (F.read_faults files.old) (F.read_faults files.new) }
+    ensures cause { IfErr result
+        (HasReadCause (λ p. p ≡ path.now) (F.read_faults files.old) (F.read_faults files.new)) }
+{
+    let consistent = load(alloc, files, path)?;
+    let resolution = resolution_of(alloc, &consistent, n)?;
+    Ok(stage_lines(alloc, &resolution)?)
+}
+
 // The lines of the answer to the words.
 fn answer<'a, F: Files>(
     alloc: Global,
@@ -42,8 +65,10 @@ fn answer<'a, F: Files>(
     ensures cause { IfErr result
         (HasReadCause (IsRead (texts words.now)) (F.read_faults files.old) (F.read_faults files.new)) }
 {
-    let path = read_words(words)?;
-    answer_group(alloc, files, path)
+    match read_words(words)? {
+        Command::Group(path) => answer_group(alloc, files, path),
+        Command::Resolve(path, n) => answer_resolve(alloc, files, path, n),
+    }
 }
 
 /// Does all that the program does: answers the words over the files, writes the answer to `out`, or

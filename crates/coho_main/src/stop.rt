@@ -1,9 +1,11 @@
 ghost use Rattle.std.specs.Prelude.{◌≡◌, ◌++◌, IfOk, string_bytes};
 ghost use Rattle.coho_main.specs.declared.stop.Stop.TheVariants.{Memory as WantOfMemory};
+ghost use Rattle.coho_main.specs.Resolving.{stop_of};
 ghost use Rattle.coho_main.specs.Stops.{told};
 
 use crate::{Cause, Status};
 use group_table::Memory;
+use min_res::ResFault;
 use std::alloc::{AllocError, AllocFailed, Global};
 
 /// Where a run stops short of its answer.
@@ -40,6 +42,19 @@ impl<'a> From<Memory> for Stop<'a> {
 
     fn from(_: Memory) -> Self {
         Stop::Memory
+    }
+}
+
+impl<'a> From<ResFault> for Stop<'a> {
+    ghost from_gives = { λ e s. s ≡ stop_of e };
+
+    fn from(fault: ResFault) -> Self {
+        match fault {
+            ResFault::TooLarge { degree, dimension } => {
+                Stop::Refused(Cause::Stage { degree, dimension })
+            }
+            ResFault::Memory => Stop::Memory,
+        }
     }
 }
 

@@ -51,6 +51,55 @@ fn describes_groups(rt: HostRuntime) -> Result<(), Fail> {
 }
 
 #[test]
+fn resolves_groups(rt: HostRuntime) -> Result<(), Fail> {
+    let dihedral = "pgroup 1\nprime 2\ngens 3\ng2^2 = g3\n[g2,g1] = g3\n";
+    for (text, degree, answer) in [
+        (
+            dihedral,
+            "2",
+            "stage 0 rank 1 kernel 7\nstage 1 rank 2 kernel 9 rows 1 2\nstage 2 rank 3 kernel 15 rows 1 2 6\n",
+        ),
+        (
+            "pgroup 1\nprime 2\ngens 1\n",
+            "2",
+            "stage 0 rank 1 kernel 1\nstage 1 rank 1 kernel 1 rows 1\nstage 2 rank 1 kernel 1 rows 1\n",
+        ),
+        (
+            "pgroup 1\nprime 2\ngens 0\n",
+            "1",
+            "stage 0 rank 1 kernel 0\nstage 1 rank 0 kernel 0 rows\n",
+        ),
+    ] {
+        let mut files = MemFiles::new(rt.alloc());
+        files.put("t", text.as_bytes())?;
+        let ended = run_words(rt.alloc(), &mut files, &["resolve", "t", degree])?;
+        assert_eq!(rt; ended.status, Status::Answered, "{text}");
+        assert_eq!(rt; ended.out.bytes(), answer.as_bytes(), "{text}");
+        assert_eq!(rt; ended.err.bytes(), b"".as_slice(), "{text}");
+    }
+    Ok(())
+}
+
+#[test]
+fn reads_degrees_from_1_to_24(rt: HostRuntime) -> Result<(), Fail> {
+    let mut files = MemFiles::new(rt.alloc());
+    files.put("t", b"pgroup 1\nprime 2\ngens 1\n")?;
+    for (degree, status) in [
+        ("24", Status::Answered),
+        ("0", Status::Usage),
+        ("25", Status::Usage),
+        ("03", Status::Usage),
+        ("+3", Status::Usage),
+    ] {
+        let ended = run_words(rt.alloc(), &mut files, &["resolve", "t", degree])?;
+        assert_eq!(rt; ended.status, status, "{degree}");
+    }
+    let ended = run_words(rt.alloc(), &mut files, &["resolve", "t"])?;
+    assert_eq!(rt; ended.status, Status::Usage);
+    Ok(())
+}
+
+#[test]
 fn names_the_first_fault_of_a_text(rt: HostRuntime) -> Result<(), Fail> {
     for (text, place) in [
         ("", "1:1: BadHeader"),

@@ -1,0 +1,171 @@
+-- What is told of a stage, from its value.
+use Rattle.std.proofs.Common.{◌≡◌, ◌⊎◌, inl, inr, refl, ℕ, zero, suc, ◌+◌, ◌*◌, ◌<◌, ◌≤◌, List, [], ◌∷◌, ◌++◌, length, take, codes, String, Global, string_bytes, flat_map, append_assoc, sym, ◌∙◌, ap, subst, arith}
+use Rattle.std.specs.Prelude.{slice_index, MatchOption, unwrap_or, IfOk}
+use Rattle.std.specs.declared.option.Option.{Option}
+use Rattle.std.specs.declared.option.Option.TheVariants.{None, Some}
+use Rattle.std.specs.declared.result.Result.{Result}
+use Rattle.std.specs.declared.result.Result.TheVariants.{Ok, Err}
+use Rattle.std.specs.Option.{option_map}
+use Rattle.std.proofs.lemmas.List.{take_more, append-nil}
+use Rattle.std.proofs.lemmas.Grind.{flat_map-append}
+use Rattle.group_table.specs.Tables.{GroupTable, order}
+use Rattle.group_algebra.specs.PGroups.{IsPGroup}
+use Rattle.min_res.specs.declared.fault.ResFault.{ResFault}
+use Rattle.min_res.specs.declared.fault.ResFault.TheVariants as fault
+use Rattle.min_res.specs.Values.{BoundaryValue, StageValue, ResolutionValue, boundary_of, no_rows}
+use Rattle.min_res.specs.Defined.{IsStageAt}
+use Rattle.min_res.specs.Stages.{rank_of, stage_rows}
+use Rattle.min_res.specs.Refusals.{IsRefusal}
+use Rattle.coho_main.specs.Outcome.{after_space, stage_line, stage_lines}
+use Rattle.coho_main.specs.Stages.{Summary, summary, HasRows, rows_at, stage_at, stages_below, dimension, Fit, IsFirstAbove, AreStagesOf}
+use Rattle.coho_main.specs.Words.{texts}
+use Rattle.power_commutator.specs.Presentations.{Presentation}
+use Rattle.coho_main.specs.declared.stop.Stop.{Stop}
+use Rattle.coho_main.specs.declared.stop.Stop.TheVariants as stop
+use Rattle.coho_main.specs.Layers.{IsTableOf}
+use Rattle.coho_main.specs.Resolving.{IsStageFault, IsStageStop, IsResolutionTo, stop_of, TellsStage, TellsStages}
+
+-- the rows of a boundary
+
+pub no_rows_at_zero : (s : StageValue) → HasRows s → s.degree ≡ 0 → (summary s).rows ≡ None
+no_rows_at_zero s shape e = go s.boundary shape
+  where
+    go : (o : Option BoundaryValue) → MatchOption o (s.degree ≡ 0) (λ B. (0 < s.degree) × (s.rank ≡ length B.positions)) → option_map (λ (B : BoundaryValue). B.positions) o ≡ None
+    go None h = refl
+    go (Some B) h = let above = h.0 in absurd (omega arith)
+
+abbrev positions_or : Option BoundaryValue → List ℕ
+positions_or o = (unwrap_or o (record { source = no_rows; positions = []; matrix = no_rows; sections = no_rows })).positions
+
+pub rows_above : (s : StageValue) → HasRows s → 0 < s.degree → (summary s).rows ≡ Some (boundary_of s).positions
+rows_above s shape above = go s.boundary shape
+  where
+    go : (o : Option BoundaryValue) → MatchOption o (s.degree ≡ 0) (λ B. (0 < s.degree) × (s.rank ≡ length B.positions)) → option_map (λ (B : BoundaryValue). B.positions) o ≡ Some (positions_or o)
+    go None h = absurd (omega arith)
+    go (Some B) h = refl
+
+pub count_above : (s : StageValue) → HasRows s → 0 < s.degree → s.rank ≡ length (boundary_of s).positions
+count_above s shape above = go s.boundary shape
+  where
+    go : (o : Option BoundaryValue) → MatchOption o (s.degree ≡ 0) (λ B. (0 < s.degree) × (s.rank ≡ length B.positions)) → s.rank ≡ length (positions_or o)
+    go None h = absurd (omega arith)
+    go (Some B) h = h.1
+
+-- the places, one more
+
+abbrev place : ℕ → List ℕ
+place i = after_space (i + 1)
+
+pub places_next : (places text more : List ℕ) (i : ℕ) → i < length places → text ≡ codes " rows" ++ flat_map place (take i places) → more ≡ text ++ place (slice_index places i) → more ≡ codes " rows" ++ flat_map place (take (i + 1) places)
+places_next places text more i lt h k =
+    let last : flat_map place (slice_index places i ∷ []) ≡ place (slice_index places i) = append-nil (place (slice_index places i)) in
+    k ∙ ap (λ t. t ++ place (slice_index places i)) h
+    ∙ append_assoc (codes " rows") (flat_map place (take i places)) (place (slice_index places i))
+    ∙ ap (λ t. codes " rows" ++ (flat_map place (take i places) ++ t)) (sym last)
+    ∙ ap (λ t. codes " rows" ++ t) (sym (flat_map-append place (take i places) (slice_index places i ∷ [])) ∙ ap (flat_map place) (sym (take_more places i 0 lt)))
+
+-- a stage of a group
+
+module _ (G : GroupTable) (h : IsPGroup G) where
+  pub has_rows : (d : ℕ) (s : StageValue) → IsStageAt G h d s → HasRows s
+  has_rows zero s L = subst (λ o. MatchOption o (s.degree ≡ 0) (λ B. (0 < s.degree) × (s.rank ≡ length B.positions))) (sym (L.none_at_zero refl)) L.degree_is
+  has_rows (suc d) s L =
+      let b = L.boundary_is d refl in
+      let e = L.degree_is in
+      let above : 0 < s.degree = omega (arith, e) in
+      subst (λ o. MatchOption o (s.degree ≡ 0) (λ B. (0 < s.degree) × (s.rank ≡ length B.positions))) (sym b.1) (above, L.rank_is ∙ ap length (sym b.2.positions_are))
+
+  same_rows : (d : ℕ) (s : StageValue) → IsStageAt G h d s → (summary s).rows ≡ rows_at G h d
+  same_rows zero s L = ap (option_map (λ B. B.positions)) (L.none_at_zero refl)
+  same_rows (suc d) s L =
+      let b = L.boundary_is d refl in
+      ap (option_map (λ B. B.positions)) b.1 ∙ ap (λ ps. Some ps) b.2.positions_are
+
+  -- its summary is that of its degree
+  pub same_summary : (d : ℕ) (s : StageValue) → IsStageAt G h d s → summary s ≡ stage_at G h d
+  same_summary d s L =
+      ap (λ k. record { degree = k; rank = s.rank; kernel = length s.kernel.rows; rows = (summary s).rows }) L.degree_is
+      ∙ ap (λ k. record { degree = d; rank = k; kernel = length s.kernel.rows; rows = (summary s).rows }) L.rank_is
+      ∙ ap (λ m. record { degree = d; rank = rank_of G h d; kernel = length m.rows; rows = (summary s).rows }) L.kernel_is
+      ∙ ap (λ rows. record { degree = d; rank = rank_of G h d; kernel = length ((stage_rows G h).kernel d); rows = rows }) (same_rows d s L)
+
+  split : (d i : ℕ) → d ≤ suc i → (d ≤ i) ⊎ (d ≡ suc i)
+  split zero i l = inl (omega arith)
+  split (suc d) zero l = inr (omega arith)
+  split (suc d) (suc i) l = elim (split d i (omega arith)) [ inl k ↦ inl (omega arith) | inr k ↦ inr (omega arith) ]
+
+  -- one stage more fits
+  fit_more : (i : ℕ) → Fit G h i → dimension G h (suc i) ≤ 4096 → Fit G h (i + 1)
+  fit_more i fit top d from to = elim (split d i (omega arith)) [ inl k ↦ fit d from k | inr k ↦ subst (λ d. dimension G h d ≤ 4096) (sym k) top ]
+
+  first_fault : (i n : ℕ) (e : ResFault) → i < n → Fit G h i → IsRefusal G h (suc i) 4096 e → IsStageFault G h n e
+  first_fault i n (fault.TooLarge d X) lt fit r =
+      let is = r.0 in
+      record {
+        from = omega arith;
+        to = omega arith;
+        is = r.1 ∙ ap (dimension G h) (sym is);
+        above = r.2;
+        first = λ c from less. fit c from (omega arith);
+      }
+  first_fault i n fault.Memory lt fit r = tt
+
+pub line_of : {E : Type 0} (G : GroupTable) (d : ℕ) (s : StageValue) → ((h : IsPGroup G) → IsStageAt G h d s) → (r : Result (String Global) E) → IfOk r (λ text. string_bytes text ≡ stage_line (summary s)) → IfOk r (λ text. TellsStage G d (string_bytes text))
+line_of G d s L (Ok text) is = (summary s, λ h. same_summary G h d s (L h), is)
+line_of G d s L (Err e) is = tt
+
+texts_push : (lines : List (String Global)) (line : String Global) → texts (lines ++ line ∷ []) ≡ texts lines ++ string_bytes line ∷ []
+texts_push [] line = refl
+texts_push (l ∷ lines) line = ap (λ ls. string_bytes l ∷ ls) (texts_push lines line)
+
+lines_push : (stages : List Summary) (x : Summary) → stage_lines (stages ++ x ∷ []) ≡ stage_lines stages ++ stage_line x ∷ []
+lines_push [] x = refl
+lines_push (y ∷ stages) x = ap (λ ls. stage_line y ∷ ls) (lines_push stages x)
+
+pub no_lines : (G : GroupTable) (lines : List (String Global)) → lines ≡ [] → TellsStages G 0 (texts lines)
+no_lines G lines e = ([], λ h. refl, ap texts e)
+
+-- the lines, one more
+pub lines_next : (G : GroupTable) (lines more : List (String Global)) (line : String Global) (d : ℕ) → TellsStages G d (texts lines) → TellsStage G d (string_bytes line) → more ≡ lines ++ line ∷ [] → TellsStages G (d + 1) (texts more)
+lines_next G lines more line d old is push =
+    let next : suc d ≡ d + 1 = omega arith in (
+      old.0 ++ is.0 ∷ [],
+      λ h. ap (λ xs. xs ++ is.0 ∷ []) (old.1 h) ∙ ap (λ x. stages_below G h d ++ x ∷ []) (is.1 h) ∙ ap (λ c. stages_below G h c) next,
+      ap texts push ∙ texts_push lines line ∙ ap (λ ls. ls ++ string_bytes line ∷ []) old.2 ∙ ap (λ l. stage_lines old.0 ++ l ∷ []) is.2 ∙ sym (lines_push old.0 is.0),
+    )
+
+-- a resolution that grows from its start
+
+module _ (start now : ResolutionValue) (i : ℕ) (same : now ≡ record start { last = i }) where
+  pub grown_next : (new : ResolutionValue) → new ≡ record now { last = suc now.last } → new ≡ record start { last = i + 1 }
+  grown_next new e =
+      let next : suc i ≡ i + 1 = omega arith in
+      e ∙ ap (λ (r : ResolutionValue). record r { last = suc r.last }) same ∙ ap (λ k. record start { last = k }) next
+
+  pub fit_next : ((h : IsPGroup start.group) → Fit start.group h i) → ((h : IsPGroup now.group) → order now.group * rank_of now.group h (suc now.last) ≤ 4096) → (h : IsPGroup start.group) → Fit start.group h (i + 1)
+  fit_next fit within h = fit_more start.group h i (fit h) (subst (λ (r : ResolutionValue). (h : IsPGroup r.group) → order r.group * rank_of r.group h (suc r.last) ≤ 4096) same within h)
+
+  pub fault_first : (n : ℕ) (e : ResFault) → i < n → ((h : IsPGroup start.group) → Fit start.group h i) → ((h : IsPGroup now.group) → IsRefusal now.group h (suc now.last) 4096 e) → (h : IsPGroup start.group) → IsStageFault start.group h n e
+  fault_first n e lt fit within h = first_fault start.group h i n e lt (fit h) (subst (λ (r : ResolutionValue). (h : IsPGroup r.group) → IsRefusal r.group h (suc r.last) 4096 e) same within h)
+
+-- the resolution of a presentation
+
+module _ (P : Presentation) (n : ℕ) (G : GroupTable) (start : ResolutionValue) (is : IsTableOf P G) (from : start ≡ record { group = G; last = 0 }) where
+  pub resolution_to : (new : ResolutionValue) → new ≡ record start { last = n } → ((h : IsPGroup start.group) → Fit start.group h n) → IsResolutionTo P n new
+  resolution_to new e fit =
+      let whole : new ≡ record { group = G; last = n } = e ∙ ap (λ (r : ResolutionValue). record r { last = n }) from in
+      let fits = subst (λ (r : ResolutionValue). (h : IsPGroup r.group) → Fit r.group h n) from fit in
+      subst (IsResolutionTo P n) (sym whole) (record { is_table = is; last = refl; fit = fits })
+
+  pub stage_stop : (e : ResFault) → ((h : IsPGroup start.group) → IsStageFault start.group h n e) → IsStageStop P n (stop_of e)
+  stage_stop (fault.TooLarge d X) first = record { group = G; is_table = is; is_first = subst (λ (r : ResolutionValue). (h : IsPGroup r.group) → IsFirstAbove r.group h n d X) from first }
+  stage_stop fault.Memory first = tt
+
+pub memory_stop : (P : Presentation) (n : ℕ) (s : Stop) → s ≡ stop.Memory → IsStageStop P n s
+memory_stop P n s e = subst (IsStageStop P n) (sym e) tt
+
+-- what the answer tells of it
+pub stages_of : (P : Presentation) (n : ℕ) (r : ResolutionValue) → IsResolutionTo P n r → (lines : List (List ℕ)) → TellsStages r.group (r.last + 1) lines → (stages : List Summary) × AreStagesOf P n stages × (lines ≡ stage_lines stages)
+stages_of P n r R lines t =
+    let same : r.last + 1 ≡ suc n = let e = R.last in omega (arith, e) in
+    (t.0, record { group = r.group; is_table = R.is_table; fit = R.fit; are = λ k. t.1 k ∙ ap (λ c. stages_below r.group k c) same }, t.2)

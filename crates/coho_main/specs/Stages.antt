@@ -1,0 +1,80 @@
+-- The stages of the minimal resolution of a presentation's group.
+use Rattle.std.specs.Prelude.{◌≡◌, ℕ, zero, suc, ◌*◌, ◌<◌, ◌≤◌, List, [], ◌∷◌, ◌++◌, length, MatchOption}
+use Rattle.std.specs.declared.option.Option.{Option}
+use Rattle.std.specs.declared.option.Option.TheVariants.{None, Some}
+use Rattle.std.specs.Option.{option_map}
+use Rattle.group_table.specs.Tables.{GroupTable, order}
+use Rattle.power_commutator.specs.Presentations.{Presentation}
+use Rattle.group_algebra.specs.PGroups.{IsPGroup}
+use Rattle.min_res.specs.Values.{StageValue}
+use Rattle.min_res.specs.Stages.{stage_rows, rank_of}
+use Rattle.coho_main.specs.Layers.{IsTableOf}
+
+-- what an answer tells of a stage
+pub record Summary : Type 0 where
+  pub degree : ℕ
+  pub rank : ℕ
+  -- the dimension of the kernel
+  pub kernel : ℕ
+  -- the places of the boundary's rows in the echelon list of the kernel before, from 0; in degree 0 there is no boundary
+  pub rows : Option (List ℕ)
+
+abbrev pub summary : StageValue → Summary
+summary s = record {
+  degree = s.degree;
+  rank = s.rank;
+  kernel = length s.kernel.rows;
+  rows = option_map (λ B. B.positions) s.boundary;
+}
+
+-- the boundary of a stage has as many rows as its rank, and in degree 0 there is none
+abbrev pub HasRows : StageValue → Type 0
+HasRows s = MatchOption s.boundary (s.degree ≡ 0) (λ B. (0 < s.degree) × (s.rank ≡ length B.positions))
+
+module _ (G : GroupTable) (h : IsPGroup G) where
+  abbrev pub rows_at : ℕ → Option (List ℕ)
+  rows_at zero = None
+  rows_at (suc d) = Some ((stage_rows G h).positions d)
+
+  -- the stage of degree d
+  abbrev pub stage_at : ℕ → Summary
+  stage_at d = record {
+    degree = d;
+    rank = rank_of G h d;
+    kernel = length ((stage_rows G h).kernel d);
+    rows = rows_at d;
+  }
+
+  -- the stages of the degrees below c, from 0 on
+  abbrev pub stages_below : ℕ → List Summary
+  stages_below zero = []
+  stages_below (suc c) = stages_below c ++ stage_at c ∷ []
+
+  -- the dimension of the free module of degree d
+  abbrev pub dimension : ℕ → ℕ
+  dimension d = order G * rank_of G h d
+
+  -- no dimension in the degrees 1 to n is above 4096
+  abbrev pub Fit : ℕ → Type 0
+  Fit n = (d : ℕ) → 1 ≤ d → d ≤ n → dimension d ≤ 4096
+
+  -- X is the first dimension in the degrees 1 to n that is above 4096, and d its degree
+  pub record IsFirstAbove (n d X : ℕ) : Type 0 where
+    pub from : 1 ≤ d
+    pub to : d ≤ n
+    pub is : X ≡ dimension d
+    pub above : 4096 < X
+    pub first : (c : ℕ) → 1 ≤ c → c < d → dimension c ≤ 4096
+
+-- the stages of degree 0 to n, whose dimensions all fit, for the group of P
+pub record AreStagesOf (P : Presentation) (n : ℕ) (stages : List Summary) : Type 0 where
+  pub group : GroupTable
+  pub is_table : IsTableOf P group
+  pub fit : (h : IsPGroup group) → Fit group h n
+  pub are : (h : IsPGroup group) → stages ≡ stages_below group h (suc n)
+
+-- the stage of degree d, of dimension X, is the first that does not fit, for the group of P
+pub record IsStageAbove (P : Presentation) (n d X : ℕ) : Type 0 where
+  pub group : GroupTable
+  pub is_table : IsTableOf P group
+  pub is_first : (h : IsPGroup group) → IsFirstAbove group h n d X
