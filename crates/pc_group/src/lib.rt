@@ -5,6 +5,8 @@
 pub mod collection;
 pub mod consistency;
 pub mod elements;
+#[cfg(test)]
+mod known_groups;
 mod layer_lists;
 mod layer_table;
 mod layer_tests;

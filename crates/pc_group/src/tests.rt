@@ -4,85 +4,12 @@ ghost use Rattle.group_table.specs.Prime.{prime_value};
 ghost use Rattle.power_commutator.specs.Presentations.{IsWord};
 
 use super::*;
+use crate::known_groups::*;
 use group_table::{Group, Prime};
 use smallvec::SmallVec;
 use std::alloc::Global;
 use std::process::Abort;
 use std::test::Fail;
-
-// A presentation: the words of g_i^p and of [g_j, g_i] that are not empty.
-struct Relations<'a> {
-    prime: Prime,
-    gens: u32,
-    powers: &'a [(u32, &'a [u8])],
-    commutators: &'a [(u32, u32, &'a [u8])],
-}
-
-const TRIVIAL: Relations<'static> = Relations {
-    prime: Prime::P2,
-    gens: 0,
-    powers: &[],
-    commutators: &[],
-};
-
-const CYCLIC_4: Relations<'static> = Relations {
-    prime: Prime::P2,
-    gens: 2,
-    powers: &[(1, &[0, 1])],
-    commutators: &[],
-};
-
-const QUATERNION: Relations<'static> = Relations {
-    prime: Prime::P2,
-    gens: 3,
-    powers: &[(1, &[0, 0, 1]), (2, &[0, 0, 1])],
-    commutators: &[(2, 1, &[0, 0, 1])],
-};
-
-const DIHEDRAL_8: Relations<'static> = Relations {
-    prime: Prime::P2,
-    gens: 3,
-    powers: &[],
-    commutators: &[(2, 1, &[0, 0, 1])],
-};
-
-// Extraspecial of order 27, of exponent 3 and of exponent 9.
-const HEISENBERG_3: Relations<'static> = Relations {
-    prime: Prime::P3,
-    gens: 3,
-    powers: &[],
-    commutators: &[(2, 1, &[0, 0, 1])],
-};
-
-const EXTRASPECIAL_27: Relations<'static> = Relations {
-    prime: Prime::P3,
-    gens: 3,
-    powers: &[(1, &[0, 0, 1])],
-    commutators: &[(2, 1, &[0, 0, 1])],
-};
-
-const ELEMENTARY_128: Relations<'static> = Relations {
-    prime: Prime::P2,
-    gens: 7,
-    powers: &[],
-    commutators: &[],
-};
-
-// g_1^2 = g_2 does not commute with g_1.
-const UNFIXED: Relations<'static> = Relations {
-    prime: Prime::P2,
-    gens: 3,
-    powers: &[(1, &[0, 1, 0])],
-    commutators: &[(2, 1, &[0, 0, 1])],
-};
-
-// Conjugation by g_1 has order 4, and g_1^2 = 1.
-const TWISTED: Relations<'static> = Relations {
-    prime: Prime::P2,
-    gens: 4,
-    powers: &[],
-    commutators: &[(2, 1, &[0, 0, 1, 0]), (3, 1, &[0, 0, 0, 1])],
-};
 
 // The list has n exponents below p, and none but 0 before place j.
 fn is_word(prime: u8, gens: u32, j: u32, exponents: &[u8]) -> bool
@@ -183,13 +110,43 @@ fn names_the_first_false_test(rt: HostRuntime) -> Result<(), Fail> {
 
 #[test]
 fn makes_groups_with_elements_of_known_orders(rt: HostRuntime) -> Result<(), Fail> {
-    let cases: [(&Relations<'_>, u16, &[(u32, usize)]); 6] = [
+    let cases: [(&Relations<'_>, u16, &[(u32, usize)]); 23] = [
         (&TRIVIAL, 1, &[(1, 1)]),
         (&CYCLIC_4, 4, &[(1, 1), (2, 1), (4, 2)]),
         (&QUATERNION, 8, &[(1, 1), (2, 1), (4, 6)]),
         (&DIHEDRAL_8, 8, &[(1, 1), (2, 5), (4, 2)]),
         (&HEISENBERG_3, 27, &[(1, 1), (3, 26)]),
         (&EXTRASPECIAL_27, 27, &[(1, 1), (3, 8), (9, 18)]),
+        (&KLEIN_4, 4, &[(1, 1), (2, 3)]),
+        (&CYCLIC_9, 9, &[(1, 1), (3, 2), (9, 6)]),
+        (&ELEMENTARY_9, 9, &[(1, 1), (3, 8)]),
+        (&DIHEDRAL_16, 16, &[(1, 1), (2, 9), (4, 2), (8, 4)]),
+        (&SEMIDIHEDRAL_16, 16, &[(1, 1), (2, 5), (4, 6), (8, 4)]),
+        (&QUATERNION_16, 16, &[(1, 1), (2, 1), (4, 10), (8, 4)]),
+        (&MODULAR_16, 16, &[(1, 1), (2, 3), (4, 4), (8, 8)]),
+        (&PRODUCT_16, 16, &[(1, 1), (2, 7), (4, 8)]),
+        (&EXTRASPECIAL_32, 32, &[(1, 1), (2, 19), (4, 12)]),
+        (&ELEMENTARY_32, 32, &[(1, 1), (2, 31)]),
+        (&UNITRIANGULAR_64, 64, &[(1, 1), (2, 27), (4, 36)]),
+        (&QUATERNION_SQUARE, 64, &[(1, 1), (2, 3), (4, 60)]),
+        (&WREATH_81, 81, &[(1, 1), (3, 44), (9, 36)]),
+        (&EXTRASPECIAL_125, 125, &[(1, 1), (5, 124)]),
+        (&ELEMENTARY_128, 128, &[(1, 1), (2, 127)]),
+        (&EXTRASPECIAL_128, 128, &[(1, 1), (2, 71), (4, 56)]),
+        (
+            &CYCLIC_128,
+            128,
+            &[
+                (1, 1),
+                (2, 1),
+                (4, 2),
+                (8, 4),
+                (16, 8),
+                (32, 16),
+                (64, 32),
+                (128, 64),
+            ],
+        ),
     ];
     for (relations, elements, orders) in cases {
         let group = group_of(rt.alloc(), &consistent(&rt, rt.alloc(), relations)?)?;
