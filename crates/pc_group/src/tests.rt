@@ -90,6 +90,12 @@ fn count_of_order(group: &Group, order: u32) -> usize {
         .count()
 }
 
+fn assert_orders(rt: &impl Abort, group: &Group, orders: &[(u32, usize)]) {
+    for (order, count) in orders {
+        assert_eq!(rt; count_of_order(group, *order), *count);
+    }
+}
+
 #[test]
 fn names_the_first_false_test(rt: HostRuntime) -> Result<(), Fail> {
     for (relations, want) in [
@@ -151,9 +157,7 @@ fn makes_groups_with_elements_of_known_orders(rt: HostRuntime) -> Result<(), Fai
     for (relations, elements, orders) in cases {
         let group = group_of(rt.alloc(), &consistent(&rt, rt.alloc(), relations)?)?;
         assert_eq!(rt; group.order(), elements);
-        for (order, count) in orders {
-            assert_eq!(rt; count_of_order(&group, *order), *count);
-        }
+        assert_orders(&rt, &group, orders);
     }
     Ok(())
 }
@@ -202,5 +206,19 @@ fn makes_a_group_of_order_128(rt: HostRuntime) -> Result<(), Fail> {
     let group = group_of(rt.alloc(), &consistent(&rt, rt.alloc(), &ELEMENTARY_128)?)?;
     assert_eq!(rt; group.order(), 128);
     assert_eq!(rt; count_of_order(&group, 2), 127);
+    Ok(())
+}
+
+// (g_2 g_1)^2 is g_3 in the dihedral group; with exponent 3, g_2^2 g_1 is g_1 g_2^2 g_3^2.
+#[test]
+fn collects_longer_products(rt: HostRuntime) -> Result<(), Fail> {
+    let d8 = consistent(&rt, rt.alloc(), &DIHEDRAL_8)?;
+    assert!(rt; d8.presentation().gens() == 3);
+    let word = collect(rt.alloc(), &d8, &[2, 1, 2, 1])?;
+    assert_eq!(rt; word.as_slice(), [0, 0, 1].as_slice());
+    let heisenberg = consistent(&rt, rt.alloc(), &HEISENBERG_3)?;
+    assert!(rt; heisenberg.presentation().gens() == 3);
+    let word = collect(rt.alloc(), &heisenberg, &[2, 2, 1])?;
+    assert_eq!(rt; word.as_slice(), [1, 2, 2].as_slice());
     Ok(())
 }
