@@ -10,6 +10,3 @@ mod powers;
 mod tables;
 
 pub use algebra::Algebra;
-
-#[cfg(test)]
-mod tests;
