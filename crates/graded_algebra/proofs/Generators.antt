@@ -1,143 +1,20 @@
 -- The generators generate, and none of them is superfluous.
-use Rattle.std.proofs.Common.{◌≡◌, ◌≢◌, ℕ, zero, suc, ◌+◌, ◌*◌, ◌%◌, ◌<◌, ◌≤◌, List, [], ◌∷◌, ◌++◌, length, Bool, true, false, not, ◌||◌, ◌&&◌, leb, ◌⊎◌, inl, inr, arith, ap, ap₂, sym, ◌∙◌, refl, append_assoc}
+use Rattle.std.proofs.Common.{◌≡◌, ◌≢◌, ℕ, zero, suc, ◌+◌, ◌*◌, ◌%◌, ◌<◌, ◌≤◌, List, [], ◌∷◌, ◌++◌, length, ◌⊎◌, inl, inr, arith, ap, ap₂, sym, ◌∙◌, refl, append_assoc}
 use Rattle.std.proofs.lemmas.Bool.{cases_eq}
 use Rattle.std.specs.List.{AllByRecursion as Each}
 use Rattle.linear_algebra.specs.Modular.{IsCongruent, IsFieldModulo}
-use Rattle.graded_polynomials.specs.Monomials.{IsMonomial, IsWithin, IsTrimmed, degree, fits, exponent, is_exterior}
+use Rattle.graded_polynomials.specs.Monomials.{IsMonomial, exponent}
 use Rattle.graded_polynomials.specs.Polynomials.{Term, scaled, IsOver, IsOneOf}
-use Rattle.graded_algebra.specs.Algebras.{Algebra, Generator, degrees, evaluate, evaluate_from, value, times, powers, IsGradedCommutative}
+use Rattle.graded_algebra.specs.Algebras.{Algebra, Generator, degrees, evaluate, evaluate_from, value, times, IsGradedCommutative}
 use Rattle.graded_algebra.specs.Presentations.{IsValue, IsTaken, IsGenerators, IsCombination, IsBasis}
 use Rattle.linear_algebra.proofs.Congruences.{congruent_trans, congruent_eq}
 use Rattle.graded_algebra.proofs.Leading.{zero-or-not}
-use Rattle.graded_polynomials.proofs.Terms.{each-append, each-map, over-scaled, false≢true}
+use Rattle.graded_polynomials.proofs.Terms.{each-append, each-map, over-scaled}
 use Rattle.graded_algebra.proofs.Vectors.{zero-add, times-one, times-times, times-congruent, times-add, times-sum, times-multiple}
 use Rattle.graded_algebra.proofs.Values.{linear-append, linear-scaled}
 use Rattle.graded_algebra.proofs.Ideals.{is-one-of-right, is-one-of-left}
 use Rattle.std.proofs.Math.Nat.{zero-mod}
-
--- the monomial of the generator that comes after those of ds
-abbrev pub single : List ℕ → List ℕ
-single [] = 1 ∷ []
-single (d ∷ ds) = 0 ∷ single ds
-
-single-not-empty : (ds : List ℕ) → single ds ≡ [] → ⊥
-single-not-empty [] e = cc
-single-not-empty (d ∷ ds) e = cc
-
-within-single : (ds : List ℕ) (e : ℕ) → IsWithin (ds ++ e ∷ []) (single ds)
-within-single [] e = tt
-within-single (d ∷ ds) e = within-single ds e
-
-trimmed-single : (ds : List ℕ) → IsTrimmed (single ds)
-trimmed-single [] = ((λ e z. (let k : 1 ≡ 0 = z in omega (arith, k))), tt)
-trimmed-single (d ∷ ds) = ((λ e z. single-not-empty ds e), trimmed-single ds)
-
-or-true : (b : Bool) → (b || true) ≡ true
-or-true true = refl
-or-true false = refl
-
-fits-single : (q : ℕ) (ds : List ℕ) (e : ℕ) → fits q (ds ++ e ∷ []) (single ds) ≡ true
-fits-single q [] e = rw (or-true (not (is_exterior q e))) refl
-fits-single q (d ∷ ds) e = rw (or-true (not (is_exterior q d))) (fits-single q ds e)
-
-degree-single : (ds : List ℕ) (e : ℕ) → degree (ds ++ e ∷ []) (single ds) ≡ e
-degree-single [] e = omega arith
-degree-single (d ∷ ds) e = omega (arith, degree-single ds e)
-
-pub monomial-single : (q : ℕ) (ds : List ℕ) (e : ℕ) → IsMonomial q (ds ++ e ∷ []) e (single ds)
-monomial-single q ds e = record { within = within-single ds e; trimmed = trimmed-single ds; fitting = fits-single q ds e; degree_is = degree-single ds e }
-
-pub exponent-single : (ds : List ℕ) → exponent (single ds) (length ds) ≡ 1
-exponent-single [] = refl
-exponent-single (d ∷ ds) = exponent-single ds
-
--- a monomial stays one where generators are added
-pub within-more : (ds es m : List ℕ) → IsWithin ds m → IsWithin (ds ++ es) m
-within-more ds es [] h = tt
-within-more [] es (x ∷ m) h = absurd h
-within-more (d ∷ ds) es (x ∷ m) h = within-more ds es m h
-
-pub fits-more : (q : ℕ) (ds es m : List ℕ) → IsWithin ds m → fits q (ds ++ es) m ≡ fits q ds m
-fits-more q [] [] [] h = refl
-fits-more q [] (e ∷ es) [] h = refl
-fits-more q [] es (x ∷ m) h = absurd h
-fits-more q (d ∷ ds) es [] h = refl
-fits-more q (d ∷ ds) es (x ∷ m) h = ap (λ b. (not (is_exterior q d) || leb x 1) && b) (fits-more q ds es m h)
-
-pub degree-more : (ds es m : List ℕ) → IsWithin ds m → degree (ds ++ es) m ≡ degree ds m
-degree-more [] [] [] h = refl
-degree-more [] (e ∷ es) [] h = refl
-degree-more [] es (x ∷ m) h = absurd h
-degree-more (d ∷ ds) es [] h = refl
-degree-more (d ∷ ds) es (x ∷ m) h = omega (arith, degree-more ds es m h)
-
-pub monomial-more : (q : ℕ) (ds es : List ℕ) (d : ℕ) (m : List ℕ) → IsMonomial q ds d m → IsMonomial q (ds ++ es) d m
-monomial-more q ds es d m h = record {
-  within = within-more ds es m h.within;
-  trimmed = h.trimmed;
-  fitting = fits-more q ds es m h.within ∙ h.fitting;
-  degree_is = degree-more ds es m h.within ∙ h.degree_is;
-}
-
--- a monomial of degree d in generators and one more, of degree e from d on, is one in those generators or the new one itself
-pub last-case : (q : ℕ) (ds : List ℕ) (e d : ℕ) (m : List ℕ) → Each (λ a. 0 < a) ds → 0 < e → d ≤ e → IsMonomial q (ds ++ e ∷ []) d m
-    → IsMonomial q ds d m ⊎ ((e ≡ d) × (m ≡ single ds))
-last-case q [] e d [] p b l h = inl record { within = tt; trimmed = tt; fitting = refl; degree_is = h.degree_is }
-last-case q [] e d (x ∷ y ∷ m) p b l h = absurd h.within
-last-case q [] e d (zero ∷ []) p b l h = absurd (h.trimmed.0 refl refl)
-last-case q [] e d (suc zero ∷ []) p b l h = inr ((omega (arith, h.degree_is)), refl)
-last-case q [] e d (suc (suc x) ∷ []) p b l h = absurd (omega (arith, h.degree_is, l, b))
-last-case q (a ∷ ds) e d [] p b l h = inl record { within = tt; trimmed = tt; fitting = refl; degree_is = h.degree_is }
-last-case q (zero ∷ ds) e d (x ∷ m) p b l h = absurd (omega (arith, p.0))
-last-case q (suc a ∷ ds) e d (x ∷ m) p b l h =
-    go x h (last-case q ds e (degree (ds ++ e ∷ []) m) m p.1 b (omega (arith, h.degree_is, l))
-    (record { within = h.within; trimmed = h.trimmed.1; fitting = and-right (not (is_exterior q (suc a)) || leb x 1) (fits q (ds ++ e ∷ []) m) h.fitting; degree_is = refl }))
-  where
-    and-right : (b c : Bool) → (b && c) ≡ true → c ≡ true
-    and-right true c e = e
-    and-right false c e = false≢true e
-
-    go : (x : ℕ) → IsMonomial q ((suc a ∷ ds) ++ e ∷ []) d (x ∷ m) → IsMonomial q ds (degree (ds ++ e ∷ []) m) m ⊎ ((e ≡ degree (ds ++ e ∷ []) m) × (m ≡ single ds))
-        → IsMonomial q (suc a ∷ ds) d (x ∷ m) ⊎ ((e ≡ d) × ((x ∷ m) ≡ single (suc a ∷ ds)))
-    go x h (inl k) = inl record {
-      within = k.within;
-      trimmed = h.trimmed;
-      fitting = ap (λ b. (not (is_exterior q (suc a)) || leb x 1) && b) (sym (fits-more q ds (e ∷ []) m k.within)) ∙ h.fitting;
-      degree_is = omega (arith, h.degree_is, degree-more ds (e ∷ []) m k.within);
-    }
-    go zero h (inr k) = inr ((omega (arith, h.degree_is, k.0)), ap (λ m. 0 ∷ m) k.1)
-    go (suc x) h (inr k) = absurd (omega (arith, h.degree_is, k.0, l))
-
-pub degrees-append : {V : Type 0} (gs hs : List (Generator V)) → degrees (gs ++ hs) ≡ degrees gs ++ degrees hs
-degrees-append [] hs = refl
-degrees-append (g ∷ gs) hs = ap (λ ds. g.degree ∷ ds) (degrees-append gs hs)
-
-pub length-degrees : {V : Type 0} (gs : List (Generator V)) → length (degrees gs) ≡ length gs
-length-degrees [] = refl
-length-degrees (g ∷ gs) = ap suc (length-degrees gs)
-
-from-more : {V : Type 0} (A : Algebra V) (j : ℕ) (a : V) (gs hs : List (Generator V)) (m : List ℕ) → IsWithin (degrees gs) m → evaluate_from A j a (gs ++ hs) m ≡ evaluate_from A j a gs m
-from-more A j a [] [] [] h = refl
-from-more A j a [] (g ∷ hs) [] h = refl
-from-more A j a [] hs (x ∷ m) h = absurd h
-from-more A j a (g ∷ gs) hs [] h = refl
-from-more A j a (g ∷ gs) hs (x ∷ m) h = from-more A (j + g.degree * x) (powers A j a g x) gs hs m h
-
-pub value-more : {V : Type 0} (A : Algebra V) (q d : ℕ) (gs hs : List (Generator V)) (f : List Term) → IsOver q (degrees gs) d f → value A (gs ++ hs) f ≡ value A gs f
-value-more A q d gs hs [] h = refl
-value-more A q d gs hs (t ∷ f) h = ap₂ (λ x y. A.add (times A t.scalar x) y) (from-more A 0 A.one gs hs t.monomial h.0.within) (value-more A q d gs hs f h.1)
-
-pub over-more : {V : Type 0} (q d : ℕ) (gs hs : List (Generator V)) (f : List Term) → IsOver q (degrees gs) d f → IsOver q (degrees (gs ++ hs)) d f
-over-more q d gs hs f h =
-    each-map (λ t. IsMonomial q (degrees gs) d t.monomial) (λ t. IsMonomial q (degrees (gs ++ hs)) d t.monomial) f
-    (λ t k. rw (degrees-append gs hs) (monomial-more q (degrees gs) (degrees hs) d t.monomial k)) h
-
-pub value-of-more : {V : Type 0} (q : ℕ) (A : Algebra V) (gs hs : List (Generator V)) (d : ℕ) (v : V) → IsValue q A gs d v → IsValue q A (gs ++ hs) d v
-value-of-more q A gs hs d v h = record {
-  polynomial = h.polynomial;
-  over = over-more q d gs hs h.polynomial h.over;
-  value_is = value-more A q d gs hs h.polynomial h.over ∙ h.value_is;
-}
+use Rattle.graded_algebra.proofs.MoreGenerators.{from-more, single, monomial-single, exponent-single, last-case, degrees-append, length-degrees, value-of-more}
 
 module _ (q : ℕ) (V : Type 0) (A : Algebra V) (In : ℕ → V → Type 0) (L : IsGradedCommutative q V A In) where
   -- the new generator is the value of its monomial

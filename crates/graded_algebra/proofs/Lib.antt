@@ -6,6 +6,7 @@ pub mod Ideals
 pub mod Places
 pub mod Relations
 pub mod Superfluous
+pub mod MoreGenerators
 pub mod Generators
 pub mod VectorLemmas
 pub mod Presented

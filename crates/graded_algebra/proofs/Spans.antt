@@ -9,7 +9,8 @@ use Rattle.graded_algebra.specs.Presentations.{IsCombination, IsBasis, IsValue, 
 use Rattle.graded_algebra.proofs.Vectors.{times-one, times-sum}
 use Rattle.graded_algebra.proofs.Ideals.{is-one-of-right, is-one-of-append}
 use Rattle.graded_polynomials.proofs.Terms.{each-append, each-map}
-use Rattle.graded_algebra.proofs.Generators.{AllNew, Split, split, degrees-append, value-combination, value-of-new, value-of-more, generators-new, all-new-positive}
+use Rattle.graded_algebra.proofs.MoreGenerators.{degrees-append, value-of-more}
+use Rattle.graded_algebra.proofs.Generators.{AllNew, Split, split, value-combination, value-of-new, generators-new, all-new-positive}
 
 module _ (q : ℕ) (V : Type 0) (A : Algebra V) (In : ℕ → V → Type 0) (L : IsGradedCommutative q V A In) where
   combination-zero : (xs : List V) → IsCombination A xs A.zero

@@ -25,8 +25,8 @@ module _ {n : ℕ} (q : ℕ) (F : IsFieldModulo (suc q)) (Γ : Group n) (K : Row
   abbrev P : Placing b n (n * b)
   P = placing b (layer_sizes Y) n (size q F Γ K Y A)
 
-  abbrev T1 : Module (suc q) (monoid Γ)
-  T1 = Table q Γ 1
+  abbrev regular : Module (suc q) (monoid Γ)
+  regular = Table q Γ 1
 
   abbrev member-of : Below (length B) → Below n
   member-of k = (k.0, subst (λ m. k.0 < m) (basis-size q F Γ K Y A) k.1)
@@ -57,19 +57,19 @@ module _ {n : ℕ} (q : ℕ) (F : IsFieldModulo (suc q)) (Γ : Group n) (K : Row
     same-member i' k' e = ap (λ (x : Below n). x.0) (sym (P.member-place i' (member-of k')) ∙ ap P.member (same-place i' k' e) ∙ P.member-place i (member-of k))
 
     abbrev term : Below b → Below (length B) → (Table q Γ 1).of
-    term i' k' = times T1.add T1.zero (entry ((C.coordinates b).row v) (at-place i' k')) (K.table (row B k'.0))
+    term i' k' = times regular.add regular.zero (entry ((C.coordinates b).row v) (at-place i' k')) (K.table (row B k'.0))
 
-    term-zero : (i' : Below b) (k' : Below (length B)) → (at-place i' k' ≡ at-place i k → ⊥) → term i' k' ≡ T1.zero
-    term-zero i' k' d = ap (λ c. times T1.add T1.zero c (K.table (row B k'.0))) (ap (λ x. entry x (at-place i' k')) row-v ∙ entry_unit_other (n * b) (at-place i k) (at-place i' k') d)
+    term-zero : (i' : Below b) (k' : Below (length B)) → (at-place i' k' ≡ at-place i k → ⊥) → term i' k' ≡ regular.zero
+    term-zero i' k' d = ap (λ c. times regular.add regular.zero c (K.table (row B k'.0))) (ap (λ x. entry x (at-place i' k')) row-v ∙ entry_unit_other (n * b) (at-place i k) (at-place i' k') d)
 
     pub own-block : (λ z g. v i g) ≡ K.table (row B k.0)
     own-block = C.expand b v i
-        ∙ total-only T1 (length B) (term i) k (λ k' d. term-zero i k' (λ e. d (same-member i k' e)))
-        ∙ ap (λ c. times T1.add T1.zero c (K.table (row B k.0))) (ap (λ x. entry x (at-place i k)) row-v ∙ entry_unit_same (n * b) (at-place i k) inside)
-        ∙ T1.add-zero (K.table (row B k.0))
+        ∙ total-only regular (length B) (term i) k (λ k' d. term-zero i k' (λ e. d (same-member i k' e)))
+        ∙ ap (λ c. times regular.add regular.zero c (K.table (row B k.0))) (ap (λ x. entry x (at-place i k)) row-v ∙ entry_unit_same (n * b) (at-place i k) inside)
+        ∙ regular.add-zero (K.table (row B k.0))
 
-    pub other-block : (i' : Below b) → i'.0 ≢ i.0 → (λ z g. v i' g) ≡ T1.zero
-    other-block i' d = C.expand b v i' ∙ total-zero T1 (below (length B)) (term i') (λ k'. term-zero i' k' (λ e. d (same-block i' k' e)))
+    pub other-block : (i' : Below b) → i'.0 ≢ i.0 → (λ z g. v i' g) ≡ regular.zero
+    other-block i' d = C.expand b v i' ∙ total-zero regular (below (length B)) (term i') (λ k'. term-zero i' k' (λ e. d (same-block i' k' e)))
 
     -- the value of a linear map there: member k of the layer basis times row i
     pub unit-value : (M : Module (suc q) (monoid Γ)) (u : Below b → M.of)

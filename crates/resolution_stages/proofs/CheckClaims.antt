@@ -9,7 +9,8 @@ use Rattle.radical_layers.specs.Coordinates.{Coordinates}
 use Rattle.radical_layers.specs.Moves.{IsEchelonFor}
 use Rattle.radical_layers.specs.Layers.{RowIn}
 use Rattle.resolution_stages.specs.Checks.{StageParts, IsSubmoduleList, HasShape, HasCount, PassesChecks, IsNextStage}
-use Rattle.resolution_stages.proofs.CheckLaws.{is-next, passes, next-count}
+use Rattle.resolution_stages.proofs.CheckLaws.{is-next}
+use Rattle.resolution_stages.proofs.NextChecks.{passes, next-count}
 
 module _ {n : ℕ} (q : ℕ) (F : IsFieldModulo (suc q)) (Γ : Group n) (K : Coordinates q Γ) (b : ℕ) (E : List (List ℕ)) (S : IsSubmoduleList q Γ K b E) where
   -- the members of the submodule

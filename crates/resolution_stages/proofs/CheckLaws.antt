@@ -5,15 +5,15 @@ use Rattle.std.proofs.lemmas.List.{length-append, length-map, get_or_append_left
 use Rattle.std.proofs.Math.Seq.{take-suc, take-length}
 use Rattle.std.proofs.Math.Nat.{zero-mod, mod-eq_of_lt, le_refl}
 use mathlib.Core.Path.{subst, fun_ext}
-use Rattle.group_modules.specs.Module.{Term, Module, sub, times, lin, IsLinear}
+use Rattle.group_modules.specs.Module.{Module, sub, times, IsLinear}
 use Rattle.group_modules.specs.Laws.{zero-add, sub-self, sub-zero, map-zero, map-sub, map-times, times-zero}
-use Rattle.group_modules.specs.Field.{Below, residue, below-path, Fp}
-use Rattle.group_modules.specs.Tables.{Group, monoid, Table, terms}
+use Rattle.group_modules.specs.Field.{Below, residue, Fp}
+use Rattle.group_modules.specs.Tables.{Group, monoid, Table}
 use Rattle.group_modules.specs.Maps.{block-sum}
 use Rattle.group_modules.specs.Sums.{below, total, total-zero, map-total}
 use Rattle.augmentation_ideal.specs.Radical.{Moved, IsSubmodule}
-use Rattle.augmentation_ideal.specs.Generators.{combine, IsBasisModuloMoved}
-use Rattle.augmentation_ideal.proofs.Generators.{split, kernel-minimal, same-coefficients, close-sym, close-trans}
+use Rattle.augmentation_ideal.specs.Generators.{combine}
+use Rattle.augmentation_ideal.proofs.Generators.{split}
 use Rattle.linear_algebra.specs.Modular.{IsCongruent, IsFieldModulo, sum_below}
 use Rattle.linear_algebra.specs.Rows.{entry, row, combination, IsRow, IsMatrix, IsInSpan}
 use Rattle.linear_algebra.specs.Choices.{rows_at, IsGreedyBelow}
@@ -25,62 +25,12 @@ use Rattle.radical_layers.specs.Coordinates.{Coordinates}
 use Rattle.radical_layers.specs.Moves.{moves, IsEchelonFor}
 use Rattle.radical_layers.specs.Layers.{RowIn}
 use Rattle.resolution_stages.specs.Checks.{StageParts, HasShape, HasCount, PassesChecks, IsNextStage, chosen_row, del}
-use Rattle.linear_algebra.proofs.GreedyChoice.{greedy-before, in-left, in-right, in-combination}
+use Rattle.linear_algebra.proofs.GreedyChoice.{in-left, in-right, in-combination}
 use Rattle.radical_layers.proofs.Bridge.{at, at-zero, at-times, at-sub, at-total, tabs, at-tabs, same-table, from-span, moved-from-span, span-from-moved}
-use Rattle.radical_layers.proofs.Basis.{in-span-append, combination-append, basis}
-use Rattle.augmentation_ideal.proofs.Nakayama.{times-in}
-use Rattle.radical_layers.proofs.LayerForm.{size-at-most, size-at-least}
+use Rattle.radical_layers.proofs.Basis.{in-span-append, combination-append}
 use Rattle.radical_layers.proofs.SameDimension.{echelon-independent, full}
 use Rattle.radical_layers.proofs.Blocks.{block-is-linear, spread, block-spread, f-linear, f-spread, moved-value}
-
--- terms that are 0 may be left out at the end
-sum_below-prefix : (p k m : ℕ) (g : ℕ → ℕ) → k ≤ m → ((i : ℕ) → k ≤ i → i < m → IsCongruent p (g i) 0) → IsCongruent p (sum_below m g) (sum_below k g)
-sum_below-prefix p k zero g l h = congruent_eq (ap (λ x. sum_below x g) (let e : 0 ≡ k = omega (arith, l) in e))
-sum_below-prefix p k (suc m) g l h = go (cases_lt m k) (λ d. sum_below-prefix p k m g d (λ i c e. h i c (let x : i < suc m = omega (arith, e) in x)))
-  where
-    go : (m < k) ⊎ (k ≤ m) → (k ≤ m → IsCongruent p (sum_below m g) (sum_below k g)) → IsCongruent p (sum_below (suc m) g) (sum_below k g)
-    go (inl d) ih = congruent_eq (ap (λ x. sum_below x g) (let e : suc m ≡ k = omega (arith, l, d) in e))
-    go (inr d) ih = congruent_trans (congruent_add (ih d) (h m d (let x : m < suc m = omega arith in x))) (congruent_eq (omega arith))
-
--- u below k, and 0 from k on
-masked-by : (k : ℕ) (u : ℕ → ℕ) (i : ℕ) → (i < k) ⊎ (k ≤ i) → ℕ
-masked-by k u i (inl l) = u i
-masked-by k u i (inr l) = 0
-
-masked : ℕ → (ℕ → ℕ) → ℕ → ℕ
-masked k u i = masked-by k u i (cases_lt i k)
-
-masked-below : (k : ℕ) (u : ℕ → ℕ) (i : ℕ) → i < k → masked k u i ≡ u i
-unfolding masked masked-by
-masked-below k u i l = go (cases_lt i k)
-  where
-    go : (s : (i < k) ⊎ (k ≤ i)) → masked-by k u i s ≡ u i
-    go (inl d) = refl
-    go (inr d) = absurd (omega (arith, l, d))
-
-masked-from : (k : ℕ) (u : ℕ → ℕ) (i : ℕ) → k ≤ i → masked k u i ≡ 0
-unfolding masked masked-by
-masked-from k u i l = go (cases_lt i k)
-  where
-    go : (s : (i < k) ⊎ (k ≤ i)) → masked-by k u i s ≡ 0
-    go (inl d) = absurd (omega (arith, l, d))
-    go (inr d) = refl
-
--- a sequence of coefficients by their number
-sequence-by : {q m : ℕ} → (Below m → Below (suc q)) → (i : ℕ) → (i < m) ⊎ (m ≤ i) → ℕ
-sequence-by c i (inl l) = (c (i, l)).0
-sequence-by c i (inr l) = 0
-
-sequence : {q m : ℕ} → (Below m → Below (suc q)) → ℕ → ℕ
-sequence {m = m} c i = sequence-by c i (cases_lt i m)
-
-sequence-at : {q m : ℕ} (c : Below m → Below (suc q)) (i : Below m) → (c i).0 ≡ sequence c i.0
-unfolding sequence sequence-by
-sequence-at {m = m} c i = go (cases_lt i.0 m)
-  where
-    go : (s : (i.0 < m) ⊎ (m ≤ i.0)) → (c i).0 ≡ sequence-by c i.0 s
-    go (inl l) = ap (λ (k : Below m). (c k).0) (below-path i (i.0, l) refl)
-    go (inr l) = absurd (let k : i.0 < m = i.1 in omega (arith, k, l))
+use Rattle.resolution_stages.proofs.Sequences.{sum_below-prefix, masked, masked-below, masked-from, sequence, sequence-at}
 
 module _ {n : ℕ} (q : ℕ) (F : IsFieldModulo (suc q)) (Γ : Group n) (K : Coordinates q Γ) (b : ℕ) (L : (Table q Γ b).of → Type 0) (U : IsSubmodule (Table q Γ b) L)
     (E : List (List ℕ)) (LE : IsEchelonFor (suc q) (n * b) (RowIn (K b) L) E) (Q : StageParts) (H : HasShape q Γ K b E Q) where
@@ -112,16 +62,16 @@ module _ {n : ℕ} (q : ℕ) (F : IsFieldModulo (suc q)) (Γ : Group n) (K : Coo
   abbrev atP : P.of → ℕ → ℕ
   atP v j = at q Γ (n * m) P (K m) v j
 
-  members : (k : ℕ) → k < length E → L ((K b).table (row E k))
+  pub members : (k : ℕ) → k < length E → L ((K b).table (row E k))
   members k l = (LE.members k l).1
 
-  spans : (v : T.of) → L v → IsInSpan (suc q) E (atT v)
+  pub spans : (v : T.of) → L v → IsInSpan (suc q) E (atT v)
   spans v h = LE.spans ((K b).row v) ((K b).row-is v, subst L (sym ((K b).table-row v)) h)
 
   taken : (i : ℕ) → i < m → row R i ≡ row E (pos i)
   taken i l = get_or-map (row E) Q.positions i 0 [] l
 
-  rows-in : (i : Below m) → L (rows i)
+  pub rows-in : (i : Below m) → L (rows i)
   rows-in i = subst L (ap (K b).table (sym (taken i.0 i.1))) (members (pos i.0) (H.inside i.0 i.1))
 
   t : List (List ℕ)
@@ -131,23 +81,23 @@ module _ {n : ℕ} (q : ℕ) (F : IsFieldModulo (suc q)) (Γ : Group n) (K : Coo
   abbrev firsts : ℕ → List (List ℕ)
   firsts k = rows_at E (take k Q.positions)
 
-  full-form : (u : ℕ → ℕ) (j : ℕ) → combination u R j ≡ sum_below m (λ i. u i * entry (row E (pos i)) j)
+  pub full-form : (u : ℕ → ℕ) (j : ℕ) → combination u R j ≡ sum_below m (λ i. u i * entry (row E (pos i)) j)
   full-form u j = ap (λ k. sum_below k (λ i. u i * entry (row R i) j)) (length-map Q.positions (row E))
       ∙ sum_below-same m (λ i. u i * entry (row R i) j) (λ i. u i * entry (row E (pos i)) j) (λ i l. ap (λ r. u i * entry r j) (taken i l))
 
-  firsts-form : (u : ℕ → ℕ) (k : ℕ) → k ≤ m → (j : ℕ) → combination u (firsts k) j ≡ sum_below k (λ i. u i * entry (row E (pos i)) j)
+  pub firsts-form : (u : ℕ → ℕ) (k : ℕ) → k ≤ m → (j : ℕ) → combination u (firsts k) j ≡ sum_below k (λ i. u i * entry (row E (pos i)) j)
   firsts-form u k l j = ap (λ x. sum_below x (λ i. u i * entry (row (firsts k) i) j)) (length-map (take k Q.positions) (row E) ∙ length-take-le k Q.positions l)
       ∙ sum_below-same k (λ i. u i * entry (row (firsts k) i) j) (λ i. u i * entry (row E (pos i)) j)
       (λ i d. ap (λ r. u i * entry r j) (get_or-map (row E) (take k Q.positions) i 0 [] (subst (λ x. i < x) (sym (length-take-le k Q.positions l)) d) ∙ ap (row E) (get_or-take k Q.positions i 0 d)))
 
   -- coefficients that are 0 from k on
-  firsts-only : (u : ℕ → ℕ) (k : ℕ) → k ≤ m → ((i : ℕ) → k ≤ i → i < m → IsCongruent (suc q) (u i) 0) → (j : ℕ) → IsCongruent (suc q) (combination u R j) (combination u (firsts k) j)
+  pub firsts-only : (u : ℕ → ℕ) (k : ℕ) → k ≤ m → ((i : ℕ) → k ≤ i → i < m → IsCongruent (suc q) (u i) 0) → (j : ℕ) → IsCongruent (suc q) (combination u R j) (combination u (firsts k) j)
   firsts-only u k l h j = congruent_trans (congruent_eq (full-form u j))
       (congruent_trans (sum_below-prefix (suc q) k m (λ i. u i * entry (row E (pos i)) j) l
       (λ i c d. congruent_trans (congruent_mul_right (entry (row E (pos i)) j) (h i c d)) (congruent_eq (let z : 0 * entry (row E (pos i)) j ≡ 0 = omega arith in z))))
       (congruent_eq (sym (firsts-form u k l j))))
 
-  at-combine : (c : Below m → Below (suc q)) (u : ℕ → ℕ) → ((i : Below m) → IsCongruent (suc q) (c i).0 (u i.0)) → (j : ℕ) → IsCongruent (suc q) (atT (combine T m rows c) j) (combination u R j)
+  pub at-combine : (c : Below m → Below (suc q)) (u : ℕ → ℕ) → ((i : Below m) → IsCongruent (suc q) (c i).0 (u i.0)) → (j : ℕ) → IsCongruent (suc q) (atT (combine T m rows c) j) (combination u R j)
   at-combine c u e j = congruent_trans
       (at-total q Γ (n * b) T (K b) m (λ i. times T.add T.zero (c i).0 (rows i)) (λ i. u i * entry (row R i) j) j
       (λ i. congruent_trans (at-times q Γ (n * b) T (K b) (c i).0 (rows i) j) (congruent_trans (congruent_mul_right (atT (rows i) j) (e i))
@@ -162,19 +112,19 @@ module _ {n : ℕ} (q : ℕ) (F : IsFieldModulo (suc q)) (Γ : Group n) (K : Coo
   unfolding t
   moved-in-span v h = span-from-moved q Γ (n * b) T (K b) L E LE.matrix members spans v h
 
-  at-row : (k : ℕ) → k < length E → (j : ℕ) → atT ((K b).table (row E k)) j ≡ entry (row E k) j
+  pub at-row : (k : ℕ) → k < length E → (j : ℕ) → atT ((K b).table (row E k)) j ≡ entry (row E k) j
   at-row k l j = ap (λ r. entry r j) ((K b).row-table (row E k) (LE.matrix k l))
 
-  minus-plus : (a x : ℕ) → IsCongruent (suc q) (a + q * x + 1 * x) a
+  pub minus-plus : (a x : ℕ) → IsCongruent (suc q) (a + q * x + 1 * x) a
   minus-plus a x = congruent_trans (congruent_eq (let e : a + q * x + 1 * x ≡ a + (x + (suc q - 1) * x) = (let y : a + q * x + 1 * x ≡ a + (x + q * x) = omega arith in y) ∙ ap (λ k. a + (x + k * x)) (let z : q ≡ suc q - 1 = omega arith in z) in e))
       (congruent_trans (congruent_add (congruent_refl a) (congruent_minus x F.above_one)) (congruent_eq (omega arith)))
 
   -- a row with its section differs from the combination by the sums of the section's blocks by a member of the span of all (g - 1) v
-  row-moved : (x : P.of) (k : ℕ) → f x ≡ (K b).table (row E k) → Moved T L (sub T ((K b).table (row E k)) (combine T m rows (block-sum q Γ m x)))
+  pub row-moved : (x : P.of) (k : ℕ) → f x ≡ (K b).table (row E k) → Moved T L (sub T ((K b).table (row E k)) (combine T m rows (block-sum q Γ m x)))
   row-moved x k e = subst (λ v. Moved T L (sub T v (combine T m rows (block-sum q Γ m x)))) e (split q Γ T L m rows rows-in x)
 
   module _ (C : PassesChecks q Γ K b E Q) where
-    abbrev sections-of : (ℕ → ℕ) → P.of
+    abbrev pub sections-of : (ℕ → ℕ) → P.of
     sections-of c = tabs q Γ (n * m) P (K m) Q.sections c (length E)
 
     abbrev kernel-of : (ℕ → ℕ) → P.of
@@ -183,10 +133,10 @@ module _ {n : ℕ} (q : ℕ) (F : IsFieldModulo (suc q)) (Γ : Group n) (K : Coo
     abbrev E-of : (ℕ → ℕ) → T.of
     E-of c = tabs q Γ (n * b) T (K b) E c (length E)
 
-    l : IsLinear P T f
+    pub l : IsLinear P T f
     l = f-linear q Γ m T rows
 
-    f-sections : (c : ℕ → ℕ) → f (sections-of c) ≡ E-of c
+    pub f-sections : (c : ℕ → ℕ) → f (sections-of c) ≡ E-of c
     f-sections c = map-total P T f l.on-add (below (length E)) (λ i. times P.add P.zero (c i.0) ((K m).table (row Q.sections i.0)))
         ∙ ap (total T (below (length E))) (fun_ext (λ i. map-times P T f l.on-add (c i.0) ((K m).table (row Q.sections i.0)) ∙ ap (times T.add T.zero (c i.0)) (C.sections_to_rows i.0 i.1)))
 
@@ -253,11 +203,11 @@ module _ {n : ℕ} (q : ℕ) (F : IsFieldModulo (suc q)) (Γ : Group n) (K : Coo
             rw (e, get_or-append-add Q.kernel Q.sections (i - length Q.kernel) []) (H.section_rows (i - length Q.kernel)
             (let s : length (Q.kernel ++ Q.sections) ≡ length Q.kernel + length Q.sections = length-append Q.kernel Q.sections in omega (arith, s, d, k)))
 
-    W-matrix-of : IsMatrix (suc q) (n * m) (Q.kernel ++ Q.sections)
+    pub W-matrix-of : IsMatrix (suc q) (n * m) (Q.kernel ++ Q.sections)
     unfolding W
     W-matrix-of = W-matrix
 
-    W-independent-of : Independent (suc q) (length (Q.kernel ++ Q.sections)) (λ i j. entry (row (Q.kernel ++ Q.sections) i) j)
+    pub W-independent-of : Independent (suc q) (length (Q.kernel ++ Q.sections)) (λ i j. entry (row (Q.kernel ++ Q.sections) i) j)
     unfolding W
     W-independent-of = W-independent
 
@@ -413,105 +363,3 @@ module _ {n : ℕ} (q : ℕ) (F : IsFieldModulo (suc q)) (Γ : Group n) (K : Coo
         sections_to_rows = C.sections_to_rows;
         zero_at_pivots = C.zero_at_pivots;
       }
-
-  -- the parts of the next stage pass the checks
-  module _ (N : IsNextStage q Γ K b E Q) where
-    next-basis : IsBasisModuloMoved T L m rows
-    next-basis = basis q F Γ (n * b) T (K b) L E LE.matrix members spans Q.positions N.rows_are m refl
-
-    before-zero : (x : ℕ) → x < length E → ((i : Below m) → pos i.0 ≢ x) → (i : Below m) → x < pos i.0
-        → block-sum q Γ m ((K m).table (row Q.sections x)) i ≡ residue q 0
-    before-zero x d free i l = go (greedy-before (suc q) E (moves Γ T (K b) E) (length E) Q.positions N.rows_are x d (λ k c. free (k, c)))
-      where
-        go : (k : ℕ) × (k ≤ m) × IsInSpan (suc q) (moves Γ T (K b) E ++ firsts k) (entry (row E x)) × ((i : ℕ) → i < k → pos i < x)
-            → block-sum q Γ m ((K m).table (row Q.sections x)) i ≡ residue q 0
-        go r = ap (λ c. c i) same ∙ below-path _ _ (ap (λ y. y % suc q) (masked-from r.0 u i.0 far))
-          where
-            k : ℕ
-            k = r.0
-
-            s : (c : ℕ → ℕ) × IsInSpan (suc q) (moves Γ T (K b) E) (λ j. entry (row E x) j + q * combination c (firsts k) j)
-            s = in-span-append q (moves Γ T (K b) E) (firsts k) (entry (row E x)) F.above_one r.2
-
-            u : ℕ → ℕ
-            u = s.0
-
-            far : k ≤ i.0
-            far = at (cases_lt i.0 k)
-              where
-                at : (i.0 < k) ⊎ (k ≤ i.0) → k ≤ i.0
-                at (inr c) = c
-                at (inl c) = absurd (let z : pos i.0 < x = r.3 i.0 c in omega (arith, z, l))
-
-            c : Below m → Below (suc q)
-            c i = residue q (masked k u i.0)
-
-            v : T.of
-            v = (K b).table (row E x)
-
-            close-c : Moved T L (sub T v (combine T m rows c))
-            close-c = moved-from-span q Γ (n * b) T (K b) L E LE.matrix members spans (sub T v (combine T m rows c))
-                (in_span_congruent (λ j. congruent_sym (congruent_trans (at-sub q Γ (n * b) T (K b) v (combine T m rows c) j)
-                (congruent_add (congruent_eq (at-row x d j)) (congruent_mul_left q
-                (congruent_trans (at-combine c (masked k u) (λ i. congruent_mod (masked k u i.0)) j)
-                (congruent_trans (firsts-only (masked k u) k r.1 (λ i a h. congruent_eq (masked-from k u i a)) j)
-                (congruent_eq (firsts-form (masked k u) k r.1 j ∙ sum_below-same k (λ i. masked k u i * entry (row E (pos i)) j) (λ i. u i * entry (row E (pos i)) j) (λ i a. ap (λ y. y * entry (row E (pos i)) j) (masked-below k u i a))
-                ∙ sym (firsts-form u k r.1 j))))))))) s.1)
-
-            same : block-sum q Γ m ((K m).table (row Q.sections x)) ≡ c
-            same = same-coefficients q Γ T L m rows next-basis (block-sum q Γ m ((K m).table (row Q.sections x))) c
-                (close-trans T L (combine T m rows (block-sum q Γ m ((K m).table (row Q.sections x)))) v (combine T m rows c) (close-sym T L v (combine T m rows (block-sum q Γ m ((K m).table (row Q.sections x)))) (row-moved ((K m).table (row Q.sections x)) x (N.sections_to_rows x d))) close-c)
-
-    pub passes : PassesChecks q Γ K b E Q
-    passes = record {
-      echelon = N.kernel_is.echelon;
-      kernel_to_zero = λ k d. (N.kernel_is.members k d).1;
-      sections_to_rows = N.sections_to_rows;
-      zero_at_pivots = N.zero_at_pivots;
-      kernel_minimal = λ k d. kernel-minimal q Γ T L m rows next-basis ((K m).table (row Q.kernel k)) (N.kernel_is.members k d).1;
-      sections_before = before-zero;
-    }
-
-    -- and the kernel has the dimension that is left
-    value-in : (ts : List (Term (monoid Γ) (Below m))) → L (lin T rows ts)
-    value-in [] = U.zero-in
-    value-in (x ∷ ts) = U.add-in _ _ (times-in T L U x.coef _ (U.act-in x.elem _ (rows-in x.base))) (value-in ts)
-
-    both-span : (x : List ℕ) → IsRow (suc q) (n * m) x → IsInSpan (suc q) (Q.kernel ++ Q.sections) (entry x)
-    both-span x d = go (spans (f u) (value-in (terms q Γ m u)))
-      where
-        u : P.of
-        u = (K m).table x
-
-        go : IsInSpan (suc q) E (atT (f u)) → IsInSpan (suc q) (Q.kernel ++ Q.sections) (entry x)
-        go s = in_span_congruent (λ j. back (entry x j) (atP s' j) (atP rest j) (congruent-at j))
-            (in_span_add {f = atP rest} {g = atP s'} 1
-            (in-left (suc q) Q.kernel Q.sections (atP rest) (subst (λ y. IsInSpan (suc q) Q.kernel (entry y)) ((K m).row-table ((K m).row rest) ((K m).row-is rest)) rest-in))
-            (in-right (suc q) Q.kernel Q.sections (atP s') (s.0, record { each = λ j. congruent_sym (at-tabs q Γ (n * m) P (K m) Q.sections H.section_rows s.0 (length E) (sym H.section_count) j) })))
-          where
-            s' : P.of
-            s' = sections-of passes s.0
-
-            rest : P.of
-            rest = sub P u s'
-
-            rest-zero : f rest ≡ T.zero
-            rest-zero = map-sub P T f (l passes).on-add u s' ∙ ap (sub T (f u)) (f-sections passes s.0 ∙ sym (from-span q Γ (n * b) T (K b) E LE.matrix s.0 (f u) s.1)) ∙ sub-self T (f u)
-
-            rest-in : IsInSpan (suc q) Q.kernel (entry ((K m).row ((K m).table ((K m).row rest))))
-            rest-in = subst (λ w. IsInSpan (suc q) Q.kernel (atP w)) (sym ((K m).table-row rest)) (N.kernel_is.spans ((K m).row rest) ((K m).row-is rest, subst (λ w. f w ≡ T.zero) (sym ((K m).table-row rest)) rest-zero))
-
-            congruent-at : (j : ℕ) → IsCongruent (suc q) (atP rest j) (entry x j + q * atP s' j)
-            congruent-at j = congruent_trans (at-sub q Γ (n * m) P (K m) u s' j) (congruent_eq (ap (λ y. entry y j + q * atP s' j) ((K m).row-table x d)))
-
-            back : (a c e : ℕ) → IsCongruent (suc q) e (a + q * c) → IsCongruent (suc q) (e + 1 * c) a
-            back a c e h = congruent_trans (congruent_add h (congruent_refl (1 * c))) (minus-plus a c)
-
-    pub next-count : HasCount q Γ K b E Q
-    next-count = sym (length-append-count) ∙ both (size-at-most F (n * m) (Q.kernel ++ Q.sections) (W-matrix-of passes) (W-independent-of passes)) (size-at-least F (n * m) (Q.kernel ++ Q.sections) both-span)
-      where
-        length-append-count : length (Q.kernel ++ Q.sections) ≡ length Q.kernel + length E
-        length-append-count = length-append Q.kernel Q.sections ∙ ap (λ k. length Q.kernel + k) H.section_count
-
-        both : {x y : ℕ} → x ≤ y → y ≤ x → x ≡ y
-        both u v = omega (arith, u, v)

@@ -1,5 +1,7 @@
 pub mod FromDefinitions
+pub mod Sequences
 pub mod CheckLaws
+pub mod NextChecks
 pub mod CheckClaims
 pub mod Unique
 pub mod NextList
