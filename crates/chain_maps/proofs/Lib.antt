@@ -1,0 +1,2 @@
+pub mod ChainMaps
+pub mod Vectors

@@ -1,0 +1,4 @@
+pub mod Lifts
+pub mod Vectors
+pub mod Multiply
+pub mod Claims
