@@ -1,0 +1,5 @@
+pub mod RowPolynomials
+pub mod Values
+pub mod Factors
+pub mod Pivots
+pub mod Multiples
