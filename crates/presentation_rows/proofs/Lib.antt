@@ -1,0 +1,4 @@
+pub mod RowTerms
+pub mod RowValues
+pub mod Leads
+pub mod KernelLeads
