@@ -19,7 +19,7 @@ sum_below-first zero f = omega arith
 sum_below-first (suc n) f = omega (arith, sum_below-first n f)
 
 module _ (q : ℕ) (mul : ℕ → ℕ → Vector q → Vector q → Vector q) where
-  times-residue : (c : ℕ) (v : Vector q) (j n : ℕ) → v j ≡ residue q n → times (vectors q mul) c v j ≡ residue q (c * n)
+  pub times-residue : (c : ℕ) (v : Vector q) (j n : ℕ) → v j ≡ residue q n → times (vectors q mul) c v j ≡ residue q (c * n)
   times-residue c v j n e =
       times-at q mul c v j ∙ ap (λ (b : Below (suc q)). residue q (c * b.0)) e
       ∙ below-path (residue q (c * (n % suc q))) (residue q (c * n)) (congruent_mul_left c (congruent_mod {p = suc q} n)).same_remainder
