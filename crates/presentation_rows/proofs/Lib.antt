@@ -6,3 +6,7 @@ pub mod LastFactor
 pub mod Combinations
 pub mod UnitRows
 pub mod NewGenerators
+pub mod RowSums
+pub mod MultipleRows
+pub mod PivotTests
+pub mod NewRelations
