@@ -1,5 +1,5 @@
 -- The relations lead at the pivots of the kernel of the values.
-use Rattle.std.proofs.Common.{◌≡◌, ℕ, suc, ◌<◌, ◌↔◌, List, [], length, sym, ◌∙◌}
+use Rattle.std.proofs.Common.{ℕ, suc, ◌<◌, ◌↔◌, List, [], length, sym, ◌∙◌}
 use Rattle.std.specs.Prelude.{slice_index_or}
 use Rattle.linear_algebra.specs.Rows.{entry, row, IsRow, IsInSpan}
 use Rattle.linear_algebra.specs.Kernels.{IsKernelOf}

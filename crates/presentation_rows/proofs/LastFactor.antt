@@ -46,7 +46,7 @@ shift-empty h = record { before = λ j b. h.before (suc j) (omega arith); here =
 no-factor : {i : ℕ} {n : List ℕ} → IsLastFactor i n [] → ⊥
 no-factor {i} {n} h = absurd (let z : 0 ≡ suc (exponent n i) = h.here in omega (arith, z))
 
-from-nil : {V : Type 0} (A : Algebra V) (j : ℕ) (a : V) (gs : List (Generator V)) → evaluate_from A j a gs [] ≡ a
+pub from-nil : {V : Type 0} (A : Algebra V) (j : ℕ) (a : V) (gs : List (Generator V)) → evaluate_from A j a gs [] ≡ a
 from-nil A j a [] = refl
 from-nil A j a (g ∷ gs) = refl
 
@@ -64,31 +64,35 @@ factored A zero (k ∷ gs) g (x ∷ m) [] j a w t u h e =
     let p : m ≡ [] = same-exponents m [] t.1 tt (λ i. (h.after (suc i) (omega arith)).0) in
     let s : x ≡ 1 = h.here in
     let f : k ≡ g = e in
-    rw (p, s, ← f)
-    ((omega (arith, degree-nil (degrees gs))),
-    from-nil A (j + k.degree * 1) (powers A j a k 1) gs ∙ ap (λ d. A.mul d k.degree a k.class) (let z : j + k.degree * 0 ≡ j + 0 = omega arith in z))
+    rw (p, s, ← f) (
+      (omega (arith, degree-nil (degrees gs))),
+      from-nil A (j + k.degree * 1) (powers A j a k 1) gs ∙ ap (λ d. A.mul d k.degree a k.class) (let z : j + k.degree * 0 ≡ j + 0 = omega arith in z),
+    )
 factored A zero (k ∷ gs) g (x ∷ m) (y ∷ n) j a w t u h e =
     let p : m ≡ [] = same-exponents m [] t.1 tt (λ i. (h.after (suc i) (omega arith)).0) in
     let r : n ≡ [] = same-exponents n [] u.1 tt (λ i. (h.after (suc i) (omega arith)).1) in
     let s : x ≡ suc y = h.here in
     let f : k ≡ g = e in
-    rw (p, r, s, ← f)
-    ((omega (arith, degree-nil (degrees gs))),
-    from-nil A (j + k.degree * suc y) (powers A j a k (suc y)) gs
-    ∙ ap₂ (λ d v. A.mul d k.degree v k.class) (let z : j + k.degree * y ≡ j + (k.degree * y + degree (degrees gs) []) = omega (arith, degree-nil (degrees gs)) in z)
-    (sym (from-nil A (j + k.degree * y) (powers A j a k y) gs)))
+    rw (p, r, s, ← f) (
+      (omega (arith, degree-nil (degrees gs))),
+      from-nil A (j + k.degree * suc y) (powers A j a k (suc y)) gs
+          ∙ ap₂ (λ d v. A.mul d k.degree v k.class) (let z : j + k.degree * y ≡ j + (k.degree * y + degree (degrees gs) []) = omega (arith, degree-nil (degrees gs)) in z)
+          (sym (from-nil A (j + k.degree * y) (powers A j a k y) gs)),
+    )
 factored A (suc i) (k ∷ gs) g (x ∷ m) [] j a w t u h e =
     let z : x ≡ 0 = h.before 0 (omega arith) in
-    let r = factored A i gs g m [] (j + k.degree * x) (powers A j a k x) w t.1 u (shift-empty h) e in
-    ((let s = r.0 in rw z (omega (arith, s, degree-nil (degrees gs)))),
-    r.1 ∙ ap₂ (λ d v. A.mul d g.degree v g.class) (let y : (j + k.degree * x) + degree (degrees gs) [] ≡ j + 0 = rw z (omega (arith, degree-nil (degrees gs))) in y)
-    (from-nil A (j + k.degree * x) (powers A j a k x) gs ∙ ap (powers A j a k) z))
+    let r = factored A i gs g m [] (j + k.degree * x) (powers A j a k x) w t.1 u (shift-empty h) e in (
+      (let s = r.0 in rw z (omega (arith, s, degree-nil (degrees gs)))),
+      r.1 ∙ ap₂ (λ d v. A.mul d g.degree v g.class) (let y : (j + k.degree * x) + degree (degrees gs) [] ≡ j + 0 = rw z (omega (arith, degree-nil (degrees gs))) in y)
+          (from-nil A (j + k.degree * x) (powers A j a k x) gs ∙ ap (powers A j a k) z),
+    )
 factored A (suc i) (k ∷ gs) g (x ∷ m) (y ∷ n) j a w t u h e =
     let z : x ≡ y = h.before 0 (omega arith) in
-    let r = factored A i gs g m n (j + k.degree * x) (powers A j a k x) w t.1 u.1 (shift h) e in
-    ((let s = r.0 in rw z (omega (arith, s))),
-    r.1 ∙ ap₂ (λ d v. A.mul d g.degree v g.class) (let c : (j + k.degree * x) + degree (degrees gs) n ≡ j + (k.degree * y + degree (degrees gs) n) = rw z (omega arith) in c)
-    (ap (λ y. evaluate_from A (j + k.degree * y) (powers A j a k y) gs n) z))
+    let r = factored A i gs g m n (j + k.degree * x) (powers A j a k x) w t.1 u.1 (shift h) e in (
+      (let s = r.0 in rw z (omega (arith, s))),
+      r.1 ∙ ap₂ (λ d v. A.mul d g.degree v g.class) (let c : (j + k.degree * x) + degree (degrees gs) n ≡ j + (k.degree * y + degree (degrees gs) n) = rw z (omega arith) in c)
+          (ap (λ y. evaluate_from A (j + k.degree * y) (powers A j a k y) gs n) z),
+    )
 
 below-of : {i : ℕ} {m n : List ℕ} → IsLastFactor i n m → IsBelow n m
 below-of {i} {m} {n} h j = go (cases_order j i)

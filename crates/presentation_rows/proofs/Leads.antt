@@ -1,5 +1,5 @@
 -- A space of polynomials leads at the pivots of the reduced echelon list of its rows.
-use Rattle.std.proofs.Common.{◌≡◌, ◌≢◌, ℕ, suc, ◌%◌, ◌<◌, List, [], length, arith, ap, sym, ◌∙◌}
+use Rattle.std.proofs.Common.{◌≡◌, ℕ, suc, ◌%◌, ◌<◌, List, [], length, arith, ap, sym, ◌∙◌}
 use Rattle.std.specs.Prelude.{slice_index_or}
 use Rattle.std.proofs.Math.Nat.{mod-eq_of_lt}
 use Rattle.linear_algebra.specs.Modular.{IsCongruent}

@@ -10,3 +10,5 @@ pub mod RowSums
 pub mod MultipleRows
 pub mod PivotTests
 pub mod NewRelations
+pub mod NormalFormRows
+pub mod MoreMonomials

@@ -1,19 +1,18 @@
 -- The consequences of relations lead at the pivots of the span of the rows of their multiples.
-use Rattle.std.proofs.Common.{◌≡◌, ℕ, zero, suc, ◌+◌, ◌*◌, ◌<◌, ◌≤◌, ◌↔◌, List, [], ◌∷◌, ◌++◌, length, arith, ap, sym, ◌∙◌, refl}
+use Rattle.std.proofs.Common.{◌≡◌, ℕ, zero, suc, ◌*◌, ◌<◌, ◌≤◌, ◌↔◌, List, [], ◌∷◌, ◌++◌, length, arith, ap, sym, ◌∙◌, refl}
 use Rattle.std.specs.Prelude.{slice_index_or}
 use Rattle.std.specs.List.{AllByRecursion as Each}
 use Rattle.linear_algebra.specs.Modular.{IsCongruent, sum_below}
 use Rattle.linear_algebra.specs.Rows.{entry, row, IsEchelonOf, IsInSpan}
-use Rattle.linear_algebra.proofs.Congruences.{congruent_add, congruent_eq, congruent_trans, congruent_sym, congruent_mul_left}
+use Rattle.linear_algebra.proofs.Congruences.{congruent_add, congruent_eq, congruent_trans, congruent_sym}
 use Rattle.linear_algebra.proofs.Spans.{in_span_congruent, in_span_zero, in_span_add}
 use Rattle.graded_polynomials.specs.Monomials.{IsMonomial, IsMonomials}
-use Rattle.graded_polynomials.specs.Polynomials.{Term, Polynomial, Multiple, coefficient, multiple, scaled, total, IsMultiple, IsOneOf, IsOver, IsInIdeal}
+use Rattle.graded_polynomials.specs.Polynomials.{Term, Polynomial, Multiple, coefficient, multiple, scaled, total, IsMultiple, IsOneOf, IsOver}
 use Rattle.graded_polynomials.proofs.Monomials.{over-multiple}
 use Rattle.graded_polynomials.proofs.Terms.{each-append, over-scaled, coefficient-append}
 use Rattle.graded_algebra.specs.Algebras.{Algebra, Generator, degrees}
-use Rattle.graded_algebra.specs.Presentations.{IsConsequence, IsLeading, IsRelations}
+use Rattle.graded_algebra.specs.Presentations.{IsConsequence, IsLeading}
 use Rattle.graded_algebra.proofs.Ideals.{multiple-scaled, ideal-same, ideal-zero, ideal-append, ideal-scaled}
-use Rattle.graded_algebra.proofs.Relations.{defining}
 use Rattle.presentation_rows.specs.RowPolynomials.{polynomial_of, row_of}
 use Rattle.presentation_rows.specs.Multiples.{terms_of, AreMultiples}
 use Rattle.presentation_rows.specs.Pivots.{IsPivot}
@@ -47,8 +46,7 @@ module _ (q d : ℕ) (V : Type 0) (A : Algebra V) (gs : List (Generator V)) (rs 
   partial-sum u zero l = ([], record { over = tt; ideal = ideal-zero q (degrees gs) rs d [] (λ m. congruent_eq refl) }, (λ j. row-empty q ms j))
   partial-sum u (suc n) l =
       let r = partial-sum u n (omega arith) in
-      let t = R.each n (omega arith) in
-      (
+      let t = R.each n (omega arith) in (
         r.0 ++ scaled (u n) (terms_of q (degrees gs) t.0),
         consequence-plus r.0 (terms_of q (degrees gs) t.0) (u n) r.1 (multiple-consequence t.0 t.1),
         (λ j. congruent_trans (row-plus q ms r.0 (terms_of q (degrees gs) t.0) (u n) j)

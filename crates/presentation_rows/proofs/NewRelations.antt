@@ -1,16 +1,16 @@
 -- The rows of the kernel whose pivots are none of the multiples' are the new relations.
-use Rattle.std.proofs.Common.{◌≡◌, ◌≢◌, ℕ, zero, suc, ◌+◌, ◌<◌, ◌≤◌, ◌↔◌, List, [], ◌∷◌, ◌++◌, length, true, false, cond, ◌⊎◌, inl, inr, arith, ap, sym, ◌∙◌, refl}
+use Rattle.std.proofs.Common.{◌≡◌, ◌≢◌, ℕ, suc, ◌+◌, ◌<◌, ◌≤◌, ◌↔◌, List, [], ◌∷◌, length, true, false, ◌⊎◌, inl, inr, arith, ap, sym, ◌∙◌, refl}
 use Rattle.std.specs.Prelude.{slice_index_or}
 use Rattle.std.proofs.lemmas.Bool.{cases_Bool, cases_order, cases_lt}
 use Rattle.linear_algebra.specs.Modular.{IsCongruent}
-use Rattle.linear_algebra.specs.Rows.{entry, row, pivot, IsRow, IsEchelonOf}
+use Rattle.linear_algebra.specs.Rows.{entry, row, pivot, IsRow}
 use Rattle.linear_algebra.specs.Kernels.{IsKernelOf}
 use Rattle.linear_algebra.proofs.Congruences.{congruent_eq}
 use Rattle.graded_polynomials.specs.Monomials.{IsMonomial, IsMonomials}
 use Rattle.graded_polynomials.specs.Polynomials.{Polynomial, coefficient}
 use Rattle.graded_polynomials.proofs.Terms.{occurs}
 use Rattle.graded_algebra.specs.Algebras.{Generator, degrees}
-use Rattle.graded_algebra.specs.Presentations.{IsLeading, IsRelation, IsConsequence, IsStandard, IsRelationAt, IsRelationsFrom}
+use Rattle.graded_algebra.specs.Presentations.{IsLeading, IsConsequence, IsStandard, IsRelationAt, IsRelationsFrom}
 use Rattle.graded_algebra.specs.Vectors.{Vector, vectors}
 use Rattle.presentation_rows.specs.RowPolynomials.{polynomial_of}
 use Rattle.presentation_rows.specs.Values.{AreValues}
@@ -28,9 +28,6 @@ module _ (q d : ℕ) (mul : ℕ → ℕ → Vector q → Vector q → Vector q) 
 
   pivot-inside : (i : ℕ) → i < length kernel → pivot (row kernel i) < length ms
   pivot-inside i l = omega (arith, K.echelon.not_zero i l, (kernel-row i l).length_is)
-
-  relation-of : List ℕ → Polynomial
-  relation-of u = record { degree = d; terms = polynomial_of ms u }
 
   -- a row of the kernel is its leading monomial less standard monomials
   relation-at : (i : ℕ) → i < length kernel → IsRelationAt q (vectors q mul) gs d (slice_index_or ms (pivot (row kernel i)) []) (record { degree = d; terms = polynomial_of ms (row kernel i) })

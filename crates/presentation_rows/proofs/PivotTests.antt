@@ -1,7 +1,7 @@
 -- The test for a pivot.
-use Rattle.std.proofs.Common.{◌≡◌, ℕ, zero, suc, ◌<◌, List, [], ◌∷◌, length, Bool, true, false, ◌||◌, eqb, ◌⊎◌, inl, inr, arith, sym, ◌∙◌, refl}
+use Rattle.std.proofs.Common.{◌≡◌, ℕ, zero, suc, List, [], ◌∷◌, Bool, true, false, ◌||◌, eqb, ◌⊎◌, inl, inr, arith, sym, ◌∙◌, refl}
 use Rattle.std.proofs.lemmas.Bool.{cases_Bool}
-use Rattle.linear_algebra.specs.Rows.{row, pivot}
+use Rattle.linear_algebra.specs.Rows.{pivot}
 use Rattle.graded_polynomials.proofs.Terms.{eqb-self, eqb-true, false≢true}
 use Rattle.presentation_rows.specs.Pivots.{IsPivot, is_pivot}
 

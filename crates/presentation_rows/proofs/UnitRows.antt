@@ -1,8 +1,8 @@
 -- The unit rows are the unit vectors, and the reduced echelon list of all rows of their width.
-use Rattle.std.proofs.Common.{◌≡◌, ◌≢◌, ℕ, suc, ◌<◌, List, length, cond, eqb, ◌⊎◌, inl, inr, arith, ap, sym, ◌∙◌, refl}
+use Rattle.std.proofs.Common.{◌≡◌, ℕ, ◌<◌, List, length, cond, eqb, ◌⊎◌, inl, inr, arith, refl}
 use Rattle.std.proofs.Math.Path.{fun_ext}
 use Rattle.std.proofs.lemmas.Bool.{cases_eq}
-use Rattle.linear_algebra.specs.Rows.{entry, row, pivot, IsRow, IsMatrix, IsEchelon, IsEchelonOf}
+use Rattle.linear_algebra.specs.Rows.{entry, row, pivot, IsMatrix, IsEchelon, IsEchelonOf}
 use Rattle.linear_algebra.specs.Kernels.{unit_row}
 use Rattle.linear_algebra.proofs.AugmentLemmas.{length-unit_row, entry_unit_same, entry_unit_other}
 use Rattle.linear_algebra.proofs.PivotLemmas.{pivot_is}

@@ -3,12 +3,13 @@
 //! The laws hold for any product of vectors.
 #![tactic(auto)]
 
-ghost use Rattle.std.specs.Prelude.{◌≡◌, ℕ, suc, ◌+◌, ◌*◌, ◌<◌, ◌↔◌, List, [], ◌++◌, length, map, slice_index_or};
+ghost use Rattle.std.specs.Prelude.{◌≡◌, ℕ, suc, ◌+◌, ◌*◌, ◌<◌, ◌↔◌, List, [], ◌∷◌, ◌++◌, length, map, slice_index_or};
 ghost use Rattle.std.specs.List.{AllByRecursion as Each};
 ghost use Rattle.linear_algebra.specs.Rows.{entry, IsRow, IsEchelonOf, IsCombination};
 ghost use Rattle.linear_algebra.specs.Kernels.{IsKernelOf};
 ghost use Rattle.linear_algebra.specs.Choices.{IsGreedy, IsPreimage, ArePreimages};
 ghost use Rattle.graded_polynomials.specs.Monomials.{IsMonomial, IsMonomials, IsTrimmed};
+ghost use Rattle.graded_polynomials.specs.Texts.{power};
 ghost use Rattle.graded_polynomials.specs.Polynomials.{Term, Polynomial, IsOver, IsPolynomial, IsSame};
 ghost use Rattle.graded_algebra.specs.Algebras.{Generator, degrees, evaluate, value};
 ghost use Rattle.graded_algebra.specs.Presentations.{IsRelation, IsConsequence, IsLeading, IsStandard, IsSpanGenerators, IsRelations, IsNormalForm, generators_of};
@@ -57,6 +58,11 @@ pub fn generators_of_degree()
         → IsSpanGenerators q (vectors q mul) basis (suc d) (gs ++ generators_of q (vectors q mul) (suc d) (map (unit q) positions)) }
 {}
 
+/// The reduced echelon list of the unit rows are the unit rows.
+pub fn echelon_of_unit_rows()
+    ensures { (p n : ℕ) (rows basis_rows : List (List ℕ)) → 1 < p → AreUnitRows n rows → IsEchelonOf p n rows basis_rows → AreUnitRows n basis_rows }
+{}
+
 /// A monomial leads in the relations exactly where it is a pivot of the kernel of the values, and is standard exactly where it is none.
 pub fn leading_monomials()
     ensures leading { (q d k : ℕ) (mul : ℕ → ℕ → Vector q → Vector q → Vector q) (gs : List (Generator (Vector q)))
@@ -101,11 +107,22 @@ pub fn preimages_of_combinations()
         → IsRow p n c → IsRow p (length values) u → IsCombination p (entry c) us (entry u) → IsPreimage p values kernel c u }
 {}
 
-/// Generators of higher degree add no monomials, and leave the values as they are.
+/// Generators of higher degree add no monomials of a degree, and leave the values of its monomials as they are.
 pub fn lower_degrees_stay()
-    ensures monomials { (q d : ℕ) (gs new : List (Generator (List ℕ))) (ms : List (List ℕ)) → Each (λ e. d < e) (degrees new)
-        → IsMonomials q (degrees gs) d ms → IsMonomials q (degrees (gs ++ new)) d ms }
+    ensures monomials { (q d : ℕ) (ds es : List ℕ) (ms : List (List ℕ)) → Each (λ e. d < e) es
+        → IsMonomials q ds d ms → IsMonomials q (ds ++ es) d ms }
     ensures values { (q d : ℕ) (mul : ℕ → ℕ → Vector q → Vector q → Vector q) (gs new : List (Generator (Vector q)))
         (ms values : List (List ℕ)) → IsMonomials q (degrees gs) d ms → AreValues q (vectors q mul) gs ms values
         → AreValues q (vectors q mul) (gs ++ new) ms values }
+{}
+
+/// One more generator of a degree adds one monomial of that degree, behind the others, and its value is the class of the generator
+/// where 1 times the class is the class.
+pub fn one_more_generator()
+    ensures monomials { (q d : ℕ) (ds : List ℕ) (ms : List (List ℕ)) → 0 < d → Each (λ a. 0 < a) ds
+        → IsMonomials q ds d ms → IsMonomials q (ds ++ d ∷ []) d (ms ++ power (length ds) 1 ∷ []) }
+    ensures values { (q : ℕ) (mul : ℕ → ℕ → Vector q → Vector q → Vector q) (gs : List (Generator (Vector q))) (g : Generator (Vector q))
+        (ms values : List (List ℕ)) (w : List ℕ) → IsMonomials q (degrees gs) g.degree ms → AreValues q (vectors q mul) gs ms values
+        → vector_of q w ≡ g.class → mul 0 g.degree (unit q 0) g.class ≡ g.class
+        → AreValues q (vectors q mul) (gs ++ g ∷ []) (ms ++ power (length (degrees gs)) 1 ∷ []) (values ++ w ∷ []) }
 {}
