@@ -12,3 +12,4 @@ pub mod PivotTests
 pub mod NewRelations
 pub mod NormalFormRows
 pub mod MoreMonomials
+pub mod Examples

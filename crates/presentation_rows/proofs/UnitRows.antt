@@ -22,7 +22,7 @@ unit-pivot : (n i : ℕ) → i < n → pivot (unit_row n i) ≡ i
 unit-pivot n i l = pivot_is (unit_row n i) i (λ j b. entry_unit_other n i j (omega arith)) (λ z. absurd (omega (arith, z, entry_unit_same n i l)))
 
 module _ {n : ℕ} {rows : List (List ℕ)} (U : AreUnitRows n rows) where
-  unit-matrix : (p : ℕ) → 1 < p → IsMatrix p n rows
+  pub unit-matrix : (p : ℕ) → 1 < p → IsMatrix p n rows
   unit-matrix p one i l = let b : i < n = omega (arith, U.count, l) in rw (U.each i b) (record {
     length_is = length-unit_row n i;
     below = λ j c. go i j b (cases_eq j i);
@@ -35,7 +35,7 @@ module _ {n : ℕ} {rows : List (List ℕ)} (U : AreUnitRows n rows) where
   pivot-at : (i : ℕ) → i < length rows → pivot (row rows i) ≡ i
   pivot-at i l = let b : i < n = omega (arith, U.count, l) in rw (U.each i b) (unit-pivot n i b)
 
-  unit-echelon : IsEchelon rows
+  pub unit-echelon : IsEchelon rows
   unit-echelon = record {
     not_zero = λ i l. let b : i < n = omega (arith, U.count, l) in rw (pivot-at i l, U.each i b, length-unit_row n i) b;
     ascending = λ i k b l. rw (pivot-at i (omega arith), pivot-at k l) b;
