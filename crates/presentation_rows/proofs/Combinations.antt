@@ -23,12 +23,14 @@ module _ (q : ℕ) (mul : ℕ → ℕ → Vector q → Vector q → Vector q) wh
     u 0,
     (λ j. residue q (combination (λ i. u (suc i)) R j)),
     combination-from-rows R (λ i. u (suc i)),
-    fun_ext (λ j. sym (ap (λ (x : Below (suc q)). residue q (x.0 + (residue q (combination (λ i. u (suc i)) R j)).0)) (times-residue q mul (u 0) (vector_of q r) j (entry r j) refl)
+    fun_ext (λ j. sym (ap (λ (x : Below (suc q)). residue q (x.0 + (residue q (combination (λ i. u (suc i)) R j)).0))
+        (times-residue q mul (u 0) (vector_of q r) j (entry r j) refl)
         ∙ plus-residue q (u 0 * entry r j) (combination (λ i. u (suc i)) R j)
         ∙ ap (residue q) (sym (sum_below-first (length R) (λ i. u i * entry (row (r ∷ R) i) j))))),
   )
 
-  rows-from-combination : (R : List (List ℕ)) (v : Vector q) → IsCombination (vectors q mul) (map (vector_of q) R) v → IsInSpan (suc q) R (λ j. (v j).0)
+  rows-from-combination : (R : List (List ℕ)) (v : Vector q) → IsCombination (vectors q mul) (map (vector_of q) R) v
+      → IsInSpan (suc q) R (λ j. (v j).0)
   rows-from-combination [] v h = (
     (λ i. 0),
     record { each = λ j. congruent_sym (congruent_trans (congruent_eq (ap (λ (v : Vector q). (v j).0) h)) (congruent_mod 0)) },
@@ -47,7 +49,8 @@ module _ (q : ℕ) (mul : ℕ → ℕ → Vector q → Vector q → Vector q) wh
   )
 
   -- a vector is a combination of vectors exactly where its row is in the span of their rows
-  pub combination-span : (R : List (List ℕ)) (w : List ℕ) → IsCombination (vectors q mul) (map (vector_of q) R) (vector_of q w) ↔ IsInSpan (suc q) R (entry w)
+  pub combination-span : (R : List (List ℕ)) (w : List ℕ)
+      → IsCombination (vectors q mul) (map (vector_of q) R) (vector_of q w) ↔ IsInSpan (suc q) R (entry w)
   combination-span R w = (
     (λ h. in_span_congruent (λ j. congruent_mod (entry w j)) (rows-from-combination R (vector_of q w) h)),
     (λ s. let e : (λ j. residue q (combination s.0 R j)) ≡ vector_of q w = fun_ext (λ j. below-path (residue q (combination s.0 R j)) (residue q (entry w j)) (s.1.each j).same_remainder) in

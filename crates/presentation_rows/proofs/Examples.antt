@@ -92,7 +92,16 @@ greedy = inr ([], refl, outside, refl)
     outside s = absurd (let e : 0 ≡ 1 = (s.1.each 0).same_remainder in omega (arith, e))
 
 pub generators : IsSpanGenerators 1 (vectors 1 multiply) basis 1 (x ∷ [])
-generators = ([], [], unit 1 0 ∷ [], refl, no-monomials 0, chosen-units 1 1 multiply [] [] [] [] ((1 ∷ []) ∷ []) no-values (no-rows 1) unit-rows (0 ∷ []) greedy, refl)
+generators = (
+  [],
+  [],
+  unit 1 0 ∷ [],
+  refl,
+  no-monomials 0,
+  chosen-units 1 1 multiply [] [] [] [] ((1 ∷ []) ∷ []) no-values (no-rows 1) unit-rows
+      (0 ∷ []) greedy,
+  refl,
+)
 
 -- degree 1: the value of x, by its class
 values-one : AreValues 1 (vectors 1 multiply) (x ∷ []) ((1 ∷ []) ∷ []) ((1 ∷ []) ∷ [])
@@ -121,7 +130,8 @@ relations-one = (
   refl,
   powers-of-x 0,
   relations-from 1 1 multiply (x ∷ []) [] ((1 ∷ []) ∷ []) ((1 ∷ []) ∷ []) [] [] (omega arith) (powers-of-x 0) values-one kernel-one
-      (consequence-pivots 1 1 (Vector 1) (vectors 1 multiply) (x ∷ []) [] ((1 ∷ []) ∷ []) [] [] (λ r o. absurd o) (powers-of-x 0) (no-multiples 1 ((1 ∷ []) ∷ [])) (no-rows 1) (omega arith)),
+      (consequence-pivots 1 1 (Vector 1) (vectors 1 multiply) (x ∷ []) [] ((1 ∷ []) ∷ []) [] [] (λ r o. absurd o) (powers-of-x 0)
+      (no-multiples 1 ((1 ∷ []) ∷ [])) (no-rows 1) (omega arith)),
   refl,
 )
 
@@ -163,7 +173,8 @@ relations-two = (
   relations-one,
   powers-of-x 1,
   relations-from 1 2 multiply (x ∷ []) [] ((2 ∷ []) ∷ []) ([] ∷ []) ((1 ∷ []) ∷ []) [] (omega arith) (powers-of-x 1) values-two kernel-two
-      (consequence-pivots 1 2 (Vector 1) (vectors 1 multiply) (x ∷ []) [] ((2 ∷ []) ∷ []) [] [] (λ r o. absurd o) (powers-of-x 1) (no-multiples 2 ((2 ∷ []) ∷ [])) (no-rows 1) (omega arith)),
+      (consequence-pivots 1 2 (Vector 1) (vectors 1 multiply) (x ∷ []) [] ((2 ∷ []) ∷ []) [] [] (λ r o. absurd o) (powers-of-x 1)
+      (no-multiples 2 ((2 ∷ []) ∷ [])) (no-rows 1) (omega arith)),
   refl,
 )
 
@@ -178,7 +189,8 @@ values-three = record { count = refl; each = each }
 multiples-three : AreMultiples 1 (1 ∷ []) (x-squared ∷ []) 3 ((3 ∷ []) ∷ []) ((1 ∷ []) ∷ [])
 multiples-three = record { each = each; all = all }
   where
-    each : (i : ℕ) → i < 1 → (t : Multiple) × IsMultiple 1 (1 ∷ []) (x-squared ∷ []) 3 t × (row ((1 ∷ []) ∷ []) i ≡ row_of 1 ((3 ∷ []) ∷ []) (terms_of 1 (1 ∷ []) t))
+    each : (i : ℕ) → i < 1 → (t : Multiple) × IsMultiple 1 (1 ∷ []) (x-squared ∷ []) 3 t
+        × (row ((1 ∷ []) ∷ []) i ≡ row_of 1 ((3 ∷ []) ∷ []) (terms_of 1 (1 ∷ []) t))
     each zero l = (
       record { scalar = 1; by = 1 ∷ []; of = x-squared },
       record { given = inl refl; rest = 1; monomial = (powers-of-x 0).each 0 (omega arith); degree_is = refl },
@@ -198,7 +210,8 @@ multiples-three = record { each = each; all = all }
             rest-one = let d : t.of.degree ≡ 2 = ap (λ (r : Polynomial). r.degree) e in omega (arith, d, h.degree_is)
 
             by-x : t.by ≡ 1 ∷ []
-            by-x = let m = (powers-of-x 0).all t.by (rw rest-one at h.monomial) in sym m.2 ∙ ap (λ i. slice_index_or ((1 ∷ []) ∷ []) i []) (let z : m.0 ≡ 0 = omega (arith, m.1) in z)
+            by-x = let m = (powers-of-x 0).all t.by (rw rest-one at h.monomial) in sym m.2
+                ∙ ap (λ i. slice_index_or ((1 ∷ []) ∷ []) i []) (let z : m.0 ≡ 0 = omega (arith, m.1) in z)
 
 echelon-three : IsEchelonOf 2 1 ((1 ∷ []) ∷ []) ((1 ∷ []) ∷ [])
 echelon-three = record {
@@ -215,9 +228,11 @@ relations-three = (
   (3 ∷ []) ∷ [],
   relations-two,
   powers-of-x 2,
-  relations-from 1 3 multiply (x ∷ []) (x-squared ∷ []) ((3 ∷ []) ∷ []) ([] ∷ []) ((1 ∷ []) ∷ []) ((1 ∷ []) ∷ []) (omega arith) (powers-of-x 2) values-three kernel-two
+  relations-from 1 3 multiply (x ∷ []) (x-squared ∷ []) ((3 ∷ []) ∷ []) ([] ∷ []) ((1 ∷ []) ∷ []) ((1 ∷ []) ∷ []) (omega arith)
+      (powers-of-x 2) values-three kernel-two
       (consequence-pivots 1 3 (Vector 1) (vectors 1 multiply) (x ∷ []) (x-squared ∷ []) ((3 ∷ []) ∷ []) ((1 ∷ []) ∷ []) ((1 ∷ []) ∷ [])
-      (λ r o. (defining 1 (Vector 1) (vectors 1 multiply) (x ∷ []) 2 (x-squared ∷ []) relations-two r o).vanishes.over) (powers-of-x 2) multiples-three echelon-three (omega arith)),
+      (λ r o. (defining 1 (Vector 1) (vectors 1 multiply) (x ∷ []) 2 (x-squared ∷ []) relations-two r o).vanishes.over)
+      (powers-of-x 2) multiples-three echelon-three (omega arith)),
   refl,
 )
 
@@ -237,5 +252,7 @@ preimages-one = record { count = refl; each = each }
     each (suc i) l = absurd (omega (arith, l))
 
 pub normal-form-one : IsNormalForm 1 (vectors 1 multiply) (x ∷ []) 1 (vector_of 1 (1 ∷ [])) (record { scalar = 1; monomial = 1 ∷ [] } ∷ [])
-normal-form-one = normal-form-of 1 1 multiply (x ∷ []) ((1 ∷ []) ∷ []) ((1 ∷ []) ∷ []) [] (omega arith) (powers-of-x 0) values-one kernel-one (1 ∷ []) (1 ∷ [])
-    (preimage-of-combination (omega arith) unit-rows preimages-one kernel-one (1 ∷ []) (1 ∷ []) preimage-one.is_row preimage-one.is_row preimage-one.maps)
+normal-form-one = normal-form-of 1 1 multiply (x ∷ []) ((1 ∷ []) ∷ []) ((1 ∷ []) ∷ []) [] (omega arith) (powers-of-x 0) values-one kernel-one
+    (1 ∷ []) (1 ∷ [])
+    (preimage-of-combination (omega arith) unit-rows preimages-one kernel-one (1 ∷ [])
+    (1 ∷ []) preimage-one.is_row preimage-one.is_row preimage-one.maps)

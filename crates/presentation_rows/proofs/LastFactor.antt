@@ -30,9 +30,11 @@ fits-below : (q : ℕ) (ds m n : List ℕ) → fits q ds m ≡ true → IsTrimme
 fits-below q ds m [] f t b = fits-nil q ds
 fits-below q [] m (y ∷ n) f t b = refl
 fits-below q (d ∷ ds) [] (y ∷ n) f t b = absurd (not-empty y n t b)
-fits-below q (d ∷ ds) (x ∷ m) (y ∷ n) f t b = go (is_exterior q d) (leb x 1) (fits q ds m) (leb-below x y (b 0)) f (λ g. fits-below q ds m n g t.1 (λ j. b (suc j)))
+fits-below q (d ∷ ds) (x ∷ m) (y ∷ n) f t b = go (is_exterior q d) (leb x 1) (fits q ds m) (leb-below x y (b 0)) f
+    (λ g. fits-below q ds m n g t.1 (λ j. b (suc j)))
   where
-    go : (e : Bool) (c f : Bool) → (c ≡ true → leb y 1 ≡ true) → ((not e || c) && f) ≡ true → (f ≡ true → fits q ds n ≡ true) → ((not e || leb y 1) && fits q ds n) ≡ true
+    go : (e : Bool) (c f : Bool) → (c ≡ true → leb y 1 ≡ true) → ((not e || c) && f) ≡ true → (f ≡ true → fits q ds n ≡ true)
+        → ((not e || leb y 1) && fits q ds n) ≡ true
     go true true f k h r = rw (k refl, r h) refl
     go true false f k h r = false≢true h
     go false c f k h r = r h
@@ -66,7 +68,8 @@ factored A zero (k ∷ gs) g (x ∷ m) [] j a w t u h e =
     let f : k ≡ g = e in
     rw (p, s, ← f) (
       (omega (arith, degree-nil (degrees gs))),
-      from-nil A (j + k.degree * 1) (powers A j a k 1) gs ∙ ap (λ d. A.mul d k.degree a k.class) (let z : j + k.degree * 0 ≡ j + 0 = omega arith in z),
+      from-nil A (j + k.degree * 1) (powers A j a k 1) gs
+          ∙ ap (λ d. A.mul d k.degree a k.class) (let z : j + k.degree * 0 ≡ j + 0 = omega arith in z),
     )
 factored A zero (k ∷ gs) g (x ∷ m) (y ∷ n) j a w t u h e =
     let p : m ≡ [] = same-exponents m [] t.1 tt (λ i. (h.after (suc i) (omega arith)).0) in
@@ -76,21 +79,24 @@ factored A zero (k ∷ gs) g (x ∷ m) (y ∷ n) j a w t u h e =
     rw (p, r, s, ← f) (
       (omega (arith, degree-nil (degrees gs))),
       from-nil A (j + k.degree * suc y) (powers A j a k (suc y)) gs
-          ∙ ap₂ (λ d v. A.mul d k.degree v k.class) (let z : j + k.degree * y ≡ j + (k.degree * y + degree (degrees gs) []) = omega (arith, degree-nil (degrees gs)) in z)
+          ∙ ap₂ (λ d v. A.mul d k.degree v k.class)
+          (let z : j + k.degree * y ≡ j + (k.degree * y + degree (degrees gs) []) = omega (arith, degree-nil (degrees gs)) in z)
           (sym (from-nil A (j + k.degree * y) (powers A j a k y) gs)),
     )
 factored A (suc i) (k ∷ gs) g (x ∷ m) [] j a w t u h e =
     let z : x ≡ 0 = h.before 0 (omega arith) in
     let r = factored A i gs g m [] (j + k.degree * x) (powers A j a k x) w t.1 u (shift-empty h) e in (
       (let s = r.0 in rw z (omega (arith, s, degree-nil (degrees gs)))),
-      r.1 ∙ ap₂ (λ d v. A.mul d g.degree v g.class) (let y : (j + k.degree * x) + degree (degrees gs) [] ≡ j + 0 = rw z (omega (arith, degree-nil (degrees gs))) in y)
+      r.1 ∙ ap₂ (λ d v. A.mul d g.degree v g.class)
+          (let y : (j + k.degree * x) + degree (degrees gs) [] ≡ j + 0 = rw z (omega (arith, degree-nil (degrees gs))) in y)
           (from-nil A (j + k.degree * x) (powers A j a k x) gs ∙ ap (powers A j a k) z),
     )
 factored A (suc i) (k ∷ gs) g (x ∷ m) (y ∷ n) j a w t u h e =
     let z : x ≡ y = h.before 0 (omega arith) in
     let r = factored A i gs g m n (j + k.degree * x) (powers A j a k x) w t.1 u.1 (shift h) e in (
       (let s = r.0 in rw z (omega (arith, s))),
-      r.1 ∙ ap₂ (λ d v. A.mul d g.degree v g.class) (let c : (j + k.degree * x) + degree (degrees gs) n ≡ j + (k.degree * y + degree (degrees gs) n) = rw z (omega arith) in c)
+      r.1 ∙ ap₂ (λ d v. A.mul d g.degree v g.class)
+          (let c : (j + k.degree * x) + degree (degrees gs) n ≡ j + (k.degree * y + degree (degrees gs) n) = rw z (omega arith) in c)
           (ap (λ y. evaluate_from A (j + k.degree * y) (powers A j a k y) gs n) z),
     )
 

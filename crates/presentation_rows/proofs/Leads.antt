@@ -39,7 +39,8 @@ module _ {q d : ℕ} {ds : List ℕ} {ms : List (List ℕ)} (one : 1 < suc q) (M
   leading-of-pivot k l (i, b, p) = leading-at q ds d ms M A S over k l record {
     member = polynomial_of ms (row E i);
     is_member = member i b;
-    here = λ z. absurd (let o : 1 % suc q ≡ 1 = mod-eq_of_lt one in let y : 1 % suc q ≡ 0 = ap (λ x. x % suc q) (sym here) ∙ z in omega (arith, o, y));
+    here = λ z. absurd (let o : 1 % suc q ≡ 1 = mod-eq_of_lt one in let y : 1 % suc q ≡ 0 = ap (λ x. x % suc q) (sym here) ∙ z in omega
+        (arith, o, y));
     before = λ j c. congruent_eq (coefficient-at ms (row E i) (monomials-apart M) j (omega arith) ∙ before_pivot (row E i) j (omega (arith, p)));
   }
     where

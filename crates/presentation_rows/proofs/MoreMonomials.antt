@@ -99,18 +99,29 @@ monomials-with-last q d ds ms p pos M = record {
     is-last : (i : ℕ) → i < length (ms ++ power (length ds) 1 ∷ []) → length ms ≤ i → i ≡ length ms
     is-last i l b = let e = length-append ms (power (length ds) 1 ∷ []) in omega (arith, l, b, e)
 
-    each : (i : ℕ) → i < length (ms ++ power (length ds) 1 ∷ []) → (i < length ms) ⊎ (length ms ≤ i) → IsMonomial q (ds ++ d ∷ []) d (slice_index_or (ms ++ power (length ds) 1 ∷ []) i [])
-    each i l (inl b) = rw (get_or_append_left ms (power (length ds) 1 ∷ []) [] i b) (monomial-more q ds (d ∷ []) d (slice_index_or ms i []) (M.each i b))
+    each : (i : ℕ) → i < length (ms ++ power (length ds) 1 ∷ []) → (i < length ms) ⊎ (length ms ≤ i)
+        → IsMonomial q (ds ++ d ∷ []) d (slice_index_or (ms ++ power (length ds) 1 ∷ []) i [])
+    each i l (inl b) = rw (get_or_append_left ms (power (length ds) 1 ∷ []) [] i b)
+        (monomial-more q ds (d ∷ []) d (slice_index_or ms i []) (M.each i b))
     each i l (inr b) = rw (is-last i l b, last) (monomial-last q d ds)
 
-    all : (m : List ℕ) → IsMonomial q ds d m ⊎ ((d ≡ d) × (m ≡ single ds)) → (i : ℕ) × (i < length (ms ++ power (length ds) 1 ∷ [])) × (slice_index_or (ms ++ power (length ds) 1 ∷ []) i [] ≡ m)
-    all m (inl k) = let i = M.all m k in
-        (i.0, (let e = length-append ms (power (length ds) 1 ∷ []) in omega (arith, i.1, e)), get_or_append_left ms (power (length ds) 1 ∷ []) [] i.0 i.1 ∙ i.2)
+    all : (m : List ℕ) → IsMonomial q ds d m ⊎ ((d ≡ d) × (m ≡ single ds)) → (i : ℕ) × (i < length (ms ++ power (length ds) 1 ∷ []))
+        × (slice_index_or (ms ++ power (length ds) 1 ∷ []) i [] ≡ m)
+    all m (inl k) = let i = M.all m k in (
+      i.0,
+      (let e = length-append ms (power (length ds) 1 ∷ []) in omega (arith, i.1, e)),
+      get_or_append_left ms
+          (power (length ds) 1 ∷ []) [] i.0 i.1 ∙ i.2,
+    )
     all m (inr k) = (length ms, (let e = length-append ms (power (length ds) 1 ∷ []) in omega (arith, e)), last ∙ sym (k.1 ∙ single-is-power ds))
 
     descending : (i j : ℕ) → i < j → j < length (ms ++ power (length ds) 1 ∷ []) → (j < length ms) ⊎ (length ms ≤ j)
         → IsGreater (slice_index_or (ms ++ power (length ds) 1 ∷ []) i []) (slice_index_or (ms ++ power (length ds) 1 ∷ []) j [])
-    descending i j b l (inl c) = rw (get_or_append_left ms (power (length ds) 1 ∷ []) [] i (omega (arith, b, c)), get_or_append_left ms (power (length ds) 1 ∷ []) [] j c) (M.descending i j b c)
+    descending i j b l (inl c) = rw (
+      get_or_append_left ms (power (length ds) 1 ∷ []) [] i (omega (arith, b, c)),
+      get_or_append_left ms
+          (power (length ds) 1 ∷ []) [] j c,
+    ) (M.descending i j b c)
     descending i j b l (inr c) = let e = is-last j l c in let f : i < length ms = omega (arith, e, b) in
         rw (e, last, get_or_append_left ms (power (length ds) 1 ∷ []) [] i f)
         (greater-than-last ds (slice_index_or ms i []) (M.each i f).within (let z = (M.each i f).degree_is in omega (arith, z, p)))
@@ -135,8 +146,10 @@ module _ (q : ℕ) (mul : ℕ → ℕ → Vector q → Vector q → Vector q) (g
       M = rw (degrees-append gs (g ∷ [])) (monomial-last q g.degree (degrees gs))
 
       r : (e : ℕ) × (e + g.degree ≡ g.degree) × IsMonomial q (degrees (gs ++ g ∷ [])) e []
-          × (evaluate (vectors q mul) (gs ++ g ∷ []) (power (length (degrees gs)) 1) ≡ mul e g.degree (evaluate (vectors q mul) (gs ++ g ∷ []) []) g.class)
-      r = value-by-factor q g.degree (length (degrees gs)) (vectors q mul) (gs ++ g ∷ []) g (power (length (degrees gs)) 1) [] M tt (last-factor (length (degrees gs))) (place-of-last gs g)
+          × (evaluate (vectors q mul) (gs ++ g ∷ []) (power (length (degrees gs)) 1) ≡ mul e g.degree
+          (evaluate (vectors q mul) (gs ++ g ∷ []) []) g.class)
+      r = value-by-factor q g.degree (length (degrees gs)) (vectors q mul) (gs ++ g ∷ []) g (power (length (degrees gs)) 1) [] M tt
+          (last-factor (length (degrees gs))) (place-of-last gs g)
 
   pub values-with-last : (ms values : List (List ℕ)) (w : List ℕ) → IsMonomials q (degrees gs) g.degree ms → AreValues q (vectors q mul) gs ms values
       → vector_of q w ≡ g.class → mul 0 g.degree (unit q 0) g.class ≡ g.class
@@ -149,7 +162,9 @@ module _ (q : ℕ) (mul : ℕ → ℕ → Vector q → Vector q → Vector q) (g
       last : List ℕ
       last = power (length (degrees gs)) 1
 
-      go : (i : ℕ) → i < length (ms ++ last ∷ []) → (i < length ms) ⊎ (length ms ≤ i) → vector_of q (row (values ++ w ∷ []) i) ≡ evaluate (vectors q mul) (gs ++ g ∷ []) (slice_index_or (ms ++ last ∷ []) i [])
-      go i l (inl b) = rw (row_before_push values w i (omega (arith, b, V.count)), get_or_append_left ms (last ∷ []) [] i b) ((values-stay q g.degree mul gs (g ∷ []) ms values M V).each i b)
+      go : (i : ℕ) → i < length (ms ++ last ∷ []) → (i < length ms) ⊎ (length ms ≤ i)
+          → vector_of q (row (values ++ w ∷ []) i) ≡ evaluate (vectors q mul) (gs ++ g ∷ []) (slice_index_or (ms ++ last ∷ []) i [])
+      go i l (inl b) = rw (row_before_push values w i (omega (arith, b, V.count)), get_or_append_left ms (last ∷ []) [] i b)
+          ((values-stay q g.degree mul gs (g ∷ []) ms values M V).each i b)
       go i l (inr b) = let f : i ≡ length ms = (let z = length-append ms (last ∷ []) in omega (arith, l, b, z)) in
           rw (f, get_or_push ms last [] (length ms) refl, ← V.count, row_push values w) (e ∙ sym (value-of-last h))

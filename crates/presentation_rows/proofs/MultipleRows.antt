@@ -34,7 +34,8 @@ module _ (q d : ℕ) (V : Type 0) (A : Algebra V) (gs : List (Generator V)) (rs 
     };
   }
 
-  consequence-plus : (f g : List Term) (c : ℕ) → IsConsequence q A gs rs d f → IsConsequence q A gs rs d g → IsConsequence q A gs rs d (f ++ scaled c g)
+  consequence-plus : (f g : List Term) (c : ℕ) → IsConsequence q A gs rs d f → IsConsequence q A gs rs d g
+      → IsConsequence q A gs rs d (f ++ scaled c g)
   consequence-plus f g c a b = record {
     over = each-append (λ (t : Term). IsMonomial q (degrees gs) d t.monomial) f (scaled c g) a.over (over-scaled q (degrees gs) d c g b.over);
     ideal = ideal-append q (degrees gs) rs d f (scaled c g) a.ideal (ideal-scaled q (degrees gs) rs d c g b.ideal);
@@ -42,7 +43,8 @@ module _ (q d : ℕ) (V : Type 0) (A : Algebra V) (gs : List (Generator V)) (rs 
 
   -- a sum of the first n rows is the row of a consequence
   partial-sum : (u : ℕ → ℕ) (n : ℕ) → n ≤ length rows
-      → (f : List Term) × IsConsequence q A gs rs d f × ((j : ℕ) → IsCongruent (suc q) (entry (row_of q ms f) j) (sum_below n (λ i. u i * entry (row rows i) j)))
+      → (f : List Term) × IsConsequence q A gs rs d f
+      × ((j : ℕ) → IsCongruent (suc q) (entry (row_of q ms f) j) (sum_below n (λ i. u i * entry (row rows i) j)))
   partial-sum u zero l = ([], record { over = tt; ideal = ideal-zero q (degrees gs) rs d [] (λ m. congruent_eq refl) }, (λ j. row-empty q ms j))
   partial-sum u (suc n) l =
       let r = partial-sum u n (omega arith) in
@@ -70,7 +72,8 @@ module _ (q d : ℕ) (V : Type 0) (A : Algebra V) (gs : List (Generator V)) (rs 
   multiple-row : (t : Multiple) → IsMultiple q (degrees gs) rs d t → IsInSpan (suc q) multiples (entry (row_of q ms (terms_of q (degrees gs) t)))
   multiple-row t h =
       in_span_congruent (row-times q ms (terms_of q (degrees gs) t) (terms_of q (degrees gs) one) t.scalar
-      (λ m. ap (λ c. coefficient (multiple q (degrees gs) c t.by t.of.terms) m) (let e : t.scalar ≡ t.scalar * 1 = omega arith in e) ∙ multiple-scaled q (degrees gs) t.scalar 1 t.by t.of.terms m))
+      (λ m. ap (λ c. coefficient (multiple q (degrees gs) c t.by t.of.terms) m) (let e : t.scalar ≡ t.scalar * 1 = omega arith in e)
+      ∙ multiple-scaled q (degrees gs) t.scalar 1 t.by t.of.terms m))
       (in_span_add t.scalar in_span_zero (rw place.2 at (E.spans place.0 place.1)))
     where
       one : Multiple
@@ -79,7 +82,8 @@ module _ (q d : ℕ) (V : Type 0) (A : Algebra V) (gs : List (Generator V)) (rs 
       place : (i : ℕ) × (i < length rows) × (row rows i ≡ row_of q ms (terms_of q (degrees gs) one))
       place = R.all one (record { given = h.given; rest = h.rest; monomial = h.monomial; degree_is = h.degree_is }) refl
 
-  total-row : (ts : List Multiple) → Each (IsMultiple q (degrees gs) rs d) ts → IsInSpan (suc q) multiples (entry (row_of q ms (total q (degrees gs) ts)))
+  total-row : (ts : List Multiple) → Each (IsMultiple q (degrees gs) rs d) ts
+      → IsInSpan (suc q) multiples (entry (row_of q ms (total q (degrees gs) ts)))
   total-row [] h = in_span_congruent (λ j. congruent_sym (row-empty q ms j)) in_span_zero
   total-row (t ∷ ts) h =
       in_span_congruent (λ j. congruent_sym (row-append q ms (terms_of q (degrees gs) t) (total q (degrees gs) ts) j))
@@ -88,7 +92,8 @@ module _ (q d : ℕ) (V : Type 0) (A : Algebra V) (gs : List (Generator V)) (rs 
   consequence-row : (f : List Term) → IsConsequence q A gs rs d f → IsInSpan (suc q) multiples (entry (row_of q ms f))
   consequence-row f c = rw (row-of-same q ms c.ideal.sum) (total-row c.ideal.multiples c.ideal.each)
 
-  pub consequence-pivots : 1 < suc q → (k : ℕ) → k < length ms → IsLeading q A (IsConsequence q A gs rs d) (slice_index_or ms k []) ↔ IsPivot multiples k
+  pub consequence-pivots : 1 < suc q → (k : ℕ) → k < length ms
+      → IsLeading q A (IsConsequence q A gs rs d) (slice_index_or ms k []) ↔ IsPivot multiples k
   consequence-pivots one k l = (
     pivot-of-leading one M A (IsConsequence q A gs rs d) (λ f c. c.over) multiples E.echelon consequence-row pivot-row-consequence k l,
     leading-of-pivot one M A (IsConsequence q A gs rs d) (λ f c. c.over) multiples E.echelon consequence-row pivot-row-consequence k l,

@@ -17,7 +17,8 @@ map-values : {q : ℕ} (ev : List ℕ → Vector q) (ms values : List (List ℕ)
 map-values ev [] [] c h = refl
 map-values ev [] (v ∷ vs) c h = absurd (omega (arith, c))
 map-values ev (m ∷ ms) [] c h = absurd (omega (arith, c))
-map-values {q} ev (m ∷ ms) (v ∷ vs) c h = ap₂ (λ (x : Vector q) xs. x ∷ xs) (sym (h 0 (omega arith))) (map-values ev ms vs (omega (arith, c)) (λ i l. h (suc i) (omega arith)))
+map-values {q} ev (m ∷ ms) (v ∷ vs) c h = ap₂ (λ (x : Vector q) xs. x ∷ xs) (sym (h 0 (omega arith)))
+    (map-values ev ms vs (omega (arith, c)) (λ i l. h (suc i) (omega arith)))
 
 module _ (q n : ℕ) (mul : ℕ → ℕ → Vector q → Vector q → Vector q) (gs : List (Generator (Vector q))) (ms values span basis : List (List ℕ))
     (V : AreValues q (vectors q mul) gs ms values) (E : IsEchelonOf (suc q) n values span) (U : AreUnitRows n basis) where
@@ -27,7 +28,8 @@ module _ (q n : ℕ) (mul : ℕ → ℕ → Vector q → Vector q → Vector q) 
   unit-at : (k : ℕ) → k < n → vector_of q (row basis k) ≡ unit q k
   unit-at k l = ap (vector_of q) (U.each k l) ∙ unit-vector q n k l
 
-  taken-units : (k : ℕ) (positions : List ℕ) → k ≤ n → IsGreedyBelow (suc q) basis span k positions → map (vector_of q) (rows_at basis positions) ≡ map (unit q) positions
+  taken-units : (k : ℕ) (positions : List ℕ) → k ≤ n → IsGreedyBelow (suc q) basis span k positions
+      → map (vector_of q) (rows_at basis positions) ≡ map (unit q) positions
   taken-units zero positions l g = rw g refl
   taken-units (suc k) positions l (inl g) = taken-units k positions (omega arith) g.0
   taken-units (suc k) positions l (inr g) = rw g.3
@@ -35,16 +37,23 @@ module _ (q n : ℕ) (mul : ℕ → ℕ → Vector q → Vector q → Vector q) 
       ∙ ap₂ (λ (xs : List (Vector q)) (x : Vector q). xs ++ x ∷ []) (taken-units k g.0 (omega arith) g.1) (unit-at k (omega arith))
       ∙ sym (map-append (unit q) g.0 (k ∷ [])))
 
-  all-rows : (k : ℕ) (positions : List ℕ) → k ≤ n → IsGreedyBelow (suc q) basis span k positions → us ++ map (unit q) positions ≡ map (vector_of q) (values ++ rows_at basis positions)
+  all-rows : (k : ℕ) (positions : List ℕ) → k ≤ n → IsGreedyBelow (suc q) basis span k positions
+      → us ++ map (unit q) positions ≡ map (vector_of q) (values ++ rows_at basis positions)
   all-rows k positions l g =
-      ap₂ (λ (xs ys : List (Vector q)). xs ++ ys) (map-values (evaluate (vectors q mul) gs) ms values V.count V.each) (sym (taken-units k positions l g))
+      ap₂ (λ (xs ys : List (Vector q)). xs ++ ys) (map-values (evaluate (vectors q mul) gs) ms values V.count V.each)
+      (sym (taken-units k positions l g))
       ∙ sym (map-append (vector_of q) values (rows_at basis positions))
 
   combination-in-span : (k : ℕ) (positions : List ℕ) → k < n → IsGreedyBelow (suc q) basis span k positions
-      → IsCombination (vectors q mul) (us ++ map (unit q) positions) (unit q k) ↔ IsInSpan (suc q) (span ++ rows_at basis positions) (entry (row basis k))
+      → IsCombination (vectors q mul) (us ++ map (unit q) positions) (unit q k) ↔ IsInSpan (suc q) (span ++ rows_at basis positions)
+      (entry (row basis k))
   combination-in-span k positions l g = (
-    (λ h. in_span_trans (span-with span values (rows_at basis positions) E.spans) ((combination-span q mul (values ++ rows_at basis positions) (row basis k)).0 (rw (all-rows k positions (omega arith) g, ← unit-at k l) at h))),
-    (λ s. rw (all-rows k positions (omega arith) g, ← unit-at k l) ((combination-span q mul (values ++ rows_at basis positions) (row basis k)).1 (in_span_trans (span-with values span (rows_at basis positions) E.spanned) s))),
+    (λ h. in_span_trans (span-with span values (rows_at basis positions) E.spans)
+        ((combination-span q mul (values ++ rows_at basis positions) (row basis k)).0
+        (rw (all-rows k positions (omega arith) g, ← unit-at k l) at h))),
+    (λ s. rw (all-rows k positions (omega arith) g, ← unit-at k l)
+        ((combination-span q mul (values ++ rows_at basis positions) (row basis k)).1
+        (in_span_trans (span-with values span (rows_at basis positions) E.spanned) s))),
   )
 
   chosen-from : (k m : ℕ) (positions : List ℕ) (chosen : List (Vector q)) → k + m ≡ n → IsGreedyBelow (suc q) basis span k positions
@@ -56,5 +65,6 @@ module _ (q n : ℕ) (mul : ℕ → ℕ → Vector q → Vector q → Vector q) 
       chosen-from k (suc m) g.0 chosen (omega (arith, e)) g.1
       (inr ((λ x. g.2 ((combination-in-span k g.0 (omega (arith, e)) g.1).0 x)), (rw (g.3, map-append (unit q) g.0 (k ∷ [])) at h)))
 
-  pub chosen-units : (positions : List ℕ) → IsGreedy (suc q) basis span positions → IsChosen q (vectors q mul) us (units q 0 n) [] (map (unit q) positions)
+  pub chosen-units : (positions : List ℕ) → IsGreedy (suc q) basis span positions
+      → IsChosen q (vectors q mul) us (units q 0 n) [] (map (unit q) positions)
   chosen-units positions g = chosen-from n 0 positions (map (unit q) positions) (omega arith) (rw U.count at g) refl

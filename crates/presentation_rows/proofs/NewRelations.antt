@@ -22,7 +22,8 @@ use Rattle.presentation_rows.proofs.PivotTests.{pivot-if-found, none-if-not-foun
 module _ (q d : ℕ) (mul : ℕ → ℕ → Vector q → Vector q → Vector q) (gs : List (Generator (Vector q))) (rs : List Polynomial)
     (ms values kernel multiples : List (List ℕ))
     (one : 1 < suc q) (M : IsMonomials q (degrees gs) d ms) (V : AreValues q (vectors q mul) gs ms values) (K : IsKernelOf (suc q) values kernel)
-    (consequences : (k : ℕ) → k < length ms → IsLeading q (vectors q mul) (IsConsequence q (vectors q mul) gs rs d) (slice_index_or ms k []) ↔ IsPivot multiples k) where
+    (consequences : (k : ℕ) → k < length ms → IsLeading q (vectors q mul) (IsConsequence q (vectors q mul) gs rs d)
+    (slice_index_or ms k []) ↔ IsPivot multiples k) where
   kernel-row : (i : ℕ) → i < length kernel → IsRow (suc q) (length ms) (row kernel i)
   kernel-row i l = rw (← V.count) (K.matrix i l)
 
@@ -30,7 +31,9 @@ module _ (q d : ℕ) (mul : ℕ → ℕ → Vector q → Vector q → Vector q) 
   pivot-inside i l = omega (arith, K.echelon.not_zero i l, (kernel-row i l).length_is)
 
   -- a row of the kernel is its leading monomial less standard monomials
-  relation-at : (i : ℕ) → i < length kernel → IsRelationAt q (vectors q mul) gs d (slice_index_or ms (pivot (row kernel i)) []) (record { degree = d; terms = polynomial_of ms (row kernel i) })
+  relation-at : (i : ℕ) → i < length kernel
+      → IsRelationAt q (vectors q mul) gs d (slice_index_or ms (pivot (row kernel i)) [])
+      (record { degree = d; terms = polynomial_of ms (row kernel i) })
   relation-at i l = record {
     degree_is = refl;
     polynomial = polynomial-of-row M (row kernel i) (kernel-row i l);
@@ -47,10 +50,13 @@ module _ (q d : ℕ) (mul : ℕ → ℕ → Vector q → Vector q → Vector q) 
           ∙ K.echelon.cleared p.0 i p.1 l (λ e. ne (sym p.2 ∙ ap (λ j. pivot (row kernel j)) e))))
       at k b ne (inr f) = inr (M.each k b, (standard-pivots q d mul gs ms values kernel one M V K k b).1 (none-if-not-found kernel k f))
 
-      go : (n : List ℕ) → n ≢ slice_index_or ms (pivot (row kernel i)) [] → IsMonomial q (degrees gs) d n ⊎ (coefficient (polynomial_of ms (row kernel i)) n ≡ 0)
-          → (IsCongruent (suc q) (coefficient (polynomial_of ms (row kernel i)) n) 0) ⊎ (IsMonomial q (degrees gs) d n × IsStandard q (vectors q mul) gs d n)
+      go : (n : List ℕ) → n ≢ slice_index_or ms (pivot (row kernel i)) [] → IsMonomial q (degrees gs) d n
+          ⊎ (coefficient (polynomial_of ms (row kernel i)) n ≡ 0)
+          → (IsCongruent (suc q) (coefficient (polynomial_of ms (row kernel i)) n) 0)
+          ⊎ (IsMonomial q (degrees gs) d n × IsStandard q (vectors q mul) gs d n)
       go n ne (inr z) = inl (congruent_eq z)
-      go n ne (inl m) = let k = M.all n m in rw (← k.2) (at k.0 k.1 (λ e. ne (sym k.2 ∙ ap (λ j. slice_index_or ms j []) e)) (cases_Bool (is_pivot kernel k.0)))
+      go n ne (inl m) = let k = M.all n m in rw (← k.2)
+          (at k.0 k.1 (λ e. ne (sym k.2 ∙ ap (λ j. slice_index_or ms j []) e)) (cases_Bool (is_pivot kernel k.0)))
 
   -- the monomials from place k on, and the rows of the kernel from row i on: those whose pivot is not before k
   record IsSplit (rest rows : List (List ℕ)) (k i : ℕ) : Type 0 where
@@ -61,7 +67,8 @@ module _ (q d : ℕ) (mul : ℕ → ℕ → Vector q → Vector q → Vector q) 
     before : (j : ℕ) → j < i → pivot (row kernel j) < k
     here : 0 < length rows → k ≤ pivot (row rows 0)
 
-  skip : {m : List ℕ} {rest rows : List (List ℕ)} {k i : ℕ} → IsSplit (m ∷ rest) rows k i → (0 < length rows → k < pivot (row rows 0)) → IsSplit rest rows (suc k) i
+  skip : {m : List ℕ} {rest rows : List (List ℕ)} {k i : ℕ} → IsSplit (m ∷ rest) rows k i → (0 < length rows → k < pivot (row rows 0))
+      → IsSplit rest rows (suc k) i
   skip {k = k} s h = record {
     places = omega (arith, s.places);
     monomial = λ j l. s.monomial (suc j) (omega (arith, l)) ∙ ap (λ x. slice_index_or ms x []) (let e : k + suc j ≡ suc k + j = omega arith in e);
@@ -105,12 +112,14 @@ module _ (q d : ℕ) (mul : ℕ → ℕ → Vector q → Vector q → Vector q) 
 
           after : (i < p.0) ⊎ (p.0 ≤ i) → ⊥
           after (inl b) = absurd (omega (arith, K.echelon.ascending i p.0 b p.1, above, p.2))
-          after (inr b) = let e : p.0 ≡ i = omega arith in absurd (let z : pivot (row kernel i) ≡ k = ap (λ j. pivot (row kernel j)) (sym e) ∙ p.2 in omega (arith, z, above))
+          after (inr b) = let e : p.0 ≡ i = omega arith in absurd
+              (let z : pivot (row kernel i) ≡ k = ap (λ j. pivot (row kernel j)) (sym e) ∙ p.2 in omega (arith, z, above))
 
   From : List (List ℕ) → List (List ℕ) → Type 0
   From rest rows = (k i : ℕ) → IsSplit rest rows k i → IsRelationsFrom q (vectors q mul) gs rs d rest (new_relations d ms multiples rows)
 
-  from-split : (rest rows : List (List ℕ)) (k i : ℕ) → IsSplit rest rows k i → IsRelationsFrom q (vectors q mul) gs rs d rest (new_relations d ms multiples rows)
+  from-split : (rest rows : List (List ℕ)) (k i : ℕ) → IsSplit rest rows k i
+      → IsRelationsFrom q (vectors q mul) gs rs d rest (new_relations d ms multiples rows)
   from-split [] [] k i s = refl
   from-split [] (u ∷ rows) k i s = absurd (let b : i < length kernel = omega (arith, s.count) in
       let e : u ≡ row kernel i = s.each 0 (omega arith) ∙ ap (row kernel) (let z : i + 0 ≡ i = omega arith in z) in
@@ -140,7 +149,8 @@ module _ (q d : ℕ) (mul : ℕ → ℕ → Vector q → Vector q → Vector q) 
       Goal : List Polynomial → Type 0
       Goal new = IsRelationsFrom q (vectors q mul) gs rs d rest new
 
-      at-pivot : pivot u ≡ k → Goal (new_relations d ms multiples rows) → (is_pivot multiples (pivot u) ≡ true) ⊎ (is_pivot multiples (pivot u) ≡ false)
+      at-pivot : pivot u ≡ k → Goal (new_relations d ms multiples rows) → (is_pivot multiples (pivot u) ≡ true)
+          ⊎ (is_pivot multiples (pivot u) ≡ false)
           → IsRelationsFrom q (vectors q mul) gs rs d (m ∷ rest) (new_relations d ms multiples (u ∷ rows))
       at-pivot p r (inl t) = rw t (inr (inl (rw e ((consequences k b).1 (rw p at (pivot-if-found multiples (pivot u) t))), r)))
       at-pivot p r (inr t) = rw t (inr (inr (
@@ -154,9 +164,14 @@ module _ (q d : ℕ) (mul : ℕ → ℕ → Vector q → Vector q → Vector q) 
       )))
 
       go : (k ≡ pivot u) ⊎ ((k < pivot u) ⊎ (pivot u < k)) → (IsSplit rest (u ∷ rows) (suc k) i → Goal (new_relations d ms multiples (u ∷ rows)))
-          → (IsSplit rest rows (suc k) (suc i) → Goal (new_relations d ms multiples rows)) → IsRelationsFrom q (vectors q mul) gs rs d (m ∷ rest) (new_relations d ms multiples (u ∷ rows))
+          → (IsSplit rest rows (suc k) (suc i) → Goal (new_relations d ms multiples rows))
+          → IsRelationsFrom q (vectors q mul) gs rs d (m ∷ rest) (new_relations d ms multiples (u ∷ rows))
       go (inl p) more r = at-pivot (sym p) (r (step s (sym p))) (cases_Bool (is_pivot multiples (pivot u)))
-      go (inr (inl l)) more r = inl ((rw e ((standard-pivots q d mul gs ms values kernel one M V K k b).1 (no-pivot s (λ _. l)))), more (skip s (λ _. l)))
+      go (inr (inl l)) more r = inl (
+        (rw e ((standard-pivots q d mul gs ms values kernel one M V K k b).1 (no-pivot s (λ _. l)))),
+        more
+            (skip s (λ _. l)),
+      )
       go (inr (inr l)) more r = absurd (let h = s.here (omega arith) in omega (arith, h, l))
 
   pub relations-from : IsRelationsFrom q (vectors q mul) gs rs d ms (new_relations d ms multiples kernel)

@@ -23,8 +23,10 @@ use Rattle.presentation_rows.proofs.RowValues.{value-of-combination}
 use Rattle.presentation_rows.proofs.KernelLeads.{standard-pivots}
 
 module _ (q d : ℕ) (mul : ℕ → ℕ → Vector q → Vector q → Vector q) (gs : List (Generator (Vector q))) (ms values kernel : List (List ℕ))
-    (one : 1 < suc q) (M : IsMonomials q (degrees gs) d ms) (V : AreValues q (vectors q mul) gs ms values) (K : IsKernelOf (suc q) values kernel) where
-  pub normal-form-of : (w u : List ℕ) → IsPreimage (suc q) values kernel w u → IsNormalForm q (vectors q mul) gs d (vector_of q w) (polynomial_of ms u)
+    (one : 1 < suc q) (M : IsMonomials q (degrees gs) d ms) (V : AreValues q (vectors q mul) gs ms values)
+    (K : IsKernelOf (suc q) values kernel) where
+  pub normal-form-of : (w u : List ℕ) → IsPreimage (suc q) values kernel w u
+      → IsNormalForm q (vectors q mul) gs d (vector_of q w) (polynomial_of ms u)
   normal-form-of w u P = record {
     polynomial = polynomial-of-row M u (rw (← V.count) P.is_row);
     standard = each-term (λ t. IsStandard q (vectors q mul) gs d t.monomial) ms u
@@ -35,7 +37,8 @@ module _ (q d : ℕ) (mul : ℕ → ℕ → Vector q → Vector q → Vector q) 
       none : (k c : ℕ) → entry u k ≡ suc c → IsPivot kernel k → ⊥
       none k c e p = absurd (let z : entry u k ≡ 0 = ap (entry u) (sym p.2) ∙ P.zero_at_pivots p.0 p.1 in omega (arith, z, e))
 
-module _ {p n : ℕ} {values kernel basis us : List (List ℕ)} (one : 1 < p) (U : AreUnitRows n basis) (P : ArePreimages p values kernel basis us) (K : IsKernelOf p values kernel) where
+module _ {p n : ℕ} {values kernel basis us : List (List ℕ)} (one : 1 < p) (U : AreUnitRows n basis) (P : ArePreimages p values kernel basis us)
+    (K : IsKernelOf p values kernel) where
   -- the combination of the unit rows with the entries of a row is that row
   units-combine : (w : List ℕ) → IsRow p n w → (j : ℕ) → IsCongruent p (sum_below n (λ i. entry w i * entry (row basis i) j)) (entry w j)
   units-combine w r j = go (cases_lt j n)
@@ -46,16 +49,19 @@ module _ {p n : ℕ} {values kernel basis us : List (List ℕ)} (one : 1 < p) (U
       go : (j < n) ⊎ (n ≤ j) → IsCongruent p (sum_below n (λ i. entry w i * entry (row basis i) j)) (entry w j)
       go (inl l) = congruent_trans (sum_below-one p n j (λ i. entry w i * entry (row basis i) j) l (λ i b ne. zero-at i b (λ e. ne (sym e))))
           (congruent_eq (rw (U.each j l, entry_unit_same n j l) (omega arith)))
-      go (inr l) = congruent_trans (sum_below-vanishes p n (λ i. entry w i * entry (row basis i) j) (λ i b. zero-at i b (λ e. absurd (omega (arith, e)))))
+      go (inr l) = congruent_trans (sum_below-vanishes p n (λ i. entry w i * entry (row basis i) j)
+          (λ i b. zero-at i b (λ e. absurd (omega (arith, e)))))
           (congruent_eq (sym (get_or_past w j 0 (omega (arith, r.length_is)))))
 
-  pub preimage-of-combination : (w u : List ℕ) → IsRow p n w → IsRow p (length values) u → IsCombination p (entry w) us (entry u) → IsPreimage p values kernel w u
+  pub preimage-of-combination : (w u : List ℕ) → IsRow p n w → IsRow p (length values) u → IsCombination p (entry w) us (entry u)
+      → IsPreimage p values kernel w u
   preimage-of-combination w u r s h = record {
     is_row = s;
     maps = record {
       each = λ j.
           congruent_trans (same_coefficients values (entry u) (combination (entry w) us) (λ t b. congruent_sym (h.each t)) j)
-          (congruent_trans ((combine_combinations p (length us) (length values) (entry w) (λ i k. entry (row us i) k) (λ k j. entry (row values k) j) (λ i j. entry (row basis i) j)
+          (congruent_trans ((combine_combinations p (length us) (length values) (entry w) (λ i k. entry (row us i) k)
+          (λ k j. entry (row values k) j) (λ i j. entry (row basis i) j)
           (λ i l. record { each = (P.each i (omega (arith, P.count, l))).maps.each })).each j)
           (congruent_trans (congruent_eq (ap (λ m. sum_below m (λ i. entry w i * entry (row basis i) j)) (P.count ∙ U.count)))
           (units-combine w r j)));

@@ -16,7 +16,8 @@ row-of-same q [] h = refl
 row-of-same q (m ∷ ms) h = ap₂ (λ (x : ℕ) xs. x ∷ xs) (h.at m).same_remainder (row-of-same q ms h)
 
 module _ (q : ℕ) (ms : List (List ℕ)) where
-  pub entry-congruent : (f : List Term) (k : ℕ) → k < length ms → IsCongruent (suc q) (entry (row_of q ms f) k) (coefficient f (slice_index_or ms k []))
+  pub entry-congruent : (f : List Term) (k : ℕ) → k < length ms
+      → IsCongruent (suc q) (entry (row_of q ms f) k) (coefficient f (slice_index_or ms k []))
   entry-congruent f k l = congruent_trans (congruent_eq (entry-row-of q ms f k l)) (congruent_mod (coefficient f (slice_index_or ms k [])))
 
   -- what holds of the coefficients at each monomial holds of the entries
@@ -30,10 +31,13 @@ module _ (q : ℕ) (ms : List (List ℕ)) where
           (congruent_sym (congruent_add (entry-congruent g j l) (congruent_mul_left c (entry-congruent h j l)))))
       go (inr l) = congruent_eq (rw (entry-row-past q ms f j l, entry-row-past q ms g j l, entry-row-past q ms h j l) (omega arith))
 
-  pub row-plus : (f g : List Term) (c j : ℕ) → IsCongruent (suc q) (entry (row_of q ms (f ++ scaled c g)) j) (entry (row_of q ms f) j + c * entry (row_of q ms g) j)
-  row-plus f g c j = row-from (f ++ scaled c g) f g c (λ m. coefficient-append f (scaled c g) m ∙ ap (λ z. coefficient f m + z) (coefficient-scaled c g m)) j
+  pub row-plus : (f g : List Term) (c j : ℕ)
+      → IsCongruent (suc q) (entry (row_of q ms (f ++ scaled c g)) j) (entry (row_of q ms f) j + c * entry (row_of q ms g) j)
+  row-plus f g c j = row-from (f ++ scaled c g) f g c
+      (λ m. coefficient-append f (scaled c g) m ∙ ap (λ z. coefficient f m + z) (coefficient-scaled c g m)) j
 
-  pub row-append : (f g : List Term) (j : ℕ) → IsCongruent (suc q) (entry (row_of q ms (f ++ g)) j) (entry (row_of q ms f) j + 1 * entry (row_of q ms g) j)
+  pub row-append : (f g : List Term) (j : ℕ)
+      → IsCongruent (suc q) (entry (row_of q ms (f ++ g)) j) (entry (row_of q ms f) j + 1 * entry (row_of q ms g) j)
   row-append f g j = row-from (f ++ g) f g 1 (λ m. let e = coefficient-append f g m in omega (arith, e)) j
 
   pub row-empty : (j : ℕ) → IsCongruent (suc q) (entry (row_of q ms []) j) 0
@@ -45,4 +49,5 @@ module _ (q : ℕ) (ms : List (List ℕ)) where
 
   pub row-times : (f g : List Term) (c : ℕ) → ((m : List ℕ) → coefficient f m ≡ c * coefficient g m) → (j : ℕ)
       → IsCongruent (suc q) (0 + c * entry (row_of q ms g) j) (entry (row_of q ms f) j)
-  row-times f g c e j = congruent_sym (congruent_trans (row-from f [] g c (λ m. let z = e m in omega (arith, z)) j) (congruent_add (row-empty j) (congruent_eq refl)))
+  row-times f g c e j = congruent_sym (congruent_trans (row-from f [] g c (λ m. let z = e m in omega (arith, z)) j)
+      (congruent_add (row-empty j) (congruent_eq refl)))

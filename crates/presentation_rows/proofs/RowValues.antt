@@ -30,10 +30,12 @@ module _ (q : ℕ) (mul : ℕ → ℕ → Vector q → Vector q → Vector q) wh
       → (j : ℕ) → linear (vectors q mul) ev (polynomial_of ms u) j ≡ residue q (sum_below (length ms) (λ i. entry u i * R i j))
   linear-row ev [] u R h j = refl
   linear-row ev (m ∷ ms) [] R h j =
-      ap (residue q) (sym (sum_below-same (suc (length ms)) (λ i. entry [] i * R i j) (λ i. 0) (λ i l. omega arith) ∙ sum_below-zero (suc (length ms))))
+      ap (residue q) (sym (sum_below-same (suc (length ms)) (λ i. entry [] i * R i j) (λ i. 0) (λ i l. omega arith)
+      ∙ sum_below-zero (suc (length ms))))
   linear-row ev (m ∷ ms) (zero ∷ u) R h j =
       linear-row ev ms u (λ i. R (suc i)) (λ i l. h (suc i) (omega arith)) j
-      ∙ ap (residue q) (sym (sum_below-first (length ms) (λ i. entry (0 ∷ u) i * R i j) ∙ (let e : 0 * R 0 j + sum_below (length ms) (λ i. entry u i * R (suc i) j) ≡ sum_below (length ms) (λ i. entry u i * R (suc i) j) = omega arith in e)))
+      ∙ ap (residue q) (sym (sum_below-first (length ms) (λ i. entry (0 ∷ u) i * R i j)
+      ∙ (let e : 0 * R 0 j + sum_below (length ms) (λ i. entry u i * R (suc i) j) ≡ sum_below (length ms) (λ i. entry u i * R (suc i) j) = omega arith in e)))
   linear-row ev (m ∷ ms) (suc c ∷ u) R h j =
       ap₂ (λ (x y : Below (suc q)). residue q (x.0 + y.0)) (times-residue (suc c) (ev m) j (R 0 j) (h 0 (omega arith) j))
       (linear-row ev ms u (λ i. R (suc i)) (λ i l. h (suc i) (omega arith)) j)
@@ -46,8 +48,10 @@ module _ (q : ℕ) (mul : ℕ → ℕ → Vector q → Vector q → Vector q) wh
         linear-row (evaluate (vectors q mul) gs) ms u (λ i j. entry (row values i) j) (λ i l j. sym (ap (λ (v : Vector q). v j) (V.each i l))) j
         ∙ ap (λ n. residue q (sum_below n (λ i. entry u i * entry (row values i) j))) (sym V.count)
 
-    pub value-of-combination : (u c : List ℕ) → IsCombination (suc q) (entry u) values (entry c) → value (vectors q mul) gs (polynomial_of ms u) ≡ vector_of q c
-    value-of-combination u c h = fun_ext (λ j. value-row u j ∙ below-path (residue q (combination (entry u) values j)) (residue q (entry c j)) (h.each j).same_remainder)
+    pub value-of-combination : (u c : List ℕ) → IsCombination (suc q) (entry u) values (entry c)
+        → value (vectors q mul) gs (polynomial_of ms u) ≡ vector_of q c
+    value-of-combination u c h = fun_ext (λ j. value-row u j
+        ∙ below-path (residue q (combination (entry u) values j)) (residue q (entry c j)) (h.each j).same_remainder)
 
     pub value-of-kernel : (u : List ℕ) → IsInKernel (suc q) values (entry u) → value (vectors q mul) gs (polynomial_of ms u) ≡ (vectors q mul).zero
     value-of-kernel u h = fun_ext (λ j. value-row u j ∙ below-path (residue q (combination (entry u) values j)) (residue q 0) (h j).same_remainder)

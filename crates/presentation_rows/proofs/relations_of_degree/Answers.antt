@@ -14,6 +14,7 @@ returns c q n mul gs rs ms values kernel rows multiples one h M V K R E = (
   h,
   M,
   relations-from q (suc n) mul gs rs ms values kernel multiples one M V K
-      (consequence-pivots q (suc n) (Vector q) (vectors q mul) gs rs ms rows multiples (λ r o. (defining q (Vector q) (vectors q mul) gs n rs h r o).vanishes.over) M R E one),
+      (consequence-pivots q (suc n) (Vector q) (vectors q mul) gs rs ms rows multiples
+      (λ r o. (defining q (Vector q) (vectors q mul) gs n rs h r o).vanishes.over) M R E one),
   refl,
 )
