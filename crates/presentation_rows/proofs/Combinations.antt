@@ -1,5 +1,5 @@
 -- Combinations of vectors are combinations of rows, and spans of lists that are put together.
-use Rattle.std.proofs.Common.{◌≡◌, ℕ, zero, suc, ◌+◌, ◌-◌, ◌*◌, ◌%◌, ◌<◌, ◌≤◌, ◌↔◌, List, [], ◌∷◌, ◌++◌, length, map, ◌⊎◌, inl, inr, arith, ap, sym, ◌∙◌, refl, length-append}
+use Rattle.std.proofs.Common.{ℕ, zero, suc, ◌+◌, ◌-◌, ◌*◌, ◌%◌, ◌<◌, ◌≤◌, ◌↔◌, List, [], ◌∷◌, ◌++◌, length, map, ◌⊎◌, inl, inr, arith, ap, sym, ◌∙◌, refl, length-append}
 use Rattle.std.proofs.Math.Path.{fun_ext}
 use Rattle.std.proofs.lemmas.Bool.{cases_lt}
 use Rattle.std.proofs.lemmas.List.{get_or_append_left, get_or-append_right, get_or-append-add}
@@ -53,8 +53,8 @@ module _ (q : ℕ) (mul : ℕ → ℕ → Vector q → Vector q → Vector q) wh
       → IsCombination (vectors q mul) (map (vector_of q) R) (vector_of q w) ↔ IsInSpan (suc q) R (entry w)
   combination-span R w = (
     (λ h. in_span_congruent (λ j. congruent_mod (entry w j)) (rows-from-combination R (vector_of q w) h)),
-    (λ s. let e : (λ j. residue q (combination s.0 R j)) ≡ vector_of q w = fun_ext (λ j. below-path (residue q (combination s.0 R j)) (residue q (entry w j)) (s.1.each j).same_remainder) in
-        rw e at (combination-from-rows R s.0)),
+    (λ s. rw (fun_ext (λ j. below-path (residue q (combination s.0 R j)) (residue q (entry w j)) (s.1.each j).same_remainder)) at
+        (combination-from-rows R s.0)),
   )
 
 pub span-left : {p : ℕ} (A B : List (List ℕ)) → AreInSpan p (A ++ B) A
@@ -62,7 +62,8 @@ span-left {p} A B i l = let h : IsInSpan p (A ++ B) (entry (row (A ++ B) i)) = i
     rw (get_or_append_left A B [] i l) at h
 
 pub span-right : {p : ℕ} (A B : List (List ℕ)) → AreInSpan p (A ++ B) B
-span-right {p} A B i l = let h : IsInSpan p (A ++ B) (entry (row (A ++ B) (length A + i))) = in_span_row (A ++ B) (length A + i) (omega (arith, length-append A B, l)) in
+span-right {p} A B i l =
+    let h : IsInSpan p (A ++ B) (entry (row (A ++ B) (length A + i))) = in_span_row (A ++ B) (length A + i) (omega (arith, length-append A B, l)) in
     rw (get_or-append-add A B i []) at h
 
 pub span-both : {p : ℕ} (rows A B : List (List ℕ)) → AreInSpan p rows A → AreInSpan p rows B → AreInSpan p rows (A ++ B)

@@ -110,8 +110,7 @@ monomials-with-last q d ds ms p pos M = record {
     all m (inl k) = let i = M.all m k in (
       i.0,
       (let e = length-append ms (power (length ds) 1 ∷ []) in omega (arith, i.1, e)),
-      get_or_append_left ms
-          (power (length ds) 1 ∷ []) [] i.0 i.1 ∙ i.2,
+      get_or_append_left ms (power (length ds) 1 ∷ []) [] i.0 i.1 ∙ i.2,
     )
     all m (inr k) = (length ms, (let e = length-append ms (power (length ds) 1 ∷ []) in omega (arith, e)), last ∙ sym (k.1 ∙ single-is-power ds))
 
@@ -119,8 +118,7 @@ monomials-with-last q d ds ms p pos M = record {
         → IsGreater (slice_index_or (ms ++ power (length ds) 1 ∷ []) i []) (slice_index_or (ms ++ power (length ds) 1 ∷ []) j [])
     descending i j b l (inl c) = rw (
       get_or_append_left ms (power (length ds) 1 ∷ []) [] i (omega (arith, b, c)),
-      get_or_append_left ms
-          (power (length ds) 1 ∷ []) [] j c,
+      get_or_append_left ms (power (length ds) 1 ∷ []) [] j c,
     ) (M.descending i j b c)
     descending i j b l (inr c) = let e = is-last j l c in let f : i < length ms = omega (arith, e, b) in
         rw (e, last, get_or_append_left ms (power (length ds) 1 ∷ []) [] i f)
@@ -146,8 +144,8 @@ module _ (q : ℕ) (mul : ℕ → ℕ → Vector q → Vector q → Vector q) (g
       M = rw (degrees-append gs (g ∷ [])) (monomial-last q g.degree (degrees gs))
 
       r : (e : ℕ) × (e + g.degree ≡ g.degree) × IsMonomial q (degrees (gs ++ g ∷ [])) e []
-          × (evaluate (vectors q mul) (gs ++ g ∷ []) (power (length (degrees gs)) 1) ≡ mul e g.degree
-          (evaluate (vectors q mul) (gs ++ g ∷ []) []) g.class)
+          × (evaluate (vectors q mul) (gs ++ g ∷ []) (power (length (degrees gs)) 1)
+          ≡ mul e g.degree (evaluate (vectors q mul) (gs ++ g ∷ []) []) g.class)
       r = value-by-factor q g.degree (length (degrees gs)) (vectors q mul) (gs ++ g ∷ []) g (power (length (degrees gs)) 1) [] M tt
           (last-factor (length (degrees gs))) (place-of-last gs g)
 

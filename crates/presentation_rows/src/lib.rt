@@ -12,7 +12,8 @@ ghost use Rattle.graded_polynomials.specs.Monomials.{IsMonomial, IsMonomials, Is
 ghost use Rattle.graded_polynomials.specs.Texts.{power};
 ghost use Rattle.graded_polynomials.specs.Polynomials.{Term, Polynomial, IsOver, IsPolynomial, IsSame};
 ghost use Rattle.graded_algebra.specs.Algebras.{Generator, degrees, evaluate, value};
-ghost use Rattle.graded_algebra.specs.Presentations.{IsRelation, IsConsequence, IsLeading, IsStandard, IsSpanGenerators, IsRelations, IsNormalForm, generators_of};
+ghost use Rattle.graded_algebra.specs.Presentations.{IsRelation, IsConsequence, IsLeading, IsStandard};
+ghost use Rattle.graded_algebra.specs.Presentations.{IsSpanGenerators, IsRelations, IsNormalForm, generators_of};
 ghost use Rattle.graded_algebra.specs.Vectors.{Vector, vectors, unit, units};
 ghost use Rattle.presentation_rows.specs.RowPolynomials.{polynomial_of, row_of};
 ghost use Rattle.presentation_rows.specs.Values.{vector_of, AreValues, AreUnitRows};
