@@ -10,3 +10,6 @@ mod powers;
 mod tables;
 
 pub use algebra::Algebra;
+
+#[cfg(test)]
+mod tests;
