@@ -1,5 +1,6 @@
 pub mod PGroups
 pub mod Coordinates
+pub mod Inverse
 pub mod Coefficients
 pub mod Places
 pub mod Gains

@@ -4,12 +4,14 @@
 mod algebra;
 mod coefficients;
 mod combinations;
+mod laws;
 mod layers;
 mod places;
 mod powers;
 mod tables;
 
 pub use algebra::Algebra;
+pub use laws::inverse_law;
 
 #[cfg(test)]
 mod tests;
