@@ -1,6 +1,7 @@
 pub mod GeneratorMoves
 pub mod ProductLists
 pub mod StageLaws
+pub mod SpanMembers
 pub mod NextStage
 pub mod BlockSums
 pub mod AddZero

@@ -40,7 +40,7 @@ module _ {n : ℕ} (q : ℕ) (Γ : Group n) where
       whole = ap₂ (sub A) (terms-sum q Γ b v) none-left ∙ sub-zero A v
 
   module _ (M : Module (suc q) (monoid Γ)) (L : M.of → Type 0) (U : IsSubmodule M L) where
-    total-in : {A : Type 0} (xs : List A) (f : A → M.of) → ((a : A) → L (f a)) → L (total M xs f)
+    pub total-in : {A : Type 0} (xs : List A) (f : A → M.of) → ((a : A) → L (f a)) → L (total M xs f)
     total-in [] f h = U.zero-in
     total-in (x ∷ xs) f h = U.add-in (f x) (total M xs f) (h x) (total-in xs f h)
 

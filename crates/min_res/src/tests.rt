@@ -1,4 +1,9 @@
-ghost use Rattle.std.specs.Prelude.{◌≡◌, ◌*◌, ◌<◌, All, IfOk, vec_len};
+ghost use Rattle.group_algebra.specs.PGroups.{IsPGroup};
+ghost use Rattle.group_table.specs.Prime.{prime_value};
+ghost use Rattle.group_table.specs.Tables.{order};
+ghost use Rattle.min_res.specs.Defined.{InK};
+ghost use Rattle.min_res.specs.Stages.{rank_of};
+ghost use Rattle.std.specs.Prelude.{◌≡◌, ◌*◌, ◌<◌, All, IfOk, IsTrue, length, vec_len};
 
 use super::*;
 use fp_rows::{Row, RowRef};
@@ -224,5 +229,73 @@ fn goes_there_and_back(rt: HostRuntime) -> Result<(), Fail> {
     let (value, unit) = there_and_back(rt.alloc(), stage)?.ok_or("no boundary")?;
     assert!(rt; shows(value.view(), &[0, 1]));
     assert!(rt; shows(unit.view(), &[1, 0]));
+    Ok(())
+}
+
+fn row_of(rt: &impl Abort, alloc: Global, p: Prime, entries: &[u8]) -> Result<Row, Fail>
+    ensures { IfOk result (λ r. r.p ≡ prime_value p) }
+{
+    let mut row = Row::zero(alloc, p, entries.len())?;
+    for (i, x) in entries.iter().enumerate() {
+        assert!(rt; i < row.len() && *x < p.value());
+        row.set(i, *x);
+    }
+    Ok(row)
+}
+
+// Whether a row is one of the kernel of degree d.
+fn is_in_kernel(resolution: &Resolution, d: u32, v: &Row) -> bool
+    requires { v.now.p ≡ resolution.now.group.p }
+    ensures { IsTrue result → (h : IsPGroup resolution.now.group) → InK resolution.now.group h d v.now.entries }
+{
+    let _group = resolution.algebra().group();
+    let Some(stage) = resolution.stage(d) else {
+        return false;
+    };
+    if v.len() != stage.kernel().width() {
+        return false;
+    }
+    stage.kernel().contains(v.view())
+}
+
+// The zero of the free module of degree d.
+fn zero_of(alloc: Global, resolution: &Resolution, d: u32) -> Result<Row, Fail>
+    ensures prime { IfOk result (λ r. r.p ≡ resolution.now.group.p) }
+    ensures width { IfOk result (λ r. (h : IsPGroup resolution.now.group)
+        → length r.entries ≡ order resolution.now.group * rank_of resolution.now.group h d) }
+{
+    let p = resolution.algebra().group().prime();
+    let stage = resolution.stage(d).ok_or("no stage")?;
+    let row = Row::zero(alloc, p, stage.kernel().width())?;
+    Ok(row)
+}
+
+// The section, under the boundary of degree d, of a row of the kernel of degree d - 1.
+fn section_of(
+    rt: &impl Abort,
+    alloc: Global,
+    resolution: &Resolution,
+    d: u32,
+    entries: &[u8],
+) -> Result<Row, Fail> {
+    assert!(rt; 0 < d && d <= resolution.last());
+    let v = row_of(rt, alloc, resolution.algebra().group().prime(), entries)?;
+    assert!(rt; is_in_kernel(resolution, d - 1, &v));
+    let mut out = zero_of(alloc, resolution, d)?;
+    resolution.section(d, v.view(), &mut out);
+    Ok(out)
+}
+
+// The group algebra of three elements has the layer basis 1, X = g - 1, X^2. The boundary of degree 1 takes 1 to X and that of degree 2
+// takes 1 to X^2, so their kernels are the multiples of X^2 and of X: the sections of 2 X + X^2 and of 2 X^2 are 2 + X and 2.
+#[test]
+fn sections_of_three_elements(rt: HostRuntime) -> Result<(), Fail> {
+    let table = table_of(&rt, rt.alloc(), 3, &[0, 1, 2, 1, 2, 0, 2, 0, 1])?;
+    let group = Group::from_table(rt.alloc(), Prime::P3, 1, table)?;
+    let resolution = resolved(&rt, rt.alloc(), &group, 2)?;
+    let first = section_of(&rt, rt.alloc(), &resolution, 1, &[0, 2, 1])?;
+    assert!(rt; shows(first.view(), &[2, 1, 0]));
+    let second = section_of(&rt, rt.alloc(), &resolution, 2, &[0, 0, 2])?;
+    assert!(rt; shows(second.view(), &[2, 0, 0]));
     Ok(())
 }
