@@ -1,5 +1,7 @@
 pub mod AllMonomials
+pub mod Automaton
 pub mod Generators
 pub mod Lists
 pub mod Polynomials
+pub mod Reading
 pub mod Substitution

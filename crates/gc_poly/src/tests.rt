@@ -5,7 +5,7 @@ ghost use Rattle.group_table.specs.Prime.{prime_value};
 ghost use Rattle.gc_poly.specs.Polynomials.{IsOverGenerators};
 
 use crate::{
-    Gens, Mono, Poly, Polys, add, count_monomials, monomials, mul, sub, subst, write_text,
+    Gens, Mono, Poly, PolyFault, Polys, add, count_monomials, monomials, mul, read_poly, sub, subst, write_text,
 };
 use group_table::{Memory, Prime};
 use std::alloc::Global;
@@ -142,5 +142,48 @@ fn substitutions(rt: HostRuntime) -> Result<(), Fail> {
         text_of(rt.alloc(), &to, &image)?.as_str(),
         "x_1_1^2+x_1_2^2"
     );
+    Ok(())
+}
+
+#[test]
+fn texts_read(rt: HostRuntime) -> Result<(), Fail> {
+    let cases: [(Prime, &[u8], Result<&str, PolyFault>); 26] = [
+        (Prime::P2, b"x_1_1+y", Err(PolyFault::UnknownName(7))),
+        (Prime::P2, b"x_1_1+x_2_1", Err(PolyFault::Mixed(1, 2))),
+        (Prime::P2, b"x_1_1+", Err(PolyFault::Syntax(7))),
+        (Prime::P2, b"x_2_1^24", Err(PolyFault::TooHigh(48))),
+        (Prime::P2, b"x_2_1^25", Err(PolyFault::Syntax(8))),
+        (Prime::P2, b"x_2_1+x_1_2*x_1_1", Ok("x_1_1*x_1_2+x_2_1")),
+        (Prime::P2, b"x_2_1+x_1_2+y", Err(PolyFault::UnknownName(13))),
+        (Prime::P2, b"1*x_1_1+x_1_1", Ok("0")),
+        (Prime::P2, b"2*x_1_1", Err(PolyFault::Syntax(1))),
+        (Prime::P3, b"x_1_2*x_1_1", Ok("2*x_1_1*x_1_2")),
+        (Prime::P3, b"2*x_1_2*x_1_1^1+x_2_1", Ok("x_1_1*x_1_2+x_2_1")),
+        (Prime::P3, b"x_1_1^2", Ok("0")),
+        (Prime::P3, b"3*x_1_1", Err(PolyFault::Syntax(1))),
+        (Prime::P3, b"2*x_1_1^02", Err(PolyFault::Syntax(9))),
+        (Prime::P3, b"0", Ok("0")),
+        (Prime::P3, b"1", Ok("1")),
+        (Prime::P3, b"2", Err(PolyFault::Syntax(2))),
+        (Prime::P3, b"", Err(PolyFault::Syntax(1))),
+        (Prime::P3, b"0*x_1_1", Err(PolyFault::Syntax(2))),
+        (Prime::P3, b"1+x_1_1", Err(PolyFault::Syntax(2))),
+        (Prime::P3, b"2*x_1_3*x_1_1+x_2_2", Err(PolyFault::UnknownName(3))),
+        (Prime::P3, b"x_1_1*x_01_1", Err(PolyFault::UnknownName(7))),
+        (Prime::P3, b"x_1_1 ", Err(PolyFault::Syntax(6))),
+        (Prime::P3, b"x_2_1^12*x_2_1+y_1", Err(PolyFault::UnknownName(16))),
+        (Prime::P3, b"x_1_1+x_2_1^12*x_1_1", Err(PolyFault::TooHigh(25))),
+        (Prime::P3, b"x_1_1+x_1_2*x_1_1+x_1_1", Err(PolyFault::Mixed(1, 2))),
+    ];
+    for (p, text, wanted) in cases {
+        let gens = small_gens(rt.alloc(), p)?;
+        match read_poly(rt.alloc(), &gens, text) {
+            Ok(f) => {
+                let written = text_of(rt.alloc(), &gens, &f)?;
+                assert_eq!(rt; Ok(written.as_str()), wanted);
+            }
+            Err(fault) => assert_eq!(rt; Err(fault), wanted),
+        }
+    }
     Ok(())
 }

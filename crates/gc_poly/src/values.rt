@@ -1,0 +1,84 @@
+//! The sum of terms that are read.
+
+ghost use Rattle.std.specs.Prelude.{◌≡◌, ◌≤◌, ◌<◌, ◌*◌, [], ◌∷◌, slice_index, IfOk, All};
+ghost use Rattle.graded_polynomials.specs.Texts.{power, read_from, read_value};
+ghost use Rattle.polynomial_texts.specs.Readings.{term_degree};
+ghost use Rattle.gc_poly.specs.Generators.{greatest};
+ghost use Rattle.gc_poly.specs.Polynomials.{IsSumOf};
+ghost use Rattle.gc_poly.specs.Reading.{IsFactorOf, IsTermOf, AreTermsOf, IsPowerOf};
+
+use crate::read_term::{Factor, ReadTerm};
+use crate::sums::add_multiple;
+use crate::{Gens, Mono, Poly, mul};
+use group_table::Memory;
+use std::alloc::Global;
+
+// The monomial that is a power of generator i.
+fn power_monomial(alloc: Global, i: usize, exponent: u8) -> Result<Mono, Memory>
+    requires { 1 ≤ exponent }
+    ensures { IfOk result (λ m. m ≡ power i exponent) }
+{
+    let mut exponents = vec![in alloc; 0u8; i]?;
+    exponents.push(exponent)?;
+    Mono::of(alloc, &exponents)
+}
+
+// A power of a generator: 0 for odd p where the generator has odd degree and the exponent is above 1.
+fn power(alloc: Global, gens: &Gens, x: &Factor) -> Result<Poly, Memory>
+    requires factor { IsFactorOf gens.now.degrees x.now }
+    requires small { slice_index gens.now.degrees x.now.generator * x.now.exponent ≤ 24 }
+    ensures { IfOk result (IsPowerOf gens.now x.now) }
+{
+    let i = x.generator();
+    let exponent = x.exponent();
+    let mut out = Poly::zero(alloc, gens.degree(i) * u32::from(exponent));
+    if exponent > 1 && gens.is_exterior(i) {
+        return Ok(out);
+    }
+    out.add_term(gens, 1, &power_monomial(alloc, i, exponent)?)?;
+    Ok(out)
+}
+
+// A number as a polynomial of degree 0.
+fn constant(alloc: Global, gens: &Gens, c: u8) -> Result<Poly, Memory>
+    requires { c < gens.now.prime }
+    ensures { IfOk result (IsSumOf gens.now 0 (record { scalar = c; monomial = [] } ∷ [])) }
+{
+    let mut out = Poly::zero(alloc, 0);
+    out.add_term(gens, c, &Mono::of(alloc, &[])?)?;
+    Ok(out)
+}
+
+// The value of a term.
+fn term_value(alloc: Global, gens: &Gens, t: &ReadTerm) -> Result<Poly, Memory>
+    requires term { IsTermOf gens.now t.now }
+    requires small { term_degree gens.now.degrees t.now ≤ 24 }
+    ensures { IfOk result (IsSumOf gens.now (term_degree gens.now.degrees t.now)
+        (read_from (greatest gens.now) gens.now.degrees (record { scalar = t.now.numeral; monomial = [] } ∷ []) t.now.factors)) }
+{
+    let mut out = constant(alloc, gens, t.numeral())?;
+    for x in t.factors() {
+        out = mul(alloc, gens, &out, &power(alloc, gens, x)?)?;
+    }
+    Ok(out)
+}
+
+/// The sum of terms of one degree.
+pub(crate) fn value(
+    alloc: Global,
+    gens: &Gens,
+    degree: u32,
+    terms: &[ReadTerm],
+) -> Result<Poly, Memory>
+    requires terms { AreTermsOf gens.now terms.now }
+    requires small { degree ≤ 24 }
+    requires degrees { All (λ t. term_degree gens.now.degrees t ≡ degree) terms.now }
+    ensures { IfOk result (IsSumOf gens.now degree (read_value (greatest gens.now) gens.now.degrees terms.now)) }
+{
+    let mut out = Poly::zero(alloc, degree);
+    for t in terms {
+        let value = term_value(alloc, gens, t)?;
+        add_multiple(gens, &mut out, 1, &value)?;
+    }
+    Ok(out)
+}

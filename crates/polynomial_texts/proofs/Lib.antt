@@ -1,0 +1,5 @@
+pub mod Bytes
+pub mod Unique
+pub mod Names
+pub mod Answers
+pub mod Written
