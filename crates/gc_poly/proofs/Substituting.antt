@@ -90,10 +90,11 @@ unit-monomial g m t e = rw (exponent-zero m t e) (unit g.degrees)
     unit [] = record { within = tt; trimmed = tt; fitting = refl; degree_is = refl }
     unit (d ∷ ds) = record { within = tt; trimmed = tt; fitting = refl; degree_is = refl }
 
-pub unit-sum : (g : Generators) (m : List ℕ) (f new : Polynomial) → IsTrimmed m → ((i : ℕ) → exponent m i ≡ exponent [] i) → f ≡ record { degree = 0; terms = [] }
-    → IsSumOf g f.degree (f.terms ++ record { scalar = 1; monomial = m } ∷ []) new → IsSumOf g 0 (record { scalar = 1; monomial = [] } ∷ []) new
-unit-sum g m f new t e z H = subst (λ m. IsSumOf g 0 (record { scalar = 1; monomial = m } ∷ []) new) (exponent-zero m t e)
-    (subst (λ (f : Polynomial). IsSumOf g f.degree (f.terms ++ record { scalar = 1; monomial = m } ∷ []) new) z H)
+-- a number as a polynomial of degree 0
+pub unit-sum : (g : Generators) (c : ℕ) (m : List ℕ) (f new : Polynomial) → IsTrimmed m → ((i : ℕ) → exponent m i ≡ exponent [] i) → f ≡ record { degree = 0; terms = [] }
+    → IsSumOf g f.degree (f.terms ++ record { scalar = c; monomial = m } ∷ []) new → IsSumOf g 0 (record { scalar = c; monomial = [] } ∷ []) new
+unit-sum g c m f new t e z H = subst (λ m. IsSumOf g 0 (record { scalar = c; monomial = m } ∷ []) new) (exponent-zero m t e)
+    (subst (λ (f : Polynomial). IsSumOf g f.degree (f.terms ++ record { scalar = c; monomial = m } ∷ []) new) z H)
 
 -- the factors at one more generator
 pub image-step : (g : Generators) (fs : List Polynomial) (m : List ℕ) (i e : ℕ) (f out new : Polynomial) → i < length m → slice_get fs i ≡ Some f → e ≡ exponent m i

@@ -42,9 +42,10 @@ fn exponent(digits: &[u8]) -> u8
     ensures { (e : ℕ) → e ≤ 24 → decimal e ≡ digits.now → result ≡ e }
 {
     match digits {
+        [] => 0,
         [d] => digit(*d),
         [c, d] => 10 * digit(*c) + digit(*d),
-        _ => 0,
+        [_, _, _, ..] => 0,
     }
 }
 
@@ -59,15 +60,16 @@ pub(crate) fn split_exponent(piece: &[u8]) -> (&[u8], u8)
     }
 }
 
-/// The numeral of a term, 1 where none is written, and its factors, which stand at the end.
+/// The numeral of a term, 1 where none is written, and its factors, which stand at the end. Only a numeral begins with a digit.
 pub(crate) fn split_numeral(term: &[u8]) -> (u8, &[u8])
     ensures numeral { (q : ℕ) (t : NamedTerm) → q ≤ 6 → IsTerm q t → term_bytes t ≡ term.now → result.0 ≡ number t.numeral }
     ensures factors { (q : ℕ) (t : NamedTerm) → q ≤ 6 → IsTerm q t → term_bytes t ≡ term.now
         → result.1.now ≡ joined_by star (map factor_text t.factors) }
     ensures len { length result.1.now ≤ length term.now }
 {
-    match term {
-        [c, b'*', factors @ ..] if is_digit(*c) => (digit(*c), factors),
-        _ => (1, term),
+    if term.len() >= 2 && is_digit(term[0]) {
+        (digit(term[0]), &term[2..])
+    } else {
+        (1, term)
     }
 }

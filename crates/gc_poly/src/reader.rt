@@ -87,6 +87,7 @@ fn read_term(
     column: u32,
     piece: &[u8],
 ) -> Result<ReadTerm, PolyFault>
+    requires prime { gens.now.prime ≤ 7 }
     requires names { AreNames gens.now.degrees (map (λ n. n.items) names.now) }
     requires small { column + length piece.now + 1 ≤ 2 ^ 20 }
     ensures { (t : NamedTerm) → IsTerm (greatest gens.now) t → term_bytes t ≡ piece.now
@@ -105,6 +106,7 @@ fn read_terms(
     names: &[Vec<u8>],
     pieces: &[&[u8]],
 ) -> Result<Vec<ReadTerm>, PolyFault>
+    requires prime { gens.now.prime ≤ 7 }
     requires names { AreNames gens.now.degrees (map (λ n. n.items) names.now) }
     requires small { spans (map (λ p. p.now) pieces.now) + 1 ≤ 2 ^ 20 }
     ensures { (ts : List NamedTerm) → Each (IsTerm (greatest gens.now)) ts → map term_bytes ts ≡ map (λ p. p.now) pieces.now
@@ -121,7 +123,8 @@ fn read_terms(
 
 // The terms of a text of the grammar.
 fn read_sum(alloc: Global, gens: &Gens, text: &[u8]) -> Result<Vec<ReadTerm>, PolyFault>
-    requires { length text.now ≤ 65536 }
+    requires prime { gens.now.prime ≤ 7 }
+    requires small { length text.now ≤ 65536 }
     ensures { (s : Sum) → IsTextOf (greatest gens.now) s text.now
         → MatchResult result (λ v. NamesSum gens.now.degrees s v.items) (IsUnknownAt gens.now.degrees (placed_names s)) }
 {

@@ -1,6 +1,7 @@
 //! The sum of terms that are read.
 
-ghost use Rattle.std.specs.Prelude.{◌≡◌, ◌≤◌, ◌<◌, ◌*◌, [], ◌∷◌, slice_index, IfOk, All};
+ghost use Rattle.std.specs.Prelude.{◌≡◌, ◌⊎◌, ◌≤◌, ◌<◌, [], ◌∷◌, true, false, length, slice_index, IfOk, All};
+ghost use Rattle.graded_polynomials.specs.Monomials.{is_exterior};
 ghost use Rattle.graded_polynomials.specs.Texts.{power, read_from, read_value};
 ghost use Rattle.polynomial_texts.specs.Readings.{term_degree};
 ghost use Rattle.gc_poly.specs.Generators.{greatest};
@@ -23,16 +24,26 @@ fn power_monomial(alloc: Global, i: usize, exponent: u8) -> Result<Mono, Memory>
     Mono::of(alloc, &exponents)
 }
 
-// A power of a generator: 0 for odd p where the generator has odd degree and the exponent is above 1.
+// Whether a power of generator i is 0: for odd p, where the generator has odd degree and the exponent is above 1.
+fn vanishes(gens: &Gens, i: usize, exponent: u8) -> bool
+    requires { i < length gens.now.degrees }
+    ensures zero { result ≡ true → (2 ≤ exponent) × (is_exterior (greatest gens.now) (slice_index gens.now.degrees i) ≡ true) }
+    ensures other { result ≡ false → (exponent ≤ 1) ⊎ (is_exterior (greatest gens.now) (slice_index gens.now.degrees i) ≡ false) }
+{
+    exponent > 1 && gens.is_exterior(i)
+}
+
+// A power of a generator.
 fn power(alloc: Global, gens: &Gens, x: &Factor) -> Result<Poly, Memory>
-    requires factor { IsFactorOf gens.now.degrees x.now }
-    requires small { slice_index gens.now.degrees x.now.generator * x.now.exponent ≤ 24 }
+    requires { IsFactorOf gens.now.degrees x.now }
     ensures { IfOk result (IsPowerOf gens.now x.now) }
 {
+    let p = gens.modulus();
+    prove!(p > 1);
     let i = x.generator();
     let exponent = x.exponent();
     let mut out = Poly::zero(alloc, gens.degree(i) * u32::from(exponent));
-    if exponent > 1 && gens.is_exterior(i) {
+    if vanishes(gens, i, exponent) {
         return Ok(out);
     }
     out.add_term(gens, 1, &power_monomial(alloc, i, exponent)?)?;

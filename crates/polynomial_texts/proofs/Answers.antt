@@ -55,7 +55,7 @@ stops-unique q text n m h k = go (cases_order n m)
 abbrev pub Known : List ℕ → PlacedName → Type 0
 Known ds n = IsUnknown ds n.name → ⊥
 
-factors-known : (ds : List ℕ) (c : ℕ) (fs : List NamedFactor) (xs : List Factor) → NamesEach ds fs xs → Each (Known ds) (factor_names c fs)
+pub factors-known : (ds : List ℕ) (c : ℕ) (fs : List NamedFactor) (xs : List Factor) → NamesEach ds fs xs → Each (Known ds) (factor_names c fs)
 factors-known ds c [] xs h = tt
 factors-known ds c (f ∷ fs) [] h = absurd h
 factors-known ds c (f ∷ fs) (x ∷ xs) h = ((λ u. u x.generator h.0.within h.0.name_is), factors-known ds (c + length (factor_text f) + 1) fs xs h.1)

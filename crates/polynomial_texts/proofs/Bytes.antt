@@ -26,7 +26,7 @@ AreDigits bs = Each (λ b. is_digit b ≡ true) bs
 abbrev pub AreNameBytes : List ℕ → Type 0
 AreNameBytes bs = Each (λ b. is_name_byte b ≡ true) bs
 
-digit-byte : (n : ℕ) → n < 10 → is_digit (48 + n) ≡ true
+pub digit-byte : (n : ℕ) → n < 10 → is_digit (48 + n) ≡ true
 digit-byte n l = grind (arith, nat_tests)
 
 rest-small : (n : ℕ) → n % 10 < 10

@@ -9,21 +9,21 @@ use Rattle.graded_polynomials.proofs.TextLemmas.{joined-unique}
 use Rattle.polynomial_texts.specs.Grammar.{NamedFactor, NamedTerm, Sum, zero_text, one_text, terms, IsName, IsFactor, IsTerm, IsSum, IsTextOf, is_digit, caret, exponent_text, factor_text, numeral_pieces, term_bytes, sum_bytes}
 use Rattle.polynomial_texts.proofs.Bytes.{each-mapped, AreDigits, Without, decimal-digits, digits-without, name-bytes-without, name-bytes, letter-no-digit, exponent-small, term_pieces, pieces-without, term-without}
 
-abbrev IsExponent : Option ℕ → Type 0
+abbrev pub IsExponent : Option ℕ → Type 0
 IsExponent e = IfSome e (λ e. (1 ≤ e) × (e ≤ 24))
 
 abbrev IsNumeral : ℕ → Option ℕ → Type 0
 IsNumeral q c = IfSome c (λ c. (1 ≤ c) × (c ≤ q))
 
-abbrev exponent_pieces : Option ℕ → List (List ℕ)
+abbrev pub exponent_pieces : Option ℕ → List (List ℕ)
 exponent_pieces None = []
 exponent_pieces (Some e) = decimal e ∷ []
 
-factor-joined : (n : List ℕ) (e : Option ℕ) → joined_by caret (n ∷ exponent_pieces e) ≡ n ++ exponent_text e
+pub factor-joined : (n : List ℕ) (e : Option ℕ) → joined_by caret (n ∷ exponent_pieces e) ≡ n ++ exponent_text e
 factor-joined n None = sym (append-nil n)
 factor-joined n (Some e) = refl
 
-exponent-without : (e : Option ℕ) → IsExponent e → Each (Without caret) (exponent_pieces e)
+pub exponent-without : (e : Option ℕ) → IsExponent e → Each (Without caret) (exponent_pieces e)
 exponent-without None h = tt
 exponent-without (Some e) h = (digits-without caret (decimal e) refl (decimal-digits e (exponent-small e h.1)), tt)
 

@@ -1,6 +1,6 @@
 -- What a text is read as, for the prime p = q + 1 and generators with the degrees ds: a polynomial, or its first fault.
 use Rattle.std.specs.Prelude.{◌≡◌, ◌≢◌, ℕ, ◌+◌, ◌*◌, ◌≤◌, ◌<◌, ◌⊎◌, List, [], ◌∷◌, map, length, get_or, All, Option, None, Some}
-use Rattle.std.specs.List.{AllByRecursion as Each}
+use Rattle.std.specs.List.{AllByRecursion as Each, AllZip}
 use Rattle.graded_polynomials.specs.Polynomials.{Polynomial, IsPolynomial, IsSame}
 use Rattle.graded_polynomials.specs.Texts.{Factor, ReadTerm, name, read_value}
 use Rattle.polynomial_texts.specs.Grammar.{NamedFactor, NamedTerm, Sum, zero_text, one_text, terms, IsTextOf, Stops, placed_names}
@@ -25,21 +25,16 @@ pub record Names (ds : List ℕ) (f : NamedFactor) (x : Factor) : Type 0 where
   pub name_is : name ds x.generator ≡ f.name
   pub exponent_is : x.exponent ≡ number f.exponent
 
+-- each of the factors is the power that is named
 abbrev pub NamesEach : List ℕ → List NamedFactor → List Factor → Type 0
-NamesEach ds [] [] = Unit {0}
-NamesEach ds [] (x ∷ xs) = ⊥
-NamesEach ds (f ∷ fs) [] = ⊥
-NamesEach ds (f ∷ fs) (x ∷ xs) = Names ds f x × NamesEach ds fs xs
+NamesEach ds fs xs = AllZip (Names ds) fs xs
 
 pub record NamesTerm (ds : List ℕ) (t : NamedTerm) (r : ReadTerm) : Type 0 where
   pub numeral_is : r.numeral ≡ number t.numeral
   pub factors : NamesEach ds t.factors r.factors
 
 abbrev pub NamesTerms : List ℕ → List NamedTerm → List ReadTerm → Type 0
-NamesTerms ds [] [] = Unit {0}
-NamesTerms ds [] (r ∷ rs) = ⊥
-NamesTerms ds (t ∷ ts) [] = ⊥
-NamesTerms ds (t ∷ ts) (r ∷ rs) = NamesTerm ds t r × NamesTerms ds ts rs
+NamesTerms ds ts rs = AllZip (NamesTerm ds) ts rs
 
 -- the terms that a sum stands for: none for 0, and for 1 the numeral alone
 abbrev pub NamesSum : List ℕ → Sum → List ReadTerm → Type 0
