@@ -1,7 +1,6 @@
 -- What the automaton accepts is a text of the grammar.
-use Rattle.std.proofs.Common.{◌≡◌, ◌≢◌, ℕ, zero, suc, ◌+◌, ◌-◌, ◌*◌, ◌/◌, ◌%◌, ◌<◌, ◌≤◌, ◌⊎◌, inl, inr, Bool, true, false, cond, ◌&&◌, leb, eqb, List, [], ◌∷◌, ◌++◌, map, Option, None, Some, append_assoc, arith, ap, ap₂, sym, subst, ◌∙◌, refl}
-use Rattle.std.specs.Prelude.{decimal, IfSome, codes}
-use Rattle.std.specs.Option.{option_and_then}
+use Rattle.std.proofs.Common.{◌≡◌, ℕ, ◌+◌, ◌-◌, ◌*◌, ◌<◌, ◌≤◌, ◌⊎◌, inl, inr, Bool, true, false, cond, ◌&&◌, leb, eqb, List, [], ◌∷◌, ◌++◌, map, Option, None, Some, append_assoc, arith, ap, ap₂, sym, subst, ◌∙◌, refl}
+use Rattle.std.specs.Prelude.{decimal, IfSome}
 use Rattle.std.specs.List.{AllByRecursion as Each}
 use Rattle.std.proofs.lemmas.Bool.{false≢true}
 use Rattle.std.proofs.lemmas.Bool.Decides.{nat_tests}
@@ -10,7 +9,7 @@ use Rattle.std.proofs.lemmas.List.{append-nil}
 use Rattle.std.proofs.lemmas.Fmt.{decimal_digit}
 use Rattle.graded_polynomials.specs.Texts.{joined_by, star, plus_sign}
 use Rattle.graded_polynomials.proofs.Terms.{eqb-true}
-use Rattle.polynomial_texts.specs.Grammar.{NamedFactor, NamedTerm, Sum, zero_text, one_text, terms, is_letter, is_digit, is_name_byte, IsName, IsFactor, IsTerm, IsSum, IsTextOf, caret, exponent_text, factor_text, numeral_pieces, term_bytes, sum_bytes}
+use Rattle.polynomial_texts.specs.Grammar.{NamedFactor, NamedTerm, Sum, zero_text, one_text, terms, is_letter, is_name_byte, IsFactor, IsTerm, IsTextOf, caret, exponent_text, factor_text, term_bytes}
 use Rattle.gc_poly.specs.declared.syntax.State.{State}
 use Rattle.gc_poly.specs.declared.syntax.State.TheVariants.{Start, Zero, One, Coefficient, TermStart, FactorStart, Name, Caret, ExponentOne, ExponentTwo, Exponent}
 use Rattle.gc_poly.specs.Automaton.{separator, term_start, exponent_start, after, run, is_end}

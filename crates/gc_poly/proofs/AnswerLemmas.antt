@@ -1,15 +1,15 @@
 -- From the sum that a text stands for to its answer.
-use Rattle.std.proofs.Common.{◌≡◌, ◌≢◌, ℕ, zero, suc, ◌+◌, ◌*◌, ◌<◌, ◌≤◌, eqb, List, [], ◌∷◌, ◌++◌, map, length, get_or, All, Option, None, Some, Result, Ok, Err, arith, ap, sym, subst, ◌∙◌, refl, length-append}
+use Rattle.std.proofs.Common.{◌≡◌, ◌≢◌, ℕ, ◌≤◌, eqb, List, [], ◌∷◌, ◌++◌, map, length, get_or, All, Option, None, Some, Ok, Err, arith, ap, sym, subst, ◌∙◌, refl, length-append}
 use Rattle.std.specs.Prelude.{IfSome, decimal}
-use Rattle.std.specs.List.{slice_split, AllByRecursion as Each, AllZip}
+use Rattle.std.specs.List.{slice_split, AllByRecursion as Each}
 use Rattle.std.proofs.lemmas.List.{get_or-map, length-map}
 use Rattle.std.proofs.lemmas.List.Elements.{All-from_recursion, recursion_from_All}
 use Rattle.std.proofs.lemmas.Slice.Zip.{AllZip-long}
 use Rattle.graded_polynomials.specs.Polynomials.{Polynomial}
 use Rattle.graded_polynomials.specs.Texts.{Factor, ReadTerm, joined_by, star, plus_sign, read_value}
 use Rattle.polynomial_texts.specs.Grammar.{NamedFactor, NamedTerm, Sum, zero_text, one_text, terms, IsName, IsFactor, IsTerm, IsSum, IsTextOf, exponent_text, factor_text, numeral_pieces, term_bytes, sum_bytes, placed_names}
-use Rattle.polynomial_texts.specs.Readings.{number, Names, NamesEach, NamesTerm, NamesTerms, NamesSum, term_degree, IsFirst, StandsFor, HasUnknownName, reads}
-use Rattle.polynomial_texts.proofs.Bytes.{Without, each-map, each-mapped, term-without}
+use Rattle.polynomial_texts.specs.Readings.{number, Names, NamesEach, NamesTerm, NamesTerms, NamesSum, term_degree}
+use Rattle.polynomial_texts.proofs.Bytes.{Without, each-mapped, term-without}
 use Rattle.polynomial_texts.proofs.Unique.{sum-unique}
 use Rattle.gc_poly.specs.declared.fault.PolyFault.{PolyFault}
 use Rattle.gc_poly.specs.declared.fault.PolyFault.TheVariants.{Syntax, UnknownName, Mixed, TooHigh, Memory}

@@ -1,13 +1,13 @@
 -- Pieces of a text are read one after another.
-use Rattle.std.proofs.Common.{◌≡◌, ◌≢◌, ℕ, zero, suc, ◌+◌, ◌-◌, ◌<◌, ◌≤◌, ◌⊎◌, inl, inr, Bool, true, false, cond, eqb, List, [], ◌∷◌, ◌++◌, map, length, take, get_or, Bor, Option, None, Some, arith, ap, ap₂, sym, subst, ◌∙◌, refl, length-append}
+use Rattle.std.proofs.Common.{◌≡◌, ◌≢◌, ℕ, zero, suc, ◌+◌, ◌-◌, ◌<◌, ◌≤◌, inl, inr, Bool, true, false, cond, eqb, List, [], ◌∷◌, ◌++◌, map, length, take, get_or, Bor, Option, None, Some, arith, ap, sym, subst, ◌∙◌, refl, length-append}
 use Rattle.std.specs.Prelude.{decimal}
 use Rattle.std.specs.List.{slice_split, onto_first, AllByRecursion as Each, AllZip}
 use Rattle.std.proofs.lemmas.List.{get_or-map, length-map, take_more}
-use Rattle.graded_polynomials.specs.Texts.{Factor, ReadTerm, joined_by, star, plus_sign}
+use Rattle.graded_polynomials.specs.Texts.{Factor, ReadTerm, joined_by, star}
 use Rattle.polynomial_texts.specs.Grammar.{NamedFactor, NamedTerm, IsFactor, IsTerm, factor_text, numeral_pieces, term_bytes, PlacedName, numeral_length, factor_names, term_names}
 use Rattle.polynomial_texts.specs.Readings.{IsUnknown, Names, NamesEach, NamesTerm, NamesTerms, IsFirst}
 use Rattle.polynomial_texts.proofs.Bytes.{Without, each-mapped, factor-without}
-use Rattle.polynomial_texts.proofs.Answers.{Known, factors-known}
+use Rattle.polynomial_texts.proofs.Answers.{factors-known}
 use Rattle.gc_poly.specs.declared.fault.PolyFault.{PolyFault}
 use Rattle.gc_poly.specs.declared.fault.PolyFault.TheVariants.{Syntax, UnknownName, Mixed, TooHigh, Memory}
 use Rattle.gc_poly.specs.Reading.{spans, IsUnknownAt}
@@ -103,20 +103,24 @@ first-unknown : (ds : List ℕ) (fs : List NamedFactor) (i c : ℕ) (xs : List F
 first-unknown ds [] i c xs l h u = absurd (omega arith)
 first-unknown ds (f ∷ fs) zero c xs l h u = inl (u, (let place : ℕ → PlacedName = λ c. record { column = c; name = f.name } in ap place (let e : c + 0 ≡ c = omega arith in e)))
 first-unknown ds (f ∷ fs) (suc i) c [] l h u = absurd h
-first-unknown ds (f ∷ fs) (suc i) c (x ∷ xs) l h u = inr ((λ k. k x.generator h.0.within h.0.name_is),
+first-unknown ds (f ∷ fs) (suc i) c (x ∷ xs) l h u = inr (
+  (λ k. k x.generator h.0.within h.0.name_is),
   (let place : ℕ → PlacedName = λ c. record { column = c; name = (get_or fs i no_factor).name } in
-  subst (λ n. IsFirst (Unknown ds) n (factor_names (c + length (factor_text f) + 1) fs)) (ap place (let e : c + length (factor_text f) + 1 + spans (take i (map factor_text fs)) ≡ c + (length (factor_text f) + 1 + spans (take i (map factor_text fs))) = omega arith in e))
-  (first-unknown ds fs i (c + length (factor_text f) + 1) xs (omega (arith, l)) h.1 u)))
+      subst (λ n. IsFirst (Unknown ds) n (factor_names (c + length (factor_text f) + 1) fs)) (ap place (let e : c + length (factor_text f) + 1 + spans (take i (map factor_text fs)) ≡ c + (length (factor_text f) + 1 + spans (take i (map factor_text fs))) = omega arith in e))
+      (first-unknown ds fs i (c + length (factor_text f) + 1) xs (omega (arith, l)) h.1 u)),
+)
 
 -- the name of the next piece is unknown
 pub factor-fault : (ds : List ℕ) (pieces : List (Bor (List ℕ))) (i at c : ℕ) (d : Bor (List ℕ)) (xs : List Factor) → i < length pieces → at ≡ c + spans (take i (bytes_of pieces))
     → ((f : NamedFactor) → IsFactor f → factor_text f ≡ (get_or pieces i d).now → IsUnknown ds f.name)
     → (fs : List NamedFactor) → Each IsFactor fs → map factor_text fs ≡ bytes_of pieces → NamesEach ds (take i fs) xs → (n : List ℕ) × IsFirst (Unknown ds) (record { column = at; name = n }) (factor_names c fs)
-factor-fault ds pieces i at c d xs l p u fs h e z = ((get_or fs i no_factor).name,
+factor-fault ds pieces i at c d xs l p u fs h e z = (
+  (get_or fs i no_factor).name,
   (let place : ℕ → PlacedName = λ c. record { column = c; name = (get_or fs i no_factor).name } in
-  subst (λ n. IsFirst (Unknown ds) n (factor_names c fs)) (ap place (ap (λ ps. c + spans (take i ps)) e ∙ sym p))
-  (first-unknown ds fs i c xs (as-within pieces i d l factor_text IsFactor (Names ds) no_factor fs h e) z
-  (u (get_or fs i no_factor) (each-at pieces i d l factor_text IsFactor (Names ds) no_factor fs h e fs i h (as-within pieces i d l factor_text IsFactor (Names ds) no_factor fs h e)) (text-at pieces i d l factor_text IsFactor (Names ds) no_factor fs h e)))))
+      subst (λ n. IsFirst (Unknown ds) n (factor_names c fs)) (ap place (ap (λ ps. c + spans (take i ps)) e ∙ sym p))
+      (first-unknown ds fs i c xs (as-within pieces i d l factor_text IsFactor (Names ds) no_factor fs h e) z
+      (u (get_or fs i no_factor) (each-at pieces i d l factor_text IsFactor (Names ds) no_factor fs h e fs i h (as-within pieces i d l factor_text IsFactor (Names ds) no_factor fs h e)) (text-at pieces i d l factor_text IsFactor (Names ds) no_factor fs h e)))),
+)
 
 first-term : (ds : List ℕ) (ts : List NamedTerm) (i c : ℕ) (rs : List ReadTerm) (n : PlacedName) → i < length ts → NamesTerms ds (take i ts) rs
     → IsFirst (Unknown ds) n (factor_names (c + spans (take i (map term_bytes ts)) + numeral_length (get_or ts i no_term).numeral) (get_or ts i no_term).factors) → IsFirst (Unknown ds) n (term_names c ts)
@@ -164,5 +168,9 @@ numeral-room t term rest n e r = go t.numeral t.factors n e r
     go : (c : Option ℕ) (fs : List NamedFactor) → fs ≢ [] → joined_by star (numeral_pieces c ++ map factor_text fs) ≡ term → rest ≡ joined_by star (map factor_text fs) → length term - length rest ≡ numeral_length c
     go None fs n e r = omega (arith, ap length (sym e ∙ sym r))
     go (Some c) [] n e r = absurd (n refl)
-    go (Some c) (f ∷ fs) n e r = omega (arith, (let a : length (decimal c ++ 42 ∷ joined_by star (map factor_text (f ∷ fs))) ≡ length term = ap length e in a),
-      length-append (decimal c) (42 ∷ joined_by star (map factor_text (f ∷ fs))), (let b : length rest ≡ length (joined_by star (map factor_text (f ∷ fs))) = ap length r in b))
+    go (Some c) (f ∷ fs) n e r = omega (
+      arith,
+      (let a : length (decimal c ++ 42 ∷ joined_by star (map factor_text (f ∷ fs))) ≡ length term = ap length e in a),
+      length-append (decimal c) (42 ∷ joined_by star (map factor_text (f ∷ fs))),
+      (let b : length rest ≡ length (joined_by star (map factor_text (f ∷ fs))) = ap length r in b),
+    )

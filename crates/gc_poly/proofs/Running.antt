@@ -1,14 +1,14 @@
 -- The automaton runs through every text of the grammar to an end.
-use Rattle.std.proofs.Common.{◌≡◌, ◌≢◌, ℕ, zero, suc, ◌+◌, ◌-◌, ◌/◌, ◌%◌, ◌^◌, ◌<◌, ◌≤◌, ◌⊎◌, inl, inr, Bool, true, false, cond, ◌&&◌, leb, eqb, List, [], ◌∷◌, ◌++◌, map, Option, None, Some, arith, ap, ap₂, sym, subst, ◌∙◌, refl}
-use Rattle.std.specs.Prelude.{decimal, IfSome, codes}
+use Rattle.std.proofs.Common.{◌≡◌, ◌≢◌, ℕ, ◌+◌, ◌/◌, ◌%◌, ◌<◌, ◌≤◌, ◌⊎◌, inl, inr, true, false, cond, ◌&&◌, leb, eqb, List, [], ◌∷◌, ◌++◌, map, Option, None, Some, arith, ap, sym, subst, ◌∙◌, refl}
+use Rattle.std.specs.Prelude.{decimal, IfSome}
 use Rattle.std.specs.Option.{option_and_then}
 use Rattle.std.specs.List.{AllByRecursion as Each}
 use Rattle.std.proofs.lemmas.Bool.{false≢true, cases_lt, cases_eq}
 use Rattle.std.proofs.lemmas.Bool.Decides.{nat_tests}
 use Rattle.std.proofs.lemmas.Fmt.{decimal_digit, decimal_step}
 use Rattle.graded_polynomials.specs.Texts.{joined_by, star, plus_sign}
-use Rattle.graded_polynomials.proofs.Terms.{eqb-self, eqb-false}
-use Rattle.polynomial_texts.specs.Grammar.{NamedFactor, NamedTerm, Sum, zero_text, one_text, terms, is_letter, is_digit, is_name_byte, IsName, IsFactor, IsTerm, IsSum, IsTextOf, GoesOn, caret, exponent_text, factor_text, numeral_pieces, term_bytes, sum_bytes}
+use Rattle.graded_polynomials.proofs.Terms.{eqb-false}
+use Rattle.polynomial_texts.specs.Grammar.{NamedFactor, NamedTerm, Sum, zero_text, one_text, terms, is_letter, is_name_byte, IsName, IsFactor, IsTerm, IsSum, IsTextOf, GoesOn, caret, exponent_text, factor_text, numeral_pieces, term_bytes, sum_bytes}
 use Rattle.polynomial_texts.proofs.Bytes.{digit-byte}
 use Rattle.gc_poly.specs.declared.syntax.State.{State}
 use Rattle.gc_poly.specs.declared.syntax.State.TheVariants.{Start, Zero, One, Coefficient, TermStart, FactorStart, Name, Caret, ExponentOne, ExponentTwo, Exponent}
@@ -93,10 +93,18 @@ second-low : (d : ℕ) → d ≤ 4 → (leb 48 (48 + d) && leb (48 + d) 52) ≡ 
 second-low d h = grind (arith, nat_tests)
 
 two-digits : (q c d : ℕ) → d < 10 → (c ≡ 1) ⊎ ((c ≡ 2) × (d ≤ 4)) → RunsToEnd q Caret ((48 + c) ∷ (48 + d) ∷ [])
-two-digits q c d h (inl z) = (Exponent, run-step q Caret ExponentOne Exponent (48 + c) ((48 + d) ∷ []) (ap (λ c. exponent_start (48 + c)) z)
-    (run-step q ExponentOne Exponent Exponent (48 + d) [] (ap (λ t. cond t (Some Exponent) (separator (48 + d))) (digit-byte d h)) refl), exponent-end q)
-two-digits q c d h (inr z) = (Exponent, run-step q Caret ExponentTwo Exponent (48 + c) ((48 + d) ∷ []) (ap (λ c. exponent_start (48 + c)) z.0)
-    (run-step q ExponentTwo Exponent Exponent (48 + d) [] (ap (λ t. cond t (Some Exponent) (separator (48 + d))) (second-low d z.1)) refl), exponent-end q)
+two-digits q c d h (inl z) = (
+  Exponent,
+  run-step q Caret ExponentOne Exponent (48 + c) ((48 + d) ∷ []) (ap (λ c. exponent_start (48 + c)) z)
+      (run-step q ExponentOne Exponent Exponent (48 + d) [] (ap (λ t. cond t (Some Exponent) (separator (48 + d))) (digit-byte d h)) refl),
+  exponent-end q,
+)
+two-digits q c d h (inr z) = (
+  Exponent,
+  run-step q Caret ExponentTwo Exponent (48 + c) ((48 + d) ∷ []) (ap (λ c. exponent_start (48 + c)) z.0)
+      (run-step q ExponentTwo Exponent Exponent (48 + d) [] (ap (λ t. cond t (Some Exponent) (separator (48 + d))) (second-low d z.1)) refl),
+  exponent-end q,
+)
 
 -- a numeral of two digits
 pub decimal-two : (e : ℕ) → 10 ≤ e → e ≤ 24 → decimal e ≡ (48 + e / 10) ∷ (48 + e % 10) ∷ []
@@ -151,10 +159,12 @@ start-start-begins q m = record { letter = start-begins q; numeral = λ c l h. g
   where
     go : (c : ℕ) → 1 ≤ c → c ≤ q → (c ≡ 1) ⊎ (c ≡ 1 → ⊥) → (t : State) × (after q Start (48 + c) ≡ Some t) × (after q t 42 ≡ Some FactorStart)
     go c l h (inl z) = (One, ap (λ c. after q Start (48 + c)) z, refl)
-    go c l h (inr n) = (Coefficient,
+    go c l h (inr n) = (
+      Coefficient,
       ap (λ t. cond t (Some Zero) (cond (eqb (48 + c) 49) (Some One) (term_start q (48 + c)))) (eqb-false (48 + c) 48 (λ z. omega arith))
-      ∙ ap (λ t. cond t (Some One) (term_start q (48 + c))) (eqb-false (48 + c) 49 (λ z. n (omega arith))) ∙ term-numeral q c m l h,
-      refl)
+          ∙ ap (λ t. cond t (Some One) (term_start q (48 + c))) (eqb-false (48 + c) 49 (λ z. n (omega arith))) ∙ term-numeral q c m l h,
+      refl,
+    )
 
 term-runs : (q : ℕ) (s : State) (t : NamedTerm) → q ≤ 6 → BeginsTerm q s → IsTerm q t → RunsToEnd q s (term_bytes t)
 term-runs q s t m b h = go t.numeral t.factors h.numeral h.some h.each
@@ -164,9 +174,12 @@ term-runs q s t m b h = go t.numeral t.factors h.numeral h.some h.each
     go (Some d) [] c n h = absurd (n refl)
     go (Some d) (f ∷ fs) c n h =
         let r = b.numeral d c.0 c.1 in
-        let k = factors-run q FactorStart (f ∷ fs) (factor-begins q) n h in
-        (k.0, ap (λ (ds : List ℕ). run q s (ds ++ 42 ∷ joined_by star (map factor_text (f ∷ fs)))) (decimal_digit d (omega (arith, c.1)))
-        ∙ run-step q s r.0 k.0 (48 + d) (42 ∷ joined_by star (map factor_text (f ∷ fs))) r.1 (run-step q r.0 FactorStart k.0 42 (joined_by star (map factor_text (f ∷ fs))) r.2 k.1), k.2)
+        let k = factors-run q FactorStart (f ∷ fs) (factor-begins q) n h in (
+          k.0,
+          ap (λ (ds : List ℕ). run q s (ds ++ 42 ∷ joined_by star (map factor_text (f ∷ fs)))) (decimal_digit d (omega (arith, c.1)))
+              ∙ run-step q s r.0 k.0 (48 + d) (42 ∷ joined_by star (map factor_text (f ∷ fs))) r.1 (run-step q r.0 FactorStart k.0 42 (joined_by star (map factor_text (f ∷ fs))) r.2 k.1),
+          k.2,
+        )
 
 terms-run : (q : ℕ) (s : State) (ts : List NamedTerm) → q ≤ 6 → BeginsTerm q s → ts ≢ [] → Each (IsTerm q) ts → RunsToEnd q s (joined_by plus_sign (map term_bytes ts))
 terms-run q s [] m b n h = absurd (n refl)

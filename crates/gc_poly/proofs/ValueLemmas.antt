@@ -1,20 +1,19 @@
 -- The value of terms that are read: powers of generators, multiplied from left to right.
-use Rattle.std.proofs.Common.{◌≡◌, ◌≢◌, ℕ, zero, suc, ◌+◌, ◌*◌, ◌<◌, ◌≤◌, ◌⊎◌, inl, inr, Bool, true, false, not, ◌&&◌, ◌||◌, eqb, leb, cond, List, [], ◌∷◌, ◌++◌, length, take, get_or, append_assoc, arith, ap, ap₂, sym, subst, ◌∙◌, refl}
-use Rattle.std.specs.Prelude.{replicate, AllPairs, Result, Ok, Err, IfOk}
-use Rattle.std.specs.List.{AllByRecursion as Each}
+use Rattle.std.proofs.Common.{◌≡◌, ◌≢◌, ℕ, zero, suc, ◌+◌, ◌*◌, ◌<◌, ◌≤◌, ◌⊎◌, inl, inr, Bool, true, false, not, ◌&&◌, ◌||◌, leb, cond, List, [], ◌∷◌, ◌++◌, length, take, get_or, append_assoc, arith, ap, ap₂, sym, subst, ◌∙◌, refl}
+use Rattle.std.specs.Prelude.{replicate, Result, Ok, Err, IfOk}
 use Rattle.std.proofs.lemmas.Bool.{false≢true}
 use Rattle.std.proofs.lemmas.Bool.Decides.{nat_tests}
 use Rattle.std.proofs.lemmas.List.{take_more, append-nil}
 use Rattle.linear_algebra.proofs.Congruences.{congruent_eq}
 use Rattle.graded_polynomials.specs.Monomials.{exponent, degree, is_exterior, fits, joined, IsTrimmed, IsWithin, IsMonomial}
-use Rattle.graded_polynomials.specs.Polynomials.{Term, Polynomial, IsPolynomial, IsSame, coefficient, scaled, multiple, product}
+use Rattle.graded_polynomials.specs.Polynomials.{Term, Polynomial, IsPolynomial, IsSame, coefficient, scaled, product}
 use Rattle.graded_polynomials.specs.Texts.{Factor, ReadTerm, power, read_from, read_value}
 use Rattle.graded_polynomials.proofs.Exponents.{same-exponents}
 use Rattle.graded_polynomials.proofs.Stored.{polynomial-unique}
-use Rattle.graded_polynomials.proofs.Terms.{coefficient-append, coefficient-scaled, same-trans, same-append}
-use Rattle.polynomial_texts.specs.Readings.{factors_degree, term_degree}
+use Rattle.graded_polynomials.proofs.Terms.{coefficient-scaled, same-trans, same-append}
+use Rattle.polynomial_texts.specs.Readings.{factors_degree}
 use Rattle.gc_poly.specs.Generators.{Generators, greatest}
-use Rattle.gc_poly.specs.Polynomials.{IsOverGenerators, IsSumOf, IsMonomialOf}
+use Rattle.gc_poly.specs.Polynomials.{IsSumOf, IsMonomialOf}
 use Rattle.gc_poly.specs.Reading.{IsPowerOf}
 use Rattle.gc_poly.proofs.Substituting.{product-same}
 use Rattle.gc_poly.proofs.DegreeLemmas.{degree-more, degree-front}

@@ -10,11 +10,7 @@ use crate::syntax::is_digit;
 use std::alloc::{AllocError, Global};
 
 /// The pieces between separators.
-pub(crate) fn pieces(
-    alloc: Global,
-    bytes: &[u8],
-    separator: u8,
-) -> Result<Vec<&[u8]>, AllocError>
+pub(crate) fn pieces(alloc: Global, bytes: &[u8], separator: u8) -> Result<Vec<&[u8]>, AllocError>
     ensures { IfOk result (λ v. map (λ p. p.now) v.items ≡ slice_split (λ b. b == separator) bytes.now) }
 {
     bytes.split(|b| *b == separator).collect(alloc)

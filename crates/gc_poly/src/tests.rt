@@ -1,11 +1,12 @@
 //! Values worked out by hand.
 
-ghost use Rattle.std.specs.Prelude.{◌≡◌, ◌≤◌, [], ◌∷◌, IfOk};
+ghost use Rattle.std.specs.Prelude.{◌≡◌, ◌≤◌, [], ◌∷◌, IfOk, length};
 ghost use Rattle.group_table.specs.Prime.{prime_value};
 ghost use Rattle.gc_poly.specs.Polynomials.{IsOverGenerators};
 
 use crate::{
-    Gens, Mono, Poly, PolyFault, Polys, add, count_monomials, monomials, mul, read_poly, sub, subst, write_text,
+    Gens, Mono, Poly, Polys, add, count_monomials, monomials, mul, read_poly, sub, subst,
+    write_text,
 };
 use group_table::{Memory, Prime};
 use std::alloc::Global;
@@ -145,45 +146,63 @@ fn substitutions(rt: HostRuntime) -> Result<(), Fail> {
     Ok(())
 }
 
+// What a text is read as: the polynomial's own text, or the fault.
+fn answer_of(alloc: Global, gens: &Gens, text: &str) -> Result<String, Fail>
+    requires { length text.now ≤ 65536 }
+{
+    match read_poly(alloc, gens, text.as_bytes()) {
+        Ok(f) => text_of(alloc, gens, &f),
+        Err(fault) => Ok(format!(in alloc; "{fault:?}")?),
+    }
+}
+
 #[test]
 fn texts_read(rt: HostRuntime) -> Result<(), Fail> {
-    let cases: [(Prime, &[u8], Result<&str, PolyFault>); 26] = [
-        (Prime::P2, b"x_1_1+y", Err(PolyFault::UnknownName(7))),
-        (Prime::P2, b"x_1_1+x_2_1", Err(PolyFault::Mixed(1, 2))),
-        (Prime::P2, b"x_1_1+", Err(PolyFault::Syntax(7))),
-        (Prime::P2, b"x_2_1^24", Err(PolyFault::TooHigh(48))),
-        (Prime::P2, b"x_2_1^25", Err(PolyFault::Syntax(8))),
-        (Prime::P2, b"x_2_1+x_1_2*x_1_1", Ok("x_1_1*x_1_2+x_2_1")),
-        (Prime::P2, b"x_2_1+x_1_2+y", Err(PolyFault::UnknownName(13))),
-        (Prime::P2, b"1*x_1_1+x_1_1", Ok("0")),
-        (Prime::P2, b"2*x_1_1", Err(PolyFault::Syntax(1))),
-        (Prime::P3, b"x_1_2*x_1_1", Ok("2*x_1_1*x_1_2")),
-        (Prime::P3, b"2*x_1_2*x_1_1^1+x_2_1", Ok("x_1_1*x_1_2+x_2_1")),
-        (Prime::P3, b"x_1_1^2", Ok("0")),
-        (Prime::P3, b"3*x_1_1", Err(PolyFault::Syntax(1))),
-        (Prime::P3, b"2*x_1_1^02", Err(PolyFault::Syntax(9))),
-        (Prime::P3, b"0", Ok("0")),
-        (Prime::P3, b"1", Ok("1")),
-        (Prime::P3, b"2", Err(PolyFault::Syntax(2))),
-        (Prime::P3, b"", Err(PolyFault::Syntax(1))),
-        (Prime::P3, b"0*x_1_1", Err(PolyFault::Syntax(2))),
-        (Prime::P3, b"1+x_1_1", Err(PolyFault::Syntax(2))),
-        (Prime::P3, b"2*x_1_3*x_1_1+x_2_2", Err(PolyFault::UnknownName(3))),
-        (Prime::P3, b"x_1_1*x_01_1", Err(PolyFault::UnknownName(7))),
-        (Prime::P3, b"x_1_1 ", Err(PolyFault::Syntax(6))),
-        (Prime::P3, b"x_2_1^12*x_2_1+y_1", Err(PolyFault::UnknownName(16))),
-        (Prime::P3, b"x_1_1+x_2_1^12*x_1_1", Err(PolyFault::TooHigh(25))),
-        (Prime::P3, b"x_1_1+x_1_2*x_1_1+x_1_1", Err(PolyFault::Mixed(1, 2))),
+    let cases = [
+        (Prime::P2, "x_1_1+y", "UnknownName(7)"),
+        (Prime::P2, "x_1_1+x_2_1", "Mixed(1, 2)"),
+        (Prime::P2, "x_1_1+", "Syntax(7)"),
+        (Prime::P2, "x_2_1^24", "TooHigh(48)"),
+        (Prime::P2, "x_2_1^25", "Syntax(8)"),
+        (Prime::P2, "x_2_1+x_1_2*x_1_1", "x_1_1*x_1_2+x_2_1"),
+        (Prime::P2, "1*x_1_1+x_1_1", "0"),
+        (Prime::P2, "2*x_1_1", "Syntax(1)"),
+        (Prime::P3, "x_1_2*x_1_1", "2*x_1_1*x_1_2"),
+        (Prime::P3, "2*x_1_2*x_1_1^1+x_2_1", "x_1_1*x_1_2+x_2_1"),
+        (Prime::P3, "2*x_1_1*x_1_2+x_2_1", "2*x_1_1*x_1_2+x_2_1"),
+        (Prime::P3, "x_1_1^2", "0"),
+        (Prime::P3, "3*x_1_1", "Syntax(1)"),
+        (Prime::P3, "2*x_1_1^02", "Syntax(9)"),
+        (Prime::P3, "0", "0"),
+        (Prime::P3, "1", "1"),
+        (Prime::P3, "", "Syntax(1)"),
+        (Prime::P3, "0*x_1_1", "Syntax(2)"),
+        (Prime::P3, "1+x_1_1", "Syntax(2)"),
+        (Prime::P3, "x_1_1+x_2_1+y", "UnknownName(13)"),
+        (Prime::P3, "x_1_1+x_2_1^12*x_1_1", "TooHigh(25)"),
     ];
     for (p, text, wanted) in cases {
         let gens = small_gens(rt.alloc(), p)?;
-        match read_poly(rt.alloc(), &gens, text) {
-            Ok(f) => {
-                let written = text_of(rt.alloc(), &gens, &f)?;
-                assert_eq!(rt; Ok(written.as_str()), wanted);
-            }
-            Err(fault) => assert_eq!(rt; Err(fault), wanted),
-        }
+        assert!(rt; text.len() <= 65536);
+        assert_eq!(rt; answer_of(rt.alloc(), &gens, text)?.as_str(), wanted);
+    }
+    Ok(())
+}
+
+#[test]
+fn terms_of_a_polynomial(rt: HostRuntime) -> Result<(), Fail> {
+    let gens = small_gens(rt.alloc(), Prime::P3)?;
+    let f = read_poly(rt.alloc(), &gens, b"x_2_1+2*x_1_1*x_1_2")?;
+    assert_eq!(rt; f.terms(), 2);
+    assert_eq!(rt; f.coefficient(0), 2);
+    let product = Mono::of(rt.alloc(), &[1, 1])?;
+    let copy = f.mono(0).try_clone(rt.alloc())?;
+    assert!(rt; copy == product);
+    assert!(rt; product.is_greater(f.mono(1)));
+    assert!(rt; !f.mono(1).is_greater(&product));
+    match f.leading() {
+        Some(m) => assert!(rt; *m == product),
+        None => assert!(rt; false, "0 was read"),
     }
     Ok(())
 }

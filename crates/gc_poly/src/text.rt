@@ -11,7 +11,12 @@ use group_table::Memory;
 use std::alloc::Global;
 
 // The name of generator i, alone or with an exponent other than 1.
-pub(crate) fn power_bytes(alloc: Global, gens: &Gens, i: usize, exponent: u8) -> Result<Vec<u8>, Memory>
+pub(crate) fn power_bytes(
+    alloc: Global,
+    gens: &Gens,
+    i: usize,
+    exponent: u8,
+) -> Result<Vec<u8>, Memory>
     requires { i < length gens.now.degrees }
     ensures { IfOk result (λ bytes. bytes.items ≡ power_text gens.now.degrees i exponent) }
 {

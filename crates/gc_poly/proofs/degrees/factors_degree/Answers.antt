@@ -1,4 +1,4 @@
-use Rattle.std.proofs.Common.{◌≡◌, ◌+◌, ◌*◌, ◌≤◌, get_or, arith, ap, ap₂, subst, sym, ◌∙◌}
+use Rattle.std.proofs.Common.{◌+◌, ◌*◌, get_or, arith, ap, ap₂, subst, sym, ◌∙◌}
 use Rattle.gc_poly.specs.Reading.{IsFactorOf}
 use Rattle.gc_poly.proofs.DegreeLemmas.{degree-more, factor-small}
 use Rattle.gc_poly.proofs.degrees.factors_degree.Goals as goal

@@ -14,8 +14,8 @@ returns-then-is_digit-clause-factors c q t m h k = rest-whole c.args.term.now 2 
 no-digit : (c : goal.Joined-else-term-ge2) → 2 ≤ length c.args.term.now → is_digit (get_or c.args.term.now 0 0) ≡ true → ⊥
 no-digit c l d =
     elim c.else-term-ge2.branch [
-      else-term-ge2-via-then-term-ge2+else-is_digit w ↦ false≢true (sym w.if-is_digit.false ∙ w.is_digit.ensures ∙ d)
-    | else-term-ge2-via-else-term-ge2 w ↦ omega arith
+      | else-term-ge2-via-then-term-ge2+else-is_digit w ↦ false≢true (sym w.if-is_digit.false ∙ w.is_digit.ensures ∙ d)
+      | else-term-ge2-via-else-term-ge2 w ↦ omega arith
     ]
 
 pub returns-else-term-ge2-clause-numeral : goal.returns-else-term-ge2-clause-numeral

@@ -1,4 +1,4 @@
-use Rattle.std.proofs.Common.{◌≡◌, ℕ, Vec, Global, [], map, get_or, below_more, ap, sym, ◌∙◌}
+use Rattle.std.proofs.Common.{ℕ, Vec, Global, [], below_more, ap, sym, ◌∙◌}
 use Rattle.std.specs.Cmp.Lexicographic.{same_text, other_text}
 use Rattle.std.proofs.lemmas.List.{get_or-map}
 use Rattle.gc_poly.proofs.reader.find_name.Goals as goal

@@ -1,4 +1,4 @@
-use Rattle.std.proofs.Common.{◌≤◌, ◌+◌, length, get_or, arith, refl}
+use Rattle.std.proofs.Common.{arith, refl}
 use Rattle.polynomial_texts.specs.Grammar.{IsFactor, factor_text}
 use Rattle.polynomial_texts.specs.Readings.{Names}
 use Rattle.gc_poly.proofs.ReaderLemmas.{place-step, place-room, zip-step, factor-fault, no_factor, no_piece}

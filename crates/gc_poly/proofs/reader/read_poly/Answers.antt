@@ -1,4 +1,4 @@
-use Rattle.std.proofs.Common.{◌≡◌, ◌-◌, ◌≤◌, List, length, map, arith, ap, subst, sym, refl, ◌∙◌}
+use Rattle.std.proofs.Common.{◌-◌, List, map, arith, ap, subst, sym, refl, ◌∙◌}
 use Rattle.std.proofs.lemmas.Result.{err_from_is_err_and}
 use Rattle.graded_polynomials.specs.Texts.{ReadTerm, read_value}
 use Rattle.polynomial_texts.specs.Grammar.{Sum, IsTextOf}

@@ -1,7 +1,7 @@
-use Rattle.std.proofs.Common.{◌≡◌, ◌+◌, ◌-◌, ◌≤◌, [], ◌∷◌, ◌++◌, length, eqb, arith, ap, sym, ◌∙◌}
+use Rattle.std.proofs.Common.{◌≡◌, ◌+◌, [], ◌∷◌, ◌++◌, length, eqb, arith, ap, sym, ◌∙◌}
 use Rattle.std.specs.Prelude.{MatchResult}
 use Rattle.std.specs.Cmp.Lexicographic.{same_text, other_text}
-use Rattle.graded_polynomials.specs.Texts.{Factor, ReadTerm}
+use Rattle.graded_polynomials.specs.Texts.{ReadTerm}
 use Rattle.polynomial_texts.specs.Grammar.{placed_names}
 use Rattle.polynomial_texts.specs.Readings.{NamesSum}
 use Rattle.gc_poly.specs.Generators.{greatest}

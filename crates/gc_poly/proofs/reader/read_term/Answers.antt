@@ -1,5 +1,4 @@
-use Rattle.std.proofs.Common.{◌≡◌, ◌+◌, ◌-◌, ◌≤◌, length, eqb, arith, ap, subst, sym, ◌∙◌}
-use Rattle.std.specs.List.{slice_split}
+use Rattle.std.proofs.Common.{◌≡◌, ◌+◌, ◌≤◌, length, eqb, arith, ap, subst, ◌∙◌}
 use Rattle.std.proofs.lemmas.Result.{err_from_is_err_and}
 use Rattle.polynomial_texts.specs.Grammar.{factor_names}
 use Rattle.gc_poly.specs.Generators.{greatest}

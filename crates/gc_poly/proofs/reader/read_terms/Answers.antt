@@ -1,4 +1,4 @@
-use Rattle.std.proofs.Common.{◌≤◌, ◌+◌, length, get_or, arith, refl}
+use Rattle.std.proofs.Common.{arith}
 use Rattle.std.proofs.lemmas.Result.{err_from_is_err_and}
 use Rattle.polynomial_texts.specs.Grammar.{IsTerm, term_bytes}
 use Rattle.polynomial_texts.specs.Readings.{NamesTerm}

@@ -1,9 +1,6 @@
-use Rattle.std.proofs.Common.{◌≡◌, ◌*◌, ◌≤◌, ◌⊎◌, false, [], get_or, arith, ap, subst, sym, ◌∙◌}
+use Rattle.std.proofs.Common.{get_or, arith, ap, sym, ◌∙◌}
 use Rattle.graded_polynomials.specs.Monomials.{is_exterior}
-use Rattle.graded_polynomials.specs.Polynomials.{Polynomial}
-use Rattle.graded_polynomials.specs.Texts.{power}
 use Rattle.gc_poly.specs.Generators.{greatest}
-use Rattle.gc_poly.specs.Polynomials.{IsMonomialOf}
 use Rattle.gc_poly.proofs.ValueLemmas.{zero-made, power-zero, power-fitting, power-named, power-term}
 use Rattle.gc_poly.proofs.values.power.Goals as goal
 

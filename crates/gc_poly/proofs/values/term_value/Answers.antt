@@ -1,12 +1,11 @@
-use Rattle.std.proofs.Common.{◌≡◌, ◌+◌, ◌*◌, ◌<◌, ◌≤◌, [], ◌∷◌, take, get_or, length, arith, ap, subst, sym, ◌∙◌}
-use Rattle.polynomial_texts.specs.Readings.{factors_degree}
+use Rattle.std.proofs.Common.{◌<◌, [], ◌∷◌, get_or, length, arith, ap, subst, ◌∙◌}
 use Rattle.gc_poly.proofs.ValueLemmas.{factor-room, factor-step}
 use Rattle.gc_poly.proofs.values.term_value.Goals as goal
 
 pub mul-requires-clause-degrees : goal.mul-requires-clause-degrees
 mul-requires-clause-degrees c =
     let room = factor-room c.args.gens.now.degrees c.args.t.now.factors c.loop-x.x-index c.x-item.result
-        (subst (λ xs. c.loop-x.x-index < length xs) c.factors-x-items.ensures c.loop-x-test.true) (c.x-item.is ∙ ap (λ xs. get_or xs c.loop-x.x-index c.x-item.result) c.factors-x-items.ensures) c.requires.small in
+    (subst (λ xs. c.loop-x.x-index < length xs) c.factors-x-items.ensures c.loop-x-test.true) (c.x-item.is ∙ ap (λ xs. get_or xs c.loop-x.x-index c.x-item.result) c.factors-x-items.ensures) c.requires.small in
     omega (arith, room, c.loop-x.invariant.degree_is, c.in_ok-power.ensures.degree_is)
 
 pub loop-x-preserved : goal.loop-x-preserved

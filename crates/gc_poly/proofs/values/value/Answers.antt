@@ -1,4 +1,3 @@
-use Rattle.std.proofs.Common.{arith}
 use Rattle.polynomial_texts.specs.Readings.{term_degree}
 use Rattle.gc_poly.proofs.ValueLemmas.{value-step}
 use Rattle.gc_poly.proofs.values.value.Goals as goal
