@@ -24,17 +24,21 @@ abbrev more_terms : List NamedTerm → List ℕ
 more_terms [] = []
 more_terms (t ∷ ts) = 43 ∷ (term_bytes t ++ more_terms ts)
 
-factors-joined : (f : NamedFactor) (fs : List NamedFactor) (v : List ℕ) → joined_by star (map factor_text (f ∷ fs)) ++ v ≡ factor_text f ++ more_factors fs v
+factors-joined : (f : NamedFactor) (fs : List NamedFactor) (v : List ℕ)
+    → joined_by star (map factor_text (f ∷ fs)) ++ v ≡ factor_text f ++ more_factors fs v
 factors-joined f [] v = refl
-factors-joined f (g ∷ fs) v = append_assoc (factor_text f) (42 ∷ joined_by star (map factor_text (g ∷ fs))) v ∙ ap (λ w. factor_text f ++ 42 ∷ w) (factors-joined g fs v)
+factors-joined f (g ∷ fs) v = append_assoc (factor_text f) (42 ∷ joined_by star (map factor_text (g ∷ fs))) v
+    ∙ ap (λ w. factor_text f ++ 42 ∷ w) (factors-joined g fs v)
 
 terms-joined : (t : NamedTerm) (ts : List NamedTerm) → joined_by plus_sign (map term_bytes (t ∷ ts)) ≡ term_bytes t ++ more_terms ts
 terms-joined t [] = sym (append-nil (term_bytes t))
 terms-joined t (u ∷ ts) = ap (λ w. term_bytes t ++ 43 ∷ w) (terms-joined u ts)
 
 -- a numeral before its factors
-numeral-joined : (c : ℕ) (f : NamedFactor) (fs : List NamedFactor) (v : List ℕ) → c < 10 → term_bytes (record { numeral = Some c; factors = f ∷ fs }) ++ v ≡ (48 + c) ∷ more_factors (f ∷ fs) v
-numeral-joined c f fs v l = ap (λ (ds : List ℕ). (ds ++ 42 ∷ joined_by star (map factor_text (f ∷ fs))) ++ v) (decimal_digit c l) ∙ ap (λ w. (48 + c) ∷ 42 ∷ w) (factors-joined f fs v)
+numeral-joined : (c : ℕ) (f : NamedFactor) (fs : List NamedFactor) (v : List ℕ) → c < 10
+    → term_bytes (record { numeral = Some c; factors = f ∷ fs }) ++ v ≡ (48 + c) ∷ more_factors (f ∷ fs) v
+numeral-joined c f fs v l = ap (λ (ds : List ℕ). (ds ++ 42 ∷ joined_by star (map factor_text (f ∷ fs))) ++ v) (decimal_digit c l)
+    ∙ ap (λ w. (48 + c) ∷ 42 ∷ w) (factors-joined f fs v)
 
 module _ (q : ℕ) where
   -- the bytes end a factor, and go on
@@ -110,8 +114,22 @@ module _ (q : ℕ) where
   at-end FactorStart h = absurd (false≢true h)
   at-end Name h = record { name = []; exponent = None; named = tt; formed = tt; rest = []; tail = no-tail; bytes = refl }
   at-end Caret h = absurd (false≢true h)
-  at-end ExponentOne h = record { exponent = 1; low = omega arith; high = omega arith; rest = []; tail = no-tail; bytes = sym (ap (λ (ds : List ℕ). ds ++ []) (decimal_digit 1 (omega arith))) }
-  at-end ExponentTwo h = record { exponent = 2; low = omega arith; high = omega arith; rest = []; tail = no-tail; bytes = sym (ap (λ (ds : List ℕ). ds ++ []) (decimal_digit 2 (omega arith))) }
+  at-end ExponentOne h = record {
+    exponent = 1;
+    low = omega arith;
+    high = omega arith;
+    rest = [];
+    tail = no-tail;
+    bytes = sym (ap (λ (ds : List ℕ). ds ++ []) (decimal_digit 1 (omega arith)));
+  }
+  at-end ExponentTwo h = record {
+    exponent = 2;
+    low = omega arith;
+    high = omega arith;
+    rest = [];
+    tail = no-tail;
+    bytes = sym (ap (λ (ds : List ℕ). ds ++ []) (decimal_digit 2 (omega arith)));
+  }
   at-end Exponent h = no-tail
 
   chosen : {X : Type 0} (b : Bool) (x y : Option X) (z : X) → cond b x y ≡ Some z → ((b ≡ true) × (x ≡ Some z)) ⊎ ((b ≡ false) × (y ≡ Some z))
@@ -120,7 +138,13 @@ module _ (q : ℕ) where
 
   -- one more byte behind a factor
   star-tail : (w : List ℕ) → FactorRest w → Tail (42 ∷ w)
-  star-tail w r = record { factors = r.first ∷ r.factors; others = r.others; each = (r.formed, r.each); each_other = r.each_other; bytes = ap (λ w. 42 ∷ w) r.bytes }
+  star-tail w r = record {
+    factors = r.first ∷ r.factors;
+    others = r.others;
+    each = (r.formed, r.each);
+    each_other = r.each_other;
+    bytes = ap (λ w. 42 ∷ w) r.bytes;
+  }
 
   plus-tail : (w : List ℕ) → TermRest w → Tail (43 ∷ w)
   plus-tail w r = record { factors = []; others = r.first ∷ r.others; each = tt; each_other = (r.formed, r.each); bytes = ap (λ w. 43 ∷ w) r.bytes }
@@ -163,11 +187,19 @@ module _ (q : ℕ) where
     others = r.2.others;
     formed = record { numeral = (l, h); some = λ e. cc; each = (r.2.formed, r.2.each) };
     each = r.2.each_other;
-    bytes = ap (λ v. (48 + c) ∷ v) (r.1 ∙ ap (λ w. 42 ∷ w) r.2.bytes) ∙ sym (numeral-joined c r.2.first r.2.factors (more_terms r.2.others) (omega arith));
+    bytes = ap (λ v. (48 + c) ∷ v) (r.1 ∙ ap (λ w. 42 ∷ w) r.2.bytes)
+        ∙ sym (numeral-joined c r.2.first r.2.factors (more_terms r.2.others) (omega arith));
   }
 
   term-sum : (v : List ℕ) → TermRest v → (s : Sum) × IsTextOf q s v
-  term-sum v r = (terms (r.first ∷ r.others), record { formed = ((λ e. cc), (r.formed, r.each)); text_is = terms-joined r.first r.others ∙ sym r.bytes })
+  term-sum v r = (
+    terms (r.first ∷ r.others),
+    record {
+      formed = ((λ e. cc), (r.formed, r.each));
+      text_is = terms-joined r.first r.others
+          ∙ sym r.bytes;
+    },
+  )
 
   star-after : (b : ℕ) (w : List ℕ) (t : State) → cond (eqb b 42) (Some FactorStart) None ≡ Some t → Rest t w → StarRest (b ∷ w)
   star-after b w t h r = go (chosen (eqb b 42) (Some FactorStart) None t h)
@@ -182,13 +214,15 @@ module _ (q : ℕ) where
   term-after : (b : ℕ) (w : List ℕ) (t : State) → q ≤ 6 → term_start q b ≡ Some t → Rest t w → TermRest (b ∷ w)
   term-after b w t m h r = go (chosen (is_letter b) (Some Name) (cond (leb 49 b && leb b (48 + q)) (Some Coefficient) None) t h)
     where
-      numeral : ((leb 49 b && leb b (48 + q) ≡ true) × (Some Coefficient ≡ Some t)) ⊎ ((leb 49 b && leb b (48 + q) ≡ false) × (None ≡ Some t)) → TermRest (b ∷ w)
+      numeral : ((leb 49 b && leb b (48 + q) ≡ true) × (Some Coefficient ≡ Some t)) ⊎
+          ((leb 49 b && leb b (48 + q) ≡ false) × (None ≡ Some t)) → TermRest (b ∷ w)
       numeral (inl e) = let k = between b e.0 in let z : t ≡ Coefficient = cc e.1 in
           let n : 48 + (b - 48) ≡ b = omega (arith, k.0) in
           subst (λ b. TermRest (b ∷ w)) n (numeral-term (b - 48) w m (omega (arith, k.0)) (omega (arith, k.1)) (subst (λ t. Rest t w) z r))
       numeral (inr e) = cc e.1
 
-      go : ((is_letter b ≡ true) × (Some Name ≡ Some t)) ⊎ ((is_letter b ≡ false) × (cond (leb 49 b && leb b (48 + q)) (Some Coefficient) None ≡ Some t)) → TermRest (b ∷ w)
+      go : ((is_letter b ≡ true) × (Some Name ≡ Some t)) ⊎
+          ((is_letter b ≡ false) × (cond (leb 49 b && leb b (48 + q)) (Some Coefficient) None ≡ Some t)) → TermRest (b ∷ w)
       go (inl e) = letter-term (b ∷ w) (letter-factor b w e.0 (let z : t ≡ Name = cc e.1 in subst (λ t. Rest t w) z r))
       go (inr e) = numeral (chosen (leb 49 b && leb b (48 + q)) (Some Coefficient) None t e.1)
 
@@ -200,11 +234,20 @@ module _ (q : ℕ) where
       one w (inr k) = term-sum (49 ∷ w) (numeral-term 1 w m (omega arith) l k)
 
       others : ((eqb b 49 ≡ true) × (Some One ≡ Some t)) ⊎ ((eqb b 49 ≡ false) × (term_start q b ≡ Some t)) → (s : Sum) × IsTextOf q s (b ∷ w)
-      others (inl e) = subst (λ b. (s : Sum) × IsTextOf q s (b ∷ w)) (sym (eqb-true b 49 e.0)) (one w (let z : t ≡ One = cc e.1 in subst (λ t. Rest t w) z r))
+      others (inl e) = subst (λ b. (s : Sum) × IsTextOf q s (b ∷ w)) (sym (eqb-true b 49 e.0))
+          (one w (let z : t ≡ One = cc e.1 in subst (λ t. Rest t w) z r))
       others (inr e) = term-sum (b ∷ w) (term-after b w t m e.1 r)
 
-      go : ((eqb b 48 ≡ true) × (Some Zero ≡ Some t)) ⊎ ((eqb b 48 ≡ false) × (cond (eqb b 49) (Some One) (term_start q b) ≡ Some t)) → (s : Sum) × IsTextOf q s (b ∷ w)
-      go (inl e) = (zero_text, record { formed = tt; text_is = ap₂ (λ b (w : List ℕ). b ∷ w) (sym (eqb-true b 48 e.0)) (sym (let z : t ≡ Zero = cc e.1 in subst (λ t. Rest t w) z r)) })
+      go : ((eqb b 48 ≡ true) × (Some Zero ≡ Some t)) ⊎ ((eqb b 48 ≡ false) × (cond (eqb b 49) (Some One) (term_start q b) ≡ Some t))
+          → (s : Sum) × IsTextOf q s (b ∷ w)
+      go (inl e) = (
+        zero_text,
+        record {
+          formed = tt;
+          text_is = ap₂ (λ b (w : List ℕ). b ∷ w) (sym (eqb-true b 48 e.0))
+              (sym (let z : t ≡ Zero = cc e.1 in subst (λ t. Rest t w) z r));
+        },
+      )
       go (inr e) = others (chosen (eqb b 49) (Some One) (term_start q b) t e.1)
 
   -- a tail is the rest of a name
@@ -212,25 +255,50 @@ module _ (q : ℕ) where
   tail-name v r = record { name = []; exponent = None; named = tt; formed = tt; rest = v; tail = r; bytes = refl }
 
   caret-name : (v : List ℕ) → ExponentRest [] v → NameRest (94 ∷ v)
-  caret-name v r = record { name = []; exponent = Some r.exponent; named = tt; formed = (r.low, r.high); rest = r.rest; tail = r.tail; bytes = ap (λ v. 94 ∷ v) r.bytes }
+  caret-name v r = record {
+    name = [];
+    exponent = Some r.exponent;
+    named = tt;
+    formed = (r.low, r.high);
+    rest = r.rest;
+    tail = r.tail;
+    bytes = ap (λ v. 94 ∷ v) r.bytes;
+  }
 
   more-name : (b : ℕ) (v : List ℕ) → is_name_byte b ≡ true → NameRest v → NameRest (b ∷ v)
-  more-name b v h r = record { name = b ∷ r.name; exponent = r.exponent; named = (h, r.named); formed = r.formed; rest = r.rest; tail = r.tail; bytes = ap (λ v. b ∷ v) r.bytes }
+  more-name b v h r = record {
+    name = b ∷ r.name;
+    exponent = r.exponent;
+    named = (h, r.named);
+    formed = r.formed;
+    rest = r.rest;
+    tail = r.tail;
+    bytes = ap (λ v. b ∷ v) r.bytes;
+  }
 
   name-after : (b : ℕ) (w : List ℕ) (t : State) → after q Name b ≡ Some t → Rest t w → NameRest (b ∷ w)
   name-after b w t h r = go (chosen (is_name_byte b) (Some Name) (cond (eqb b caret) (Some Caret) (separator b)) t h)
     where
       others : ((eqb b caret ≡ true) × (Some Caret ≡ Some t)) ⊎ ((eqb b caret ≡ false) × (separator b ≡ Some t)) → NameRest (b ∷ w)
-      others (inl e) = subst (λ b. NameRest (b ∷ w)) (sym (eqb-true b 94 e.0)) (caret-name w (let z : t ≡ Caret = cc e.1 in subst (λ t. Rest t w) z r))
+      others (inl e) = subst (λ b. NameRest (b ∷ w)) (sym (eqb-true b 94 e.0))
+          (caret-name w (let z : t ≡ Caret = cc e.1 in subst (λ t. Rest t w) z r))
       others (inr e) = tail-name (b ∷ w) (separator-tail b w t e.1 r)
 
-      go : ((is_name_byte b ≡ true) × (Some Name ≡ Some t)) ⊎ ((is_name_byte b ≡ false) × (cond (eqb b caret) (Some Caret) (separator b) ≡ Some t)) → NameRest (b ∷ w)
+      go : ((is_name_byte b ≡ true) × (Some Name ≡ Some t)) ⊎
+          ((is_name_byte b ≡ false) × (cond (eqb b caret) (Some Caret) (separator b) ≡ Some t)) → NameRest (b ∷ w)
       go (inl e) = more-name b w e.0 (let z : t ≡ Name = cc e.1 in subst (λ t. Rest t w) z r)
       go (inr e) = others (chosen (eqb b caret) (Some Caret) (separator b) t e.1)
 
   -- an exponent of one digit
   digit-exponent : (e : ℕ) (w : List ℕ) → 1 ≤ e → e < 10 → Tail w → ExponentRest ((48 + e) ∷ []) w
-  digit-exponent e w l h r = record { exponent = e; low = l; high = omega arith; rest = w; tail = r; bytes = sym (ap (λ (ds : List ℕ). ds ++ w) (decimal_digit e h)) }
+  digit-exponent e w l h r = record {
+    exponent = e;
+    low = l;
+    high = omega arith;
+    rest = w;
+    tail = r;
+    bytes = sym (ap (λ (ds : List ℕ). ds ++ w) (decimal_digit e h));
+  }
 
   -- an exponent of two digits
   digits-exponent : (c d : ℕ) (w : List ℕ) → 1 ≤ c → d < 10 → 10 * c + d ≤ 24 → Tail w → ExponentRest ((48 + c) ∷ []) ((48 + d) ∷ w)
@@ -240,7 +308,8 @@ module _ (q : ℕ) where
     high = k;
     rest = w;
     tail = r;
-    bytes = ap₂ (λ c d. (48 + c) ∷ (48 + d) ∷ w) (omega arith) (omega arith) ∙ sym (ap (λ (ds : List ℕ). ds ++ w) (decimal-two (10 * c + d) (omega arith) k));
+    bytes = ap₂ (λ c d. (48 + c) ∷ (48 + d) ∷ w) (omega arith) (omega arith)
+        ∙ sym (ap (λ (ds : List ℕ). ds ++ w) (decimal-two (10 * c + d) (omega arith) k));
   }
 
   shifted : (b : ℕ) (w : List ℕ) → ExponentRest (b ∷ []) w → ExponentRest [] (b ∷ w)
@@ -250,28 +319,39 @@ module _ (q : ℕ) where
   in-range a b c h = (grind (arith, nat_tests), grind (arith, nat_tests))
 
   caret-after : (b : ℕ) (w : List ℕ) (t : State) → exponent_start b ≡ Some t → Rest t w → ExponentRest [] (b ∷ w)
-  caret-after b w t h r = go (chosen (eqb b 49) (Some ExponentOne) (cond (eqb b 50) (Some ExponentTwo) (cond (leb 51 b && leb b 57) (Some Exponent) None)) t h)
+  caret-after b w t h r = go (chosen (eqb b 49) (Some ExponentOne)
+      (cond (eqb b 50) (Some ExponentTwo) (cond (leb 51 b && leb b 57) (Some Exponent) None)) t h)
     where
-      third : ((leb 51 b && leb b 57 ≡ true) × (Some Exponent ≡ Some t)) ⊎ ((leb 51 b && leb b 57 ≡ false) × (None ≡ Some t)) → ExponentRest [] (b ∷ w)
+      third : ((leb 51 b && leb b 57 ≡ true) × (Some Exponent ≡ Some t)) ⊎ ((leb 51 b && leb b 57 ≡ false) × (None ≡ Some t))
+          → ExponentRest [] (b ∷ w)
       third (inl e) = let k = in-range 51 b 57 e.0 in let z : t ≡ Exponent = cc e.1 in let n : 48 + (b - 48) ≡ b = omega (arith, k.0) in
-          shifted b w (subst (λ b. ExponentRest (b ∷ []) w) n (digit-exponent (b - 48) w (omega (arith, k.0)) (omega (arith, k.1)) (subst (λ t. Rest t w) z r)))
+          shifted b w (subst (λ b. ExponentRest (b ∷ []) w) n
+          (digit-exponent (b - 48) w (omega (arith, k.0)) (omega (arith, k.1)) (subst (λ t. Rest t w) z r)))
       third (inr e) = cc e.1
 
-      second : ((eqb b 50 ≡ true) × (Some ExponentTwo ≡ Some t)) ⊎ ((eqb b 50 ≡ false) × (cond (leb 51 b && leb b 57) (Some Exponent) None ≡ Some t)) → ExponentRest [] (b ∷ w)
-      second (inl e) = subst (λ b. ExponentRest [] (b ∷ w)) (sym (eqb-true b 50 e.0)) (shifted 50 w (let z : t ≡ ExponentTwo = cc e.1 in subst (λ t. Rest t w) z r))
+      second : ((eqb b 50 ≡ true) × (Some ExponentTwo ≡ Some t)) ⊎
+          ((eqb b 50 ≡ false) × (cond (leb 51 b && leb b 57) (Some Exponent) None ≡ Some t)) → ExponentRest [] (b ∷ w)
+      second (inl e) = subst (λ b. ExponentRest [] (b ∷ w)) (sym (eqb-true b 50 e.0))
+          (shifted 50 w (let z : t ≡ ExponentTwo = cc e.1 in subst (λ t. Rest t w) z r))
       second (inr e) = third (chosen (leb 51 b && leb b 57) (Some Exponent) None t e.1)
 
-      go : ((eqb b 49 ≡ true) × (Some ExponentOne ≡ Some t)) ⊎ ((eqb b 49 ≡ false) × (cond (eqb b 50) (Some ExponentTwo) (cond (leb 51 b && leb b 57) (Some Exponent) None) ≡ Some t)) → ExponentRest [] (b ∷ w)
-      go (inl e) = subst (λ b. ExponentRest [] (b ∷ w)) (sym (eqb-true b 49 e.0)) (shifted 49 w (let z : t ≡ ExponentOne = cc e.1 in subst (λ t. Rest t w) z r))
+      go : ((eqb b 49 ≡ true) × (Some ExponentOne ≡ Some t)) ⊎
+          ((eqb b 49 ≡ false) × (cond (eqb b 50) (Some ExponentTwo) (cond (leb 51 b && leb b 57) (Some Exponent) None) ≡ Some t))
+          → ExponentRest [] (b ∷ w)
+      go (inl e) = subst (λ b. ExponentRest [] (b ∷ w)) (sym (eqb-true b 49 e.0))
+          (shifted 49 w (let z : t ≡ ExponentOne = cc e.1 in subst (λ t. Rest t w) z r))
       go (inr e) = second (chosen (eqb b 50) (Some ExponentTwo) (cond (leb 51 b && leb b 57) (Some Exponent) None) t e.1)
 
   -- a digit, or the end of the factor, behind the exponent c
-  exponent-after : (c low : ℕ) (b : ℕ) (w : List ℕ) (t : State) → 1 ≤ c → c ≤ 2 → 10 * c + low ≤ 24 + 48 → low ≤ 57 → cond (leb 48 b && leb b low) (Some Exponent) (separator b) ≡ Some t → Rest t w → ExponentRest ((48 + c) ∷ []) (b ∷ w)
+  exponent-after : (c low : ℕ) (b : ℕ) (w : List ℕ) (t : State) → 1 ≤ c → c ≤ 2 → 10 * c + low ≤ 24 + 48 → low ≤ 57
+      → cond (leb 48 b && leb b low) (Some Exponent) (separator b) ≡ Some t → Rest t w → ExponentRest ((48 + c) ∷ []) (b ∷ w)
   exponent-after c low b w t l m k u h r = go (chosen (leb 48 b && leb b low) (Some Exponent) (separator b) t h)
     where
-      go : ((leb 48 b && leb b low ≡ true) × (Some Exponent ≡ Some t)) ⊎ ((leb 48 b && leb b low ≡ false) × (separator b ≡ Some t)) → ExponentRest ((48 + c) ∷ []) (b ∷ w)
+      go : ((leb 48 b && leb b low ≡ true) × (Some Exponent ≡ Some t)) ⊎ ((leb 48 b && leb b low ≡ false) × (separator b ≡ Some t))
+          → ExponentRest ((48 + c) ∷ []) (b ∷ w)
       go (inl e) = let i = in-range 48 b low e.0 in let z : t ≡ Exponent = cc e.1 in let n : 48 + (b - 48) ≡ b = omega (arith, i.0) in
-          subst (λ b. ExponentRest ((48 + c) ∷ []) (b ∷ w)) n (digits-exponent c (b - 48) w l (omega (arith, i.1)) (omega (arith, i.1)) (subst (λ t. Rest t w) z r))
+          subst (λ b. ExponentRest ((48 + c) ∷ []) (b ∷ w)) n
+          (digits-exponent c (b - 48) w l (omega (arith, i.1)) (omega (arith, i.1)) (subst (λ t. Rest t w) z r))
       go (inr e) = digit-exponent c (b ∷ w) l (omega arith) (separator-tail b w t e.1 r)
 
   letter-after : (b : ℕ) (w : List ℕ) (t : State) → cond (is_letter b) (Some Name) None ≡ Some t → Rest t w → FactorRest (b ∷ w)
@@ -296,7 +376,8 @@ module _ (q : ℕ) where
 
   accepted-rest : (v : List ℕ) (s : State) → q ≤ 6 → 1 ≤ q → IsAccepted q s v → Rest s v
   accepted-rest [] s m l h = at-end s (let z : s ≡ h.0 = cc h.1 in ap is_end z ∙ h.2)
-  accepted-rest (b ∷ w) s m l h = option_and_then_some (λ t. run q t w) (after q s b) h.0 h.1 (λ x e k. step s b w x m l e (accepted-rest w x m l (h.0, k, h.2)))
+  accepted-rest (b ∷ w) s m l h = option_and_then_some (λ t. run q t w) (after q s b) h.0 h.1
+      (λ x e k. step s b w x m l e (accepted-rest w x m l (h.0, k, h.2)))
 
 -- what is accepted is a text of the grammar
 pub accepted-text : (q : ℕ) (text : List ℕ) → q ≤ 6 → 1 ≤ q → IsAccepted q Start text → (s : Sum) × IsTextOf q s text

@@ -18,10 +18,12 @@ use Rattle.gc_poly.specs.Polynomials.{IsSumOf}
 use Rattle.gc_poly.specs.Reading.{IsFactorOf, AreFactorsOf, IsTermOf, AreTermsOf, IsDegreeOf, IsDegreeFault, IsUnknownAt, IsAnswerOf}
 use Rattle.gc_poly.proofs.Cutting.{joined-split}
 
-pub zero-named : (q : ℕ) (ds : List ℕ) (s : Sum) (text : List ℕ) (rs : List ReadTerm) → q ≤ 6 → text ≡ 48 ∷ [] → rs ≡ [] → IsTextOf q s text → NamesSum ds s rs
+pub zero-named : (q : ℕ) (ds : List ℕ) (s : Sum) (text : List ℕ) (rs : List ReadTerm) → q ≤ 6 → text ≡ 48 ∷ [] → rs ≡ [] → IsTextOf q s text
+    → NamesSum ds s rs
 zero-named q ds s text rs m e n h = subst (λ s. NamesSum ds s rs) (sum-unique q zero_text s text m (record { formed = tt; text_is = sym e }) h) n
 
-pub one-named : (q : ℕ) (ds : List ℕ) (s : Sum) (text : List ℕ) (rs : List ReadTerm) → q ≤ 6 → text ≡ 49 ∷ [] → rs ≡ record { numeral = 1; factors = [] } ∷ [] → IsTextOf q s text → NamesSum ds s rs
+pub one-named : (q : ℕ) (ds : List ℕ) (s : Sum) (text : List ℕ) (rs : List ReadTerm) → q ≤ 6 → text ≡ 49 ∷ []
+    → rs ≡ record { numeral = 1; factors = [] } ∷ [] → IsTextOf q s text → NamesSum ds s rs
 one-named q ds s text rs m e n h = subst (λ s. NamesSum ds s rs) (sum-unique q one_text s text m (record { formed = tt; text_is = sym e }) h) n
 
 mapped-some : (ts : List NamedTerm) → ts ≢ [] → map term_bytes ts ≢ []
@@ -29,18 +31,24 @@ mapped-some [] n = absurd (n refl)
 mapped-some (t ∷ ts) n = λ e. cc
 
 -- a text other than 0 and 1 is its terms
-pub sum-cases : (F : Sum → Type 0) (q : ℕ) (s : Sum) (text : List ℕ) (ps : List (List ℕ)) → q ≤ 6 → text ≢ 48 ∷ [] → text ≢ 49 ∷ [] → ps ≡ slice_split (λ b. eqb b 43) text
+pub sum-cases : (F : Sum → Type 0) (q : ℕ) (s : Sum) (text : List ℕ) (ps : List (List ℕ)) → q ≤ 6 → text ≢ 48 ∷ [] → text ≢ 49 ∷ []
+    → ps ≡ slice_split (λ b. eqb b 43) text
     → ((ts : List NamedTerm) → Each (IsTerm q) ts → map term_bytes ts ≡ ps → F (terms ts)) → IsTextOf q s text → F s
 sum-cases F q zero_text text ps m a b e f h = absurd (a (sym h.text_is))
 sum-cases F q one_text text ps m a b e f h = absurd (b (sym h.text_is))
 sum-cases F q (terms ts) text ps m a b e f h = f ts h.formed.1 (sym (e ∙ ap (slice_split (λ b. eqb b 43)) (sym h.text_is)
-    ∙ joined-split 43 (map term_bytes ts) (mapped-some ts h.formed.0) (each-mapped term_bytes (IsTerm q) (Without 43) ts (λ t k. term-without q t m k) h.formed.1)))
+    ∙ joined-split 43 (map term_bytes ts) (mapped-some ts h.formed.0)
+    (each-mapped term_bytes (IsTerm q) (Without 43) ts (λ t k. term-without q t m k) h.formed.1)))
 
 -- pieces are no longer than the whole, and no more of them where none is empty
 pieces-bounded : (s : ℕ) (ps : List (List ℕ)) (n : ℕ) → length (joined_by s ps) ≤ n → Each (λ p. length p ≤ n) ps
 pieces-bounded s [] n l = tt
 pieces-bounded s (p ∷ []) n l = (l, tt)
-pieces-bounded s (p ∷ r ∷ ps) n l = (omega (arith, l, length-append p (s ∷ joined_by s (r ∷ ps))), pieces-bounded s (r ∷ ps) n (omega (arith, l, length-append p (s ∷ joined_by s (r ∷ ps)))))
+pieces-bounded s (p ∷ r ∷ ps) n l = (
+  omega (arith, l, length-append p (s ∷ joined_by s (r ∷ ps))),
+  pieces-bounded s (r ∷ ps) n
+      (omega (arith, l, length-append p (s ∷ joined_by s (r ∷ ps)))),
+)
 
 pieces-few : (s : ℕ) (ps : List (List ℕ)) → Each (λ p. 1 ≤ length p) ps → length ps ≤ length (joined_by s ps)
 pieces-few s [] h = omega arith
@@ -58,7 +66,12 @@ factors-few : (q : ℕ) (t : NamedTerm) → IsTerm q t → length t.factors ≤ 
 factors-few q t h = go t.numeral t.factors h.each
   where
     few : (fs : List NamedFactor) → Each IsFactor fs → length fs ≤ length (joined_by star (map factor_text fs))
-    few fs h = omega (arith, length-map fs factor_text, pieces-few star (map factor_text fs) (each-mapped factor_text IsFactor (λ p. 1 ≤ length p) fs factor-some h))
+    few fs h = omega (
+      arith,
+      length-map fs factor_text,
+      pieces-few star (map factor_text fs)
+          (each-mapped factor_text IsFactor (λ p. 1 ≤ length p) fs factor-some h),
+    )
 
     go : (c : Option ℕ) (fs : List NamedFactor) → Each IsFactor fs → length fs ≤ length (joined_by star (numeral_pieces c ++ map factor_text fs))
     go None fs h = few fs h
@@ -88,13 +101,15 @@ module _ (g : Generators) (p : 2 ≤ g.prime) where
       go None h k = record { low = omega (arith, k); high = omega (arith, k, p); factors = factors }
       go (Some c) h k = record { low = omega (arith, k, h.0); high = omega (arith, k, h.1, p); factors = factors }
 
-  terms-of : (ts : List NamedTerm) (rs : List ReadTerm) → Each (λ b. length b ≤ 65536) (map term_bytes ts) → Each (IsTerm (greatest g)) ts → NamesTerms g.degrees ts rs → Each (IsTermOf g) rs
+  terms-of : (ts : List NamedTerm) (rs : List ReadTerm) → Each (λ b. length b ≤ 65536) (map term_bytes ts) → Each (IsTerm (greatest g)) ts
+      → NamesTerms g.degrees ts rs → Each (IsTermOf g) rs
   terms-of ts [] l h z = tt
   terms-of [] (r ∷ rs) l h z = absurd z
   terms-of (t ∷ ts) (r ∷ rs) l h z = (term-of t r l.0 h.0 z.0, terms-of ts rs l.1 h.1 z.1)
 
   -- the terms of a text are within bounds
-  pub sum-terms : (s : Sum) (text : List ℕ) (rs : List ReadTerm) → length text ≤ 65536 → IsTextOf (greatest g) s text → NamesSum g.degrees s rs → AreTermsOf g rs
+  pub sum-terms : (s : Sum) (text : List ℕ) (rs : List ReadTerm) → length text ≤ 65536 → IsTextOf (greatest g) s text
+      → NamesSum g.degrees s rs → AreTermsOf g rs
   sum-terms s text rs l h z = All-from_recursion (IsTermOf g) rs (go s h.formed (omega (arith, l, ap length h.text_is)) z)
     where
       none : Each (IsTermOf g) []
@@ -108,7 +123,8 @@ module _ (g : Generators) (p : 2 ≤ g.prime) where
       go one_text k l z = subst (Each (IsTermOf g)) (sym z) one
       go (terms ts) k l z = terms-of ts rs (pieces-bounded plus_sign (map term_bytes ts) 65536 l) k.1 z
 
-pub name-fault : (g : Generators) (text : List ℕ) (s : Sum) (e : PolyFault) → IsTextOf (greatest g) s text → IsUnknownAt g.degrees (placed_names s) e → IsAnswerOf g text (Err e)
+pub name-fault : (g : Generators) (text : List ℕ) (s : Sum) (e : PolyFault) → IsTextOf (greatest g) s text
+    → IsUnknownAt g.degrees (placed_names s) e → IsAnswerOf g text (Err e)
 name-fault g text s (Syntax c) h u = absurd u
 name-fault g text s (UnknownName c) h u = record { sum = s; text_of = h; name = u.0; first = u.1 }
 name-fault g text s (Mixed d k) h u = absurd u
@@ -122,7 +138,8 @@ degrees-small ds rs h = go rs (recursion_from_All (λ k. k ≤ 24) (map (term_de
     go [] h = tt
     go (r ∷ rs) h = (h.0, go rs h.1)
 
-pub degree-fault : (g : Generators) (text : List ℕ) (s : Sum) (rs : List ReadTerm) (e : PolyFault) → IsTextOf (greatest g) s text → NamesSum g.degrees s rs → IsDegreeFault (map (term_degree g.degrees) rs) e → IsAnswerOf g text (Err e)
+pub degree-fault : (g : Generators) (text : List ℕ) (s : Sum) (rs : List ReadTerm) (e : PolyFault) → IsTextOf (greatest g) s text
+    → NamesSum g.degrees s rs → IsDegreeFault (map (term_degree g.degrees) rs) e → IsAnswerOf g text (Err e)
 degree-fault g text s rs (Syntax c) h z f = absurd f
 degree-fault g text s rs (UnknownName c) h z f = absurd f
 degree-fault g text s rs (TooHigh d) h z f = record { sum = s; terms = rs; stands_for = record { text_of = h; names = z }; first = f }
@@ -139,16 +156,20 @@ degree-fault g text s (r ∷ rs) (Mixed d k) h z f = record {
 degree-fault g text s rs Memory h z f = tt
 
 -- all terms have the degree
-pub degrees-of : (ds : List ℕ) (rs : List ReadTerm) (degrees : List ℕ) (d : ℕ) → degrees ≡ map (term_degree ds) rs → All (λ e. e ≡ d) degrees → All (λ r. term_degree ds r ≡ d) rs
-degrees-of ds rs degrees d e h i r l = sym (get_or-map (term_degree ds) rs i r 0 l) ∙ ap (λ ks. get_or ks i 0) (sym e) ∙ h i 0 (omega (arith, ap length e, length-map rs (term_degree ds)))
+pub degrees-of : (ds : List ℕ) (rs : List ReadTerm) (degrees : List ℕ) (d : ℕ) → degrees ≡ map (term_degree ds) rs
+    → All (λ e. e ≡ d) degrees → All (λ r. term_degree ds r ≡ d) rs
+degrees-of ds rs degrees d e h i r l = sym (get_or-map (term_degree ds) rs i r 0 l) ∙ ap (λ ks. get_or ks i 0) (sym e)
+    ∙ h i 0 (omega (arith, ap length e, length-map rs (term_degree ds)))
 
-pub reading : (g : Generators) (text : List ℕ) (s : Sum) (rs : List ReadTerm) (degrees : List ℕ) (d : ℕ) (f : Polynomial) → IsTextOf (greatest g) s text → NamesSum g.degrees s rs → degrees ≡ map (term_degree g.degrees) rs → IsDegreeOf degrees d
+pub reading : (g : Generators) (text : List ℕ) (s : Sum) (rs : List ReadTerm) (degrees : List ℕ) (d : ℕ) (f : Polynomial)
+    → IsTextOf (greatest g) s text → NamesSum g.degrees s rs → degrees ≡ map (term_degree g.degrees) rs → IsDegreeOf degrees d
     → IsSumOf g d (read_value (greatest g) g.degrees rs) f → IsAnswerOf g text (Ok f)
 reading g text s rs degrees d f h z e k H = record {
   sum = s;
   terms = rs;
   stands_for = record { text_of = h; names = z };
-  degrees = recursion_from_All (λ r. term_degree g.degrees r ≡ f.degree) rs (λ i r l. degrees-of g.degrees rs degrees d e k.each i r l ∙ sym H.degree_is);
+  degrees = recursion_from_All (λ r. term_degree g.degrees r ≡ f.degree) rs (λ i r l. degrees-of g.degrees rs degrees d e k.each i r l
+      ∙ sym H.degree_is);
   small = omega (arith, H.degree_is, k.small);
   zero_degree = λ n. H.degree_is ∙ k.none (e ∙ ap (map (term_degree g.degrees)) n);
   polynomial = H.over;

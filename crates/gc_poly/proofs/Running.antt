@@ -69,7 +69,8 @@ start-begins q b h = ap (λ t. cond t (Some Zero) (cond (eqb b 49) (Some One) (t
 
 name-goes-on : (q : ℕ) (bs : List ℕ) → Each (λ c. is_name_byte c ≡ true) bs → run q Name bs ≡ Some Name
 name-goes-on q [] h = refl
-name-goes-on q (b ∷ bs) h = run-step q Name Name Name b bs (ap (λ t. cond t (Some Name) (cond (eqb b caret) (Some Caret) (separator b))) h.0) (name-goes-on q bs h.1)
+name-goes-on q (b ∷ bs) h = run-step q Name Name Name b bs
+    (ap (λ t. cond t (Some Name) (cond (eqb b caret) (Some Caret) (separator b))) h.0) (name-goes-on q bs h.1)
 
 name-runs : (q : ℕ) (s : State) (n : List ℕ) → BeginsName q s → IsName n → run q s n ≡ Some Name
 name-runs q s [] b h = absurd h
@@ -126,15 +127,21 @@ exponent-runs q None h = (Name, refl, name-end q)
 exponent-runs q (Some e) h = let r = decimal-runs q e h.0 h.1 in (r.0, run-step q Name Caret r.0 94 (decimal e) refl r.1, r.2)
 
 factor-runs : (q : ℕ) (s : State) (f : NamedFactor) → BeginsName q s → IsFactor f → RunsToEnd q s (factor_text f)
-factor-runs q s f b h = let r = exponent-runs q f.exponent h.exponent in (r.0, run-on q s Name r.0 f.name (exponent_text f.exponent) (name-runs q s f.name b h.name) r.1, r.2)
+factor-runs q s f b h = let r = exponent-runs q f.exponent
+    h.exponent in (r.0, run-on q s Name r.0 f.name (exponent_text f.exponent) (name-runs q s f.name b h.name) r.1, r.2)
 
-factors-run : (q : ℕ) (s : State) (fs : List NamedFactor) → BeginsName q s → fs ≢ [] → Each IsFactor fs → RunsToEnd q s (joined_by star (map factor_text fs))
+factors-run : (q : ℕ) (s : State) (fs : List NamedFactor) → BeginsName q s → fs ≢ [] → Each IsFactor fs
+    → RunsToEnd q s (joined_by star (map factor_text fs))
 factors-run q s [] b n h = absurd (n refl)
 factors-run q s (f ∷ []) b n h = factor-runs q s f b h.0
 factors-run q s (f ∷ g ∷ fs) b n h =
     let r = factor-runs q s f b h.0 in
-    let m = factors-run q FactorStart (g ∷ fs) (factor-begins q) (λ e. cc) h.1 in
-    (m.0, run-on q s r.0 m.0 (factor_text f) (42 ∷ joined_by star (map factor_text (g ∷ fs))) r.1 (run-step q r.0 FactorStart m.0 42 (joined_by star (map factor_text (g ∷ fs))) r.2.star_next m.1), m.2)
+    let m = factors-run q FactorStart (g ∷ fs) (factor-begins q) (λ e. cc) h.1 in (
+      m.0,
+      run-on q s r.0 m.0 (factor_text f) (42 ∷ joined_by star (map factor_text (g ∷ fs))) r.1
+          (run-step q r.0 FactorStart m.0 42 (joined_by star (map factor_text (g ∷ fs))) r.2.star_next m.1),
+      m.2,
+    )
 
 -- a term may begin here
 pub record BeginsTerm (q : ℕ) (s : State) : Type 0 where
@@ -148,7 +155,8 @@ numeral-byte : (q c : ℕ) → 1 ≤ c → c ≤ q → (leb 49 (48 + c) && leb (
 numeral-byte q c l h = grind (arith, nat_tests)
 
 term-numeral : (q c : ℕ) → q ≤ 6 → 1 ≤ c → c ≤ q → term_start q (48 + c) ≡ Some Coefficient
-term-numeral q c m l h = ap (λ t. cond t (Some Name) (cond (leb 49 (48 + c) && leb (48 + c) (48 + q)) (Some Coefficient) None)) (digit-no-letter c (omega arith))
+term-numeral q c m l h = ap (λ t. cond t (Some Name) (cond (leb 49 (48 + c) && leb (48 + c) (48 + q)) (Some Coefficient) None))
+    (digit-no-letter c (omega arith))
     ∙ ap (λ t. cond t (Some Coefficient) None) (numeral-byte q c l h)
 
 term-start-begins : (q : ℕ) → q ≤ 6 → BeginsTerm q TermStart
@@ -169,7 +177,8 @@ start-start-begins q m = record { letter = start-begins q; numeral = λ c l h. g
 term-runs : (q : ℕ) (s : State) (t : NamedTerm) → q ≤ 6 → BeginsTerm q s → IsTerm q t → RunsToEnd q s (term_bytes t)
 term-runs q s t m b h = go t.numeral t.factors h.numeral h.some h.each
   where
-    go : (n : Option ℕ) (fs : List NamedFactor) → IfSome n (λ c. (1 ≤ c) × (c ≤ q)) → fs ≢ [] → Each IsFactor fs → RunsToEnd q s (joined_by star (numeral_pieces n ++ map factor_text fs))
+    go : (n : Option ℕ) (fs : List NamedFactor) → IfSome n (λ c. (1 ≤ c) × (c ≤ q)) → fs ≢ [] → Each IsFactor fs
+        → RunsToEnd q s (joined_by star (numeral_pieces n ++ map factor_text fs))
     go None fs c n h = factors-run q s fs b.letter n h
     go (Some d) [] c n h = absurd (n refl)
     go (Some d) (f ∷ fs) c n h =
@@ -177,17 +186,23 @@ term-runs q s t m b h = go t.numeral t.factors h.numeral h.some h.each
         let k = factors-run q FactorStart (f ∷ fs) (factor-begins q) n h in (
           k.0,
           ap (λ (ds : List ℕ). run q s (ds ++ 42 ∷ joined_by star (map factor_text (f ∷ fs)))) (decimal_digit d (omega (arith, c.1)))
-              ∙ run-step q s r.0 k.0 (48 + d) (42 ∷ joined_by star (map factor_text (f ∷ fs))) r.1 (run-step q r.0 FactorStart k.0 42 (joined_by star (map factor_text (f ∷ fs))) r.2 k.1),
+              ∙ run-step q s r.0 k.0 (48 + d) (42 ∷ joined_by star (map factor_text (f ∷ fs))) r.1
+              (run-step q r.0 FactorStart k.0 42 (joined_by star (map factor_text (f ∷ fs))) r.2 k.1),
           k.2,
         )
 
-terms-run : (q : ℕ) (s : State) (ts : List NamedTerm) → q ≤ 6 → BeginsTerm q s → ts ≢ [] → Each (IsTerm q) ts → RunsToEnd q s (joined_by plus_sign (map term_bytes ts))
+terms-run : (q : ℕ) (s : State) (ts : List NamedTerm) → q ≤ 6 → BeginsTerm q s → ts ≢ [] → Each (IsTerm q) ts
+    → RunsToEnd q s (joined_by plus_sign (map term_bytes ts))
 terms-run q s [] m b n h = absurd (n refl)
 terms-run q s (t ∷ []) m b n h = term-runs q s t m b h.0
 terms-run q s (t ∷ u ∷ ts) m b n h =
     let r = term-runs q s t m b h.0 in
-    let k = terms-run q TermStart (u ∷ ts) m (term-start-begins q m) (λ e. cc) h.1 in
-    (k.0, run-on q s r.0 k.0 (term_bytes t) (43 ∷ joined_by plus_sign (map term_bytes (u ∷ ts))) r.1 (run-step q r.0 TermStart k.0 43 (joined_by plus_sign (map term_bytes (u ∷ ts))) r.2.plus_next k.1), k.2)
+    let k = terms-run q TermStart (u ∷ ts) m (term-start-begins q m) (λ e. cc) h.1 in (
+      k.0,
+      run-on q s r.0 k.0 (term_bytes t) (43 ∷ joined_by plus_sign (map term_bytes (u ∷ ts))) r.1
+          (run-step q r.0 TermStart k.0 43 (joined_by plus_sign (map term_bytes (u ∷ ts))) r.2.plus_next k.1),
+      k.2,
+    )
 
 abbrev pub IsAccepted : ℕ → State → List ℕ → Type 0
 IsAccepted q s bs = (t : State) × (run q s bs ≡ Some t) × (is_end t ≡ true)

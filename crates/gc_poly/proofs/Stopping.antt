@@ -26,14 +26,16 @@ ending q Exponent = ([], (Exponent, refl, refl))
 
 module _ (q : ℕ) (text : List ℕ) (m : q ≤ 6) (l : 1 ≤ q) where
   state-goes-on : (front : List ℕ) (s : State) → run q Start front ≡ Some s → GoesOn q front
-  state-goes-on front s h = let c = ending q s in let r = accepted-text q (front ++ c.0) m l (c.1.0, run-on q Start s c.1.0 front c.0 h c.1.1, c.1.2) in (c.0, r.0, r.1)
+  state-goes-on front s h = let c = ending q s in let r = accepted-text q (front ++ c.0) m l
+      (c.1.0, run-on q Start s c.1.0 front c.0 h c.1.1, c.1.2) in (c.0, r.0, r.1)
 
   one-step : (o : Option State) → option_and_then (λ t. run q t []) o ≡ o
   one-step None = refl
   one-step (Some t) = refl
 
   -- the state behind one more byte
-  pub next-state : (i : ℕ) (s : State) → i < length text → run q Start (take i text) ≡ Some s → run q Start (take (i + 1) text) ≡ after q s (get_or text i 0)
+  pub next-state : (i : ℕ) (s : State) → i < length text → run q Start (take i text) ≡ Some s
+      → run q Start (take (i + 1) text) ≡ after q s (get_or text i 0)
   next-state i s k h = ap (run q Start) (take_more text i 0 k) ∙ run-append q Start (take i text) (get_or text i 0 ∷ [])
       ∙ ap (option_and_then (λ t. run q t (get_or text i 0 ∷ []))) h ∙ one-step (after q s (get_or text i 0))
 
@@ -53,7 +55,8 @@ module _ (q : ℕ) (text : List ℕ) (m : q ≤ 6) (l : 1 ≤ q) where
     within = omega arith;
     before = subst (λ n. GoesOn q (take n text)) e (state-goes-on (take i text) s h);
     byte = λ k. absurd (omega arith);
-    ending = λ _ x t. let r = text-accepted q x text m t in let z : s ≡ r.0 = cc (sym h ∙ ap (run q Start) (whole i e) ∙ r.1) in false≢true (sym n ∙ ap is_end z ∙ r.2);
+    ending = λ _ x t. let r = text-accepted q x text m t in let z : s ≡ r.0 = cc (sym h ∙ ap (run q Start) (whole i e) ∙ r.1) in false≢true
+        (sym n ∙ ap is_end z ∙ r.2);
   }
 
   pub text-ends : (i : ℕ) (s : State) → i ≡ length text → run q Start (take i text) ≡ Some s → is_end s ≡ true → (x : Sum) × IsTextOf q x text

@@ -3,7 +3,8 @@
 ghost use Rattle.std.specs.Prelude.{◌≡◌, ◌≢◌, ℕ, ◌+◌, ◌^◌, ◌≤◌, ◌<◌, List, [], map, length, IfOk, IfSome, IsNone, MatchOption, MatchResult, slice_index_or};
 ghost use Rattle.std.specs.List.{AllByRecursion as Each};
 ghost use Rattle.graded_polynomials.specs.Texts as texts;
-ghost use Rattle.polynomial_texts.specs.Grammar.{NamedFactor, NamedTerm, Sum, IsFactor, IsTerm, IsTextOf, factor_text, term_bytes, numeral_length, factor_names, term_names, placed_names};
+ghost use Rattle.polynomial_texts.specs.Grammar.{NamedFactor, NamedTerm, Sum, IsFactor, IsTerm, IsTextOf, factor_text, term_bytes};
+ghost use Rattle.polynomial_texts.specs.Grammar.{numeral_length, factor_names, term_names, placed_names};
 ghost use Rattle.polynomial_texts.specs.Readings.{IsUnknown, Names, NamesEach, NamesTerm, NamesTerms, NamesSum};
 ghost use Rattle.gc_poly.specs.Generators.{greatest};
 ghost use Rattle.gc_poly.specs.Reading.{AreNames, spans, IsUnknownAt, IsAnswerOf};
@@ -91,7 +92,8 @@ fn read_term(
     requires names { AreNames gens.now.degrees (map (λ n. n.items) names.now) }
     requires small { column + length piece.now + 1 ≤ 2 ^ 20 }
     ensures { (t : NamedTerm) → IsTerm (greatest gens.now) t → term_bytes t ≡ piece.now
-        → MatchResult result (NamesTerm gens.now.degrees t) (IsUnknownAt gens.now.degrees (factor_names (column + numeral_length t.numeral) t.factors)) }
+        → MatchResult result (NamesTerm gens.now.degrees t)
+        (IsUnknownAt gens.now.degrees (factor_names (column + numeral_length t.numeral) t.factors)) }
 {
     let (numeral, factors) = split_numeral(piece);
     let start = column + (piece.len() - factors.len()) as u32;

@@ -8,6 +8,7 @@ ghost use Rattle.gc_poly.specs.Polynomials.{IsOverGenerators, IsMonomialOf, IsSu
 ghost use Rattle.gc_poly.specs.Substitution.{polynomials, standing, substituted, AreImages};
 
 use crate::sums::add_multiple;
+use crate::values::constant;
 use crate::{Gens, Mono, Poly, Polys, mul};
 use group_table::Memory;
 use std::alloc::Global;
@@ -27,17 +28,6 @@ fn times_power(alloc: Global, gens: &Gens, f: Poly, g: &Poly, exponent: u8) -> R
     Ok(out)
 }
 
-// The polynomial 1.
-fn one(alloc: Global, gens: &Gens) -> Result<Poly, Memory>
-    ensures { IfOk result (IsSumOf gens.now 0 (record { scalar = 1; monomial = [] } ∷ [])) }
-{
-    let p = gens.modulus();
-    prove!(p > 1);
-    let mut one = Poly::zero(alloc, 0);
-    one.add_term(gens, 1, &Mono::of(alloc, &[])?)?;
-    Ok(one)
-}
-
 // The value of a monomial where the images stand for the generators.
 fn image_of(alloc: Global, to: &Gens, m: &Mono, images: &Polys) -> Result<Poly, Memory>
     requires over { All (IsOverGenerators to.now) images.now }
@@ -46,7 +36,9 @@ fn image_of(alloc: Global, to: &Gens, m: &Mono, images: &Polys) -> Result<Poly, 
     ensures { IfOk result (IsSumOf to.now (degree (map (λ f. f.degree) images.now) m.now)
         (evaluate (polynomials (greatest to.now) to.now.degrees) (standing images.now) m.now)) }
 {
-    let mut out = one(alloc, to)?;
+    let p = to.modulus();
+    prove!(p > 1);
+    let mut out = constant(alloc, to, 1)?;
     for i in 0..m.len() {
         out = times_power(alloc, to, out, images.get(i), m.exponent(i))?;
     }

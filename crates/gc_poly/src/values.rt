@@ -50,8 +50,8 @@ fn power(alloc: Global, gens: &Gens, x: &Factor) -> Result<Poly, Memory>
     Ok(out)
 }
 
-// A number as a polynomial of degree 0.
-fn constant(alloc: Global, gens: &Gens, c: u8) -> Result<Poly, Memory>
+/// A number as a polynomial of degree 0.
+pub(crate) fn constant(alloc: Global, gens: &Gens, c: u8) -> Result<Poly, Memory>
     requires { c < gens.now.prime }
     ensures { IfOk result (IsSumOf gens.now 0 (record { scalar = c; monomial = [] } ∷ [])) }
 {

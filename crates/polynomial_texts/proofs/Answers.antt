@@ -42,7 +42,8 @@ stops-not q s text n t h = go (cases_order n (length text))
     go (inr (inr l)) = omega (arith, h.within)
 
 stops-before : (q : ℕ) (text : List ℕ) (n m : ℕ) → n < m → Stops q text n → Stops q text m → ⊥
-stops-before q text n m l h k = h.byte (omega (arith, k.within)) (front-goes-on q (take (n + 1) text) (drop (n + 1) (take m text)) (subst (GoesOn q) (sym (take-front text (n + 1) m (omega arith))) k.before))
+stops-before q text n m l h k = h.byte (omega (arith, k.within))
+    (front-goes-on q (take (n + 1) text) (drop (n + 1) (take m text)) (subst (GoesOn q) (sym (take-front text (n + 1) m (omega arith))) k.before))
 
 pub stops-unique : (q : ℕ) (text : List ℕ) (n m : ℕ) → Stops q text n → Stops q text m → n ≡ m
 stops-unique q text n m h k = go (cases_order n m)
@@ -63,7 +64,8 @@ factors-known ds c (f ∷ fs) (x ∷ xs) h = ((λ u. u x.generator h.0.within h.
 terms-known : (ds : List ℕ) (c : ℕ) (ts : List NamedTerm) (rs : List ReadTerm) → NamesTerms ds ts rs → Each (Known ds) (term_names c ts)
 terms-known ds c [] rs h = tt
 terms-known ds c (t ∷ ts) [] h = absurd h
-terms-known ds c (t ∷ ts) (r ∷ rs) h = each-append (Known ds) (factor_names (c + numeral_length t.numeral) t.factors) (term_names (c + length (term_bytes t) + 1) ts)
+terms-known ds c (t ∷ ts) (r ∷ rs) h = each-append (Known ds) (factor_names (c + numeral_length t.numeral) t.factors)
+    (term_names (c + length (term_bytes t) + 1) ts)
     (factors-known ds (c + numeral_length t.numeral) t.factors r.factors h.0.factors) (terms-known ds (c + length (term_bytes t) + 1) ts rs h.1)
 
 pub sum-known : (ds : List ℕ) (s : Sum) (rs : List ReadTerm) → NamesSum ds s rs → Each (Known ds) (placed_names s)
@@ -76,31 +78,43 @@ module _ (q : ℕ) (ds text : List ℕ) (l : q ≤ 6) (g : AreDegrees ds) where
   same-terms s r rs ss h k = sum-named ds r rs ss g (subst (λ s. NamesSum ds s rs) (sum-unique q s r text l h.text_of k.text_of) h.names) k.names
 
   known-apart : (s : Sum) (rs : List ReadTerm) (c : ℕ) → StandsFor q ds text s rs → HasUnknownName q ds text c → ⊥
-  known-apart s rs c h u = none-first (λ (n : PlacedName). IsUnknown ds n.name) (record { column = c; name = u.name }) (placed_names s) (sum-known ds s rs h.names)
-      (subst (λ s. IsFirst (λ (n : PlacedName). IsUnknown ds n.name) (record { column = c; name = u.name }) (placed_names s)) (sum-unique q u.sum s text l u.text_of h.text_of) u.first)
+  known-apart s rs c h u = none-first (λ (n : PlacedName). IsUnknown ds n.name) (record { column = c; name = u.name }) (placed_names s)
+      (sum-known ds s rs h.names)
+      (subst (λ s. IsFirst (λ (n : PlacedName). IsUnknown ds n.name) (record { column = c; name = u.name }) (placed_names s))
+      (sum-unique q u.sum s text l u.text_of h.text_of) u.first)
 
   unknown-one : (c d : ℕ) → HasUnknownName q ds text c → HasUnknownName q ds text d → c ≡ d
-  unknown-one c d u v = ap (λ (n : PlacedName). n.column) (first-unique (λ (n : PlacedName). IsUnknown ds n.name) (record { column = c; name = u.name }) (record { column = d; name = v.name }) (placed_names v.sum)
-      (subst (λ s. IsFirst (λ (n : PlacedName). IsUnknown ds n.name) (record { column = c; name = u.name }) (placed_names s)) (sum-unique q u.sum v.sum text l u.text_of v.text_of) u.first) v.first)
+  unknown-one c d u v = ap (λ (n : PlacedName). n.column)
+      (first-unique (λ (n : PlacedName). IsUnknown ds n.name) (record { column = c; name = u.name }) (record { column = d; name = v.name })
+      (placed_names v.sum)
+      (subst (λ s. IsFirst (λ (n : PlacedName). IsUnknown ds n.name) (record { column = c; name = u.name }) (placed_names s))
+      (sum-unique q u.sum v.sum text l u.text_of v.text_of) u.first) v.first)
 
-  same-degree : (rs : List ReadTerm) (d e : ℕ) → Each (λ r. term_degree ds r ≡ d) rs → Each (λ r. term_degree ds r ≡ e) rs → (rs ≡ [] → d ≡ 0) → (rs ≡ [] → e ≡ 0) → d ≡ e
+  same-degree : (rs : List ReadTerm) (d e : ℕ) → Each (λ r. term_degree ds r ≡ d) rs → Each (λ r. term_degree ds r ≡ e) rs
+      → (rs ≡ [] → d ≡ 0) → (rs ≡ [] → e ≡ 0) → d ≡ e
   same-degree [] d e a b x y = x refl ∙ sym (y refl)
   same-degree (r ∷ rs) d e a b x y = sym a.0 ∙ b.0
 
   read-one : (f h : Polynomial) → IsReading q ds text f → IsReading q ds text h → f ≡ h
   read-one f h F H = let make : ℕ → List Term → Polynomial = λ d ts. record { degree = d; terms = ts } in ap₂ make
-      (same-degree H.terms f.degree h.degree (subst (Each (λ r. term_degree ds r ≡ f.degree)) e F.degrees) H.degrees (λ n. F.zero_degree (e ∙ n)) H.zero_degree)
+      (same-degree H.terms f.degree h.degree (subst (Each (λ r. term_degree ds r ≡ f.degree)) e F.degrees) H.degrees
+      (λ n. F.zero_degree (e ∙ n)) H.zero_degree)
       (polynomial-unique q ds f.degree h.degree f.terms h.terms F.polynomial H.polynomial
-      record { at = λ m. congruent_trans (F.value.at m) (congruent_trans (congruent_eq (ap (λ rs. coefficient (read_value q ds rs) m) e)) (congruent_sym (H.value.at m))) })
+      record {
+        at = λ m. congruent_trans (F.value.at m)
+            (congruent_trans (congruent_eq (ap (λ rs. coefficient (read_value q ds rs) m) e)) (congruent_sym (H.value.at m)));
+      })
     where
       e : F.terms ≡ H.terms
       e = same-terms F.sum H.sum F.terms H.terms F.stands_for H.stands_for
 
   read-low : (f : Polynomial) (d : ℕ) → IsReading q ds text f → IsTooHigh q ds text d → ⊥
-  read-low f d F H = none-first (λ e. 24 < e) d (map (term_degree ds) F.terms) (each-mapped (term_degree ds) (λ r. term_degree ds r ≡ f.degree) (λ e. 24 < e → ⊥) F.terms (λ r k l. omega (arith, k, F.small)) F.degrees)
+  read-low f d F H = none-first (λ e. 24 < e) d (map (term_degree ds) F.terms)
+      (each-mapped (term_degree ds) (λ r. term_degree ds r ≡ f.degree) (λ e. 24 < e → ⊥) F.terms (λ r k l. omega (arith, k, F.small)) F.degrees)
       (subst (λ rs. IsFirst (λ e. 24 < e) d (map (term_degree ds) rs)) (same-terms H.sum F.sum H.terms F.terms H.stands_for F.stands_for) H.first)
 
-  mixed-not : (d e c : ℕ) (rs others : List ReadTerm) (leading : ReadTerm) → leading ∷ others ≡ rs → Each (λ r. term_degree ds r ≡ c) rs → term_degree ds leading ≡ d → IsFirst (λ k. k ≢ d) e (map (term_degree ds) others) → ⊥
+  mixed-not : (d e c : ℕ) (rs others : List ReadTerm) (leading : ReadTerm) → leading ∷ others ≡ rs → Each (λ r. term_degree ds r ≡ c) rs
+      → term_degree ds leading ≡ d → IsFirst (λ k. k ≢ d) e (map (term_degree ds) others) → ⊥
   mixed-not d e c [] others leading s h k f = cc
   mixed-not d e c (r ∷ rs) others leading s h k f = none-first (λ k. k ≢ d) e (map (term_degree ds) others)
       (each-mapped (term_degree ds) (λ r. term_degree ds r ≡ c) (λ k. k ≢ d → ⊥) others (λ x j n. n (j ∙ sym (first.0) ∙ k)) first.1) f
@@ -109,18 +123,24 @@ module _ (q : ℕ) (ds text : List ℕ) (l : q ≤ 6) (g : AreDegrees ds) where
       first = subst (Each (λ r. term_degree ds r ≡ c)) (sym s) h
 
   read-alike : (f : Polynomial) (d e : ℕ) → IsReading q ds text f → IsMixed q ds text d e → ⊥
-  read-alike f d e F M = mixed-not d e f.degree F.terms M.others M.leading (same-terms M.sum F.sum (M.leading ∷ M.others) F.terms M.stands_for F.stands_for) F.degrees M.degree_is M.first
+  read-alike f d e F M = mixed-not d e f.degree F.terms M.others M.leading
+      (same-terms M.sum F.sum (M.leading ∷ M.others) F.terms M.stands_for F.stands_for) F.degrees M.degree_is M.first
 
   high-one : (d e : ℕ) → IsTooHigh q ds text d → IsTooHigh q ds text e → d ≡ e
-  high-one d e H K = first-unique (λ e. 24 < e) d e (map (term_degree ds) K.terms) (subst (λ rs. IsFirst (λ e. 24 < e) d (map (term_degree ds) rs)) (same-terms H.sum K.sum H.terms K.terms H.stands_for K.stands_for) H.first) K.first
+  high-one d e H K = first-unique (λ e. 24 < e) d e (map (term_degree ds) K.terms)
+      (subst (λ rs. IsFirst (λ e. 24 < e) d (map (term_degree ds) rs)) (same-terms H.sum K.sum H.terms K.terms H.stands_for K.stands_for)
+      H.first) K.first
 
   high-mixed : (c d e : ℕ) → IsTooHigh q ds text c → IsMixed q ds text d e → ⊥
-  high-mixed c d e H M = none-first (λ e. 24 < e) c (map (term_degree ds) (M.leading ∷ M.others)) (each-mapped (term_degree ds) (λ r. term_degree ds r ≤ 24) (λ e. 24 < e → ⊥) (M.leading ∷ M.others) (λ r k l. omega arith) M.small)
-      (subst (λ rs. IsFirst (λ e. 24 < e) c (map (term_degree ds) rs)) (same-terms H.sum M.sum H.terms (M.leading ∷ M.others) H.stands_for M.stands_for) H.first)
+  high-mixed c d e H M = none-first (λ e. 24 < e) c (map (term_degree ds) (M.leading ∷ M.others))
+      (each-mapped (term_degree ds) (λ r. term_degree ds r ≤ 24) (λ e. 24 < e → ⊥) (M.leading ∷ M.others) (λ r k l. omega arith) M.small)
+      (subst (λ rs. IsFirst (λ e. 24 < e) c (map (term_degree ds) rs))
+      (same-terms H.sum M.sum H.terms (M.leading ∷ M.others) H.stands_for M.stands_for) H.first)
 
   mixed-one : (d e c b : ℕ) → IsMixed q ds text d e → IsMixed q ds text c b → mixed d e ≡ mixed c b
   mixed-one d e c b M N = ap₂ mixed leading (first-unique (λ k. k ≢ c) e b (map (term_degree ds) N.others)
-      (subst (λ rs. IsFirst (λ k. k ≢ c) e (map (term_degree ds) rs)) (let s : M.others ≡ N.others = cc same in s) (subst (λ d. IsFirst (λ k. k ≢ d) e (map (term_degree ds) M.others)) leading M.first)) N.first)
+      (subst (λ rs. IsFirst (λ k. k ≢ c) e (map (term_degree ds) rs)) (let s : M.others ≡ N.others = cc same in s)
+      (subst (λ d. IsFirst (λ k. k ≢ d) e (map (term_degree ds) M.others)) leading M.first)) N.first)
     where
       same : (M.leading ∷ M.others) ≡ (N.leading ∷ N.others)
       same = same-terms M.sum N.sum (M.leading ∷ M.others) (N.leading ∷ N.others) M.stands_for N.stands_for

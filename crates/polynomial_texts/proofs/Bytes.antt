@@ -16,7 +16,8 @@ pub each-map : {X : Type 0} (P Q : X → Type 0) (xs : List X) → ((x : X) → 
 each-map P Q [] f h = tt
 each-map P Q (x ∷ xs) f h = (f x h.0, each-map P Q xs f h.1)
 
-pub each-mapped : {X Y : Type 0} (g : X → Y) (P : X → Type 0) (Q : Y → Type 0) (xs : List X) → ((x : X) → P x → Q (g x)) → Each P xs → Each Q (map g xs)
+pub each-mapped : {X Y : Type 0} (g : X → Y) (P : X → Type 0) (Q : Y → Type 0) (xs : List X) → ((x : X) → P x → Q (g x)) → Each P xs
+    → Each Q (map g xs)
 each-mapped g P Q [] f h = tt
 each-mapped g P Q (x ∷ xs) f h = (f x h.0, each-mapped g P Q xs f h.1)
 
@@ -84,7 +85,8 @@ exponent-small e l = omega arith
 
 -- the bytes of a factor are those of names, and ^
 pub factor-without : (s : ℕ) (f : NamedFactor) → is_name_byte s ≡ false → is_digit s ≡ false → caret ≢ s → IsFactor f → Without s (factor_text f)
-factor-without s f n d c h = each-append (λ b. b ≢ s) f.name (exponent_text f.exponent) (name-bytes-without s f.name n (name-bytes f.name h.name)) (exponent f.exponent h.exponent)
+factor-without s f n d c h = each-append (λ b. b ≢ s) f.name (exponent_text f.exponent)
+    (name-bytes-without s f.name n (name-bytes f.name h.name)) (exponent f.exponent h.exponent)
   where
     exponent : (e : Option ℕ) → Rattle.std.specs.Prelude.IfSome e (λ e. (1 ≤ e) × (e ≤ 24)) → Without s (exponent_text e)
     exponent None k = tt
@@ -101,7 +103,8 @@ numeral-without s q t l d h = go t.numeral h.numeral
 abbrev pub term_pieces : NamedTerm → List (List ℕ)
 term_pieces t = numeral_pieces t.numeral ++ map factor_text t.factors
 
-pub pieces-without : (s q : ℕ) (t : NamedTerm) → q ≤ 6 → is_name_byte s ≡ false → is_digit s ≡ false → caret ≢ s → IsTerm q t → Each (Without s) (term_pieces t)
+pub pieces-without : (s q : ℕ) (t : NamedTerm) → q ≤ 6 → is_name_byte s ≡ false → is_digit s ≡ false → caret ≢ s → IsTerm q t
+    → Each (Without s) (term_pieces t)
 pieces-without s q t l n d c h = each-append (Without s) (numeral_pieces t.numeral) (map factor_text t.factors) (numeral-without s q t l d h)
     (each-mapped factor_text IsFactor (Without s) t.factors (λ f k. factor-without s f n d c k) h.each)
 

@@ -35,7 +35,8 @@ name-formed ds i h = (
   (
     refl,
     each-append (λ c. is_name_byte c ≡ true) (decimal (get_or ds i 0) ++ codes "_") (decimal (ordinal ds i))
-        (each-append (λ c. is_name_byte c ≡ true) (decimal (get_or ds i 0)) (codes "_") (digits-name-bytes (decimal (get_or ds i 0)) (decimal-digits (get_or ds i 0) (degree-fits ds i h))) (refl, tt))
+        (each-append (λ c. is_name_byte c ≡ true) (decimal (get_or ds i 0)) (codes "_")
+        (digits-name-bytes (decimal (get_or ds i 0)) (decimal-digits (get_or ds i 0) (degree-fits ds i h))) (refl, tt))
         (digits-name-bytes (decimal (ordinal ds i)) (decimal-digits (ordinal ds i) (ordinal-fits ds i h))),
   ),
 )
@@ -48,17 +49,24 @@ count-cons : (d x : ℕ) (ds : List ℕ) → count_by (λ e. eqb e d) (x ∷ ds)
 count-cons d x ds = sum_by-cons (λ e. cond (eqb e d) 1 0) x ds
 
 -- the generators of a degree are counted
-count-less : (d : ℕ) (ds : List ℕ) (i j : ℕ) → i < j → i < length ds → get_or ds i 0 ≡ d → count_by (λ e. eqb e d) (take i ds) < count_by (λ e. eqb e d) (take j ds)
+count-less : (d : ℕ) (ds : List ℕ) (i j : ℕ) → i < j → i < length ds → get_or ds i 0 ≡ d
+    → count_by (λ e. eqb e d) (take i ds) < count_by (λ e. eqb e d) (take j ds)
 count-less d [] i j l w e = absurd (omega arith)
 count-less d (x ∷ ds) i zero l w e = absurd (omega arith)
 count-less d (x ∷ ds) zero (suc j) l w e =
-    let h : 0 < count_by (λ e. eqb e d) (x ∷ take j ds) = omega (arith, count-cons d x (take j ds), positive (eqb x d) (count_by (λ e. eqb e d) (take j ds)) (ap (λ x. eqb x d) e ∙ eqb-self d)) in h
+    let h : 0 < count_by (λ e. eqb e d) (x ∷ take j ds) = omega
+    (arith, count-cons d x (take j ds), positive (eqb x d) (count_by (λ e. eqb e d) (take j ds)) (ap (λ x. eqb x d) e ∙ eqb-self d)) in h
 count-less d (x ∷ ds) (suc i) (suc j) l w e =
     let h : count_by (λ e. eqb e d) (x ∷ take i ds) < count_by (λ e. eqb e d) (x ∷ take j ds) =
     omega (arith, count-cons d x (take i ds), count-cons d x (take j ds), count-less d ds i j (omega arith) (omega (arith, w)) e) in h
 
 ordinal-apart : (ds : List ℕ) (i j : ℕ) → i < j → i < length ds → get_or ds i 0 ≡ get_or ds j 0 → ordinal ds i ≡ ordinal ds j → ⊥
-ordinal-apart ds i j l w e k = omega (arith, count-less (get_or ds j 0) ds i j l w e, (let h : ordinal ds i ≡ 1 + count_by (λ x. eqb x (get_or ds j 0)) (take i ds) = ap (λ d. 1 + count_by (λ x. eqb x d) (take i ds)) e in h), k)
+ordinal-apart ds i j l w e k = omega (
+  arith,
+  count-less (get_or ds j 0) ds i j l w e,
+  (let h : ordinal ds i ≡ 1 + count_by (λ x. eqb x (get_or ds j 0)) (take i ds) = ap (λ d. 1 + count_by (λ x. eqb x d) (take i ds)) e in h),
+  k,
+)
 
 name-joined : (ds : List ℕ) (i : ℕ) → joined_by 95 ((120 ∷ []) ∷ decimal (get_or ds i 0) ∷ decimal (ordinal ds i) ∷ []) ≡ name ds i
 name-joined ds i = ap (λ bs. 120 ∷ 95 ∷ bs) (sym (append_assoc (decimal (get_or ds i 0)) (95 ∷ []) (decimal (ordinal ds i))))
@@ -75,13 +83,20 @@ pieces-plain ds i h = (
 -- no two generators have one name
 pub name-unique : (ds : List ℕ) (i j : ℕ) → AreDegrees ds → i < length ds → j < length ds → name ds i ≡ name ds j → i ≡ j
 name-unique ds i j h l k e = go (cases_order i j)
-    (joined-unique 95 ((120 ∷ []) ∷ decimal (get_or ds i 0) ∷ decimal (ordinal ds i) ∷ []) ((120 ∷ []) ∷ decimal (get_or ds j 0) ∷ decimal (ordinal ds j) ∷ []) (λ e. cc) (λ e. cc)
+    (joined-unique 95 ((120 ∷ []) ∷ decimal (get_or ds i 0) ∷ decimal (ordinal ds i) ∷ [])
+    ((120 ∷ []) ∷ decimal (get_or ds j 0) ∷ decimal (ordinal ds j) ∷ []) (λ e. cc) (λ e. cc)
     (pieces-plain ds i h) (pieces-plain ds j h) (name-joined ds i ∙ e ∙ sym (name-joined ds j)))
   where
-    go : (i ≡ j) ⊎ ((i < j) ⊎ (j < i)) → ((120 ∷ []) ∷ decimal (get_or ds i 0) ∷ decimal (ordinal ds i) ∷ []) ≡ ((120 ∷ []) ∷ decimal (get_or ds j 0) ∷ decimal (ordinal ds j) ∷ []) → i ≡ j
+    go : (i ≡ j) ⊎ ((i < j) ⊎ (j < i))
+        → ((120 ∷ []) ∷ decimal (get_or ds i 0) ∷ decimal (ordinal ds i) ∷ []) ≡ ((120 ∷ []) ∷ decimal (get_or ds j 0) ∷ decimal
+        (ordinal ds j) ∷ []) → i ≡ j
     go o p = let d : get_or ds i 0 ≡ get_or ds j 0 = decimal_injective (get_or ds i 0) (get_or ds j 0) (degree-fits ds i h) (degree-fits ds j h) cc in
         let n : ordinal ds i ≡ ordinal ds j = decimal_injective (ordinal ds i) (ordinal ds j) (ordinal-fits ds i h) (ordinal-fits ds j h) cc in
-        elim o [ inl s ↦ s | inr a ↦ elim a [ inl l' ↦ absurd (ordinal-apart ds i j l' l d n) | inr l' ↦ absurd (ordinal-apart ds j i l' k (sym d) (sym n)) ] ]
+        elim o [
+          | inl s ↦ s
+          | inr a ↦ elim a
+              [ inl l' ↦ absurd (ordinal-apart ds i j l' l d n) | inr l' ↦ absurd (ordinal-apart ds j i l' k (sym d) (sym n)) ]
+        ]
 
 factors-named : (ds : List ℕ) (fs : List NamedFactor) (xs ys : List Factor) → AreDegrees ds → NamesEach ds fs xs → NamesEach ds fs ys → xs ≡ ys
 factors-named ds [] [] [] h a b = refl

@@ -78,13 +78,15 @@ term-unique q t r l h k e = go t.numeral r.numeral t.factors r.factors h.numeral
         (pieces-without star q t l refl refl (λ e. cc) h) (pieces-without star q r l refl refl (λ e. cc) k) e
 
     go : (m n : Option ℕ) (fs gs : List NamedFactor) → IsNumeral q m → IsNumeral q n → Each IsFactor fs → Each IsFactor gs
-        → numeral_pieces m ++ map factor_text fs ≡ numeral_pieces n ++ map factor_text gs → ◌≡◌ {A = NamedTerm} (record { numeral = m; factors = fs }) (record { numeral = n; factors = gs })
+        → numeral_pieces m ++ map factor_text fs ≡ numeral_pieces n ++ map factor_text gs
+        → ◌≡◌ {A = NamedTerm} (record { numeral = m; factors = fs }) (record { numeral = n; factors = gs })
     go None None fs gs a b h k e = ap (λ fs. record { numeral = None; factors = fs }) (factors-unique fs gs h k e)
     go None (Some c) [] gs a b h k e = cc
     go None (Some c) (f ∷ fs) gs a b h k e = absurd (factor-no-digits f (decimal c) h.0 (decimal-digits c (numeral-small q c l b.1)) cc)
     go (Some c) None fs [] a b h k e = cc
     go (Some c) None fs (g ∷ gs) a b h k e = absurd (factor-no-digits g (decimal c) k.0 (decimal-digits c (numeral-small q c l a.1)) cc)
-    go (Some c) (Some d) fs gs a b h k e = ap₂ (λ c fs. record { numeral = Some c; factors = fs }) (decimal_injective c d (numeral-small q c l a.1) (numeral-small q d l b.1) cc) (factors-unique fs gs h k cc)
+    go (Some c) (Some d) fs gs a b h k e = ap₂ (λ c fs. record { numeral = Some c; factors = fs })
+        (decimal_injective c d (numeral-small q c l a.1) (numeral-small q d l b.1) cc) (factors-unique fs gs h k cc)
 
 terms-unique : (q : ℕ) (ts rs : List NamedTerm) → q ≤ 6 → Each (IsTerm q) ts → Each (IsTerm q) rs → map term_bytes ts ≡ map term_bytes rs → ts ≡ rs
 terms-unique q [] [] l h k e = refl
@@ -97,13 +99,16 @@ mapped-some f [] n = absurd (n refl)
 mapped-some f (x ∷ xs) n = λ e. cc
 
 -- the pieces between the plus signs of a sum
-pub sum-pieces : (q : ℕ) (ts : List NamedTerm) (ps : List (List ℕ)) → q ≤ 6 → IsSum q (terms ts) → ps ≢ [] → Each (Without plus_sign) ps → joined_by plus_sign (map term_bytes ts) ≡ joined_by plus_sign ps → map term_bytes ts ≡ ps
-sum-pieces q ts ps l h n w e = joined-unique plus_sign (map term_bytes ts) ps (mapped-some term_bytes ts h.0) n (each-mapped term_bytes (IsTerm q) (Without plus_sign) ts (λ t k. term-without q t l k) h.1) w e
+pub sum-pieces : (q : ℕ) (ts : List NamedTerm) (ps : List (List ℕ)) → q ≤ 6 → IsSum q (terms ts) → ps ≢ [] → Each (Without plus_sign) ps
+    → joined_by plus_sign (map term_bytes ts) ≡ joined_by plus_sign ps → map term_bytes ts ≡ ps
+sum-pieces q ts ps l h n w e = joined-unique plus_sign (map term_bytes ts) ps (mapped-some term_bytes ts h.0) n
+    (each-mapped term_bytes (IsTerm q) (Without plus_sign) ts (λ t k. term-without q t l k) h.1) w e
 
 -- a numeral is no term
 term-no-numeral : (q : ℕ) (t : NamedTerm) (d : ℕ) → q ≤ 6 → is_digit d ≡ true → IsTerm q t → term_bytes t ≡ d ∷ [] → ⊥
 term-no-numeral q t d l n h e = go t.numeral t.factors h.some h.each
-    (joined-unique star (term_pieces t) ((d ∷ []) ∷ []) (λ z. none t.numeral t.factors h.some z) (λ e. cc) (pieces-without star q t l refl refl (λ e. cc) h) (digits-without star (d ∷ []) refl (n, tt), tt) e)
+    (joined-unique star (term_pieces t) ((d ∷ []) ∷ []) (λ z. none t.numeral t.factors h.some z) (λ e. cc)
+    (pieces-without star q t l refl refl (λ e. cc) h) (digits-without star (d ∷ []) refl (n, tt), tt) e)
   where
     none : (n : Option ℕ) (fs : List NamedFactor) → fs ≢ [] → numeral_pieces n ++ map factor_text fs ≢ []
     none None [] n = absurd (n refl)
@@ -132,7 +137,8 @@ bytes-unique q one_text (terms rs) l h k e = absurd (terms-no-numeral q rs 49 l 
 bytes-unique q (terms ts) zero_text l h k e = absurd (terms-no-numeral q ts 48 l refl h e)
 bytes-unique q (terms ts) one_text l h k e = absurd (terms-no-numeral q ts 49 l refl h e)
 bytes-unique q (terms ts) (terms rs) l h k e = ap terms (terms-unique q ts rs l h.1 k.1
-    (sum-pieces q ts (map term_bytes rs) l h (mapped-some term_bytes rs k.0) (each-mapped term_bytes (IsTerm q) (Without plus_sign) rs (λ t j. term-without q t l j) k.1) e))
+    (sum-pieces q ts (map term_bytes rs) l h (mapped-some term_bytes rs k.0)
+    (each-mapped term_bytes (IsTerm q) (Without plus_sign) rs (λ t j. term-without q t l j) k.1) e))
 
 pub sum-unique : (q : ℕ) (s r : Sum) (text : List ℕ) → q ≤ 6 → IsTextOf q s text → IsTextOf q r text → s ≡ r
 sum-unique q s r text l h k = bytes-unique q s r l h.formed k.formed (h.text_is ∙ sym k.text_is)

@@ -38,7 +38,8 @@ power-is ds i e = ap (cond (eqb e 1) (name ds i)) (sym (append_assoc (name ds i)
 factors-written : (ds : List ℕ) (i : ℕ) (m : List ℕ) → map factor_text (named_factors ds i m) ≡ factor_texts ds i m
 factors-written ds i [] = refl
 factors-written ds i (zero ∷ m) = factors-written ds (suc i) m
-factors-written ds i (suc e ∷ m) = ap₂ (λ (p : List ℕ) ps. p ∷ ps) (power-written (name ds i) (suc e) (eqb (suc e) 1) ∙ power-is ds i (suc e)) (factors-written ds (suc i) m)
+factors-written ds i (suc e ∷ m) = ap₂ (λ (p : List ℕ) ps. p ∷ ps)
+    (power-written (name ds i) (suc e) (eqb (suc e) 1) ∙ power-is ds i (suc e)) (factors-written ds (suc i) m)
 
 pieces-written : (c : ℕ) (ps : List (List ℕ)) → ps ≢ [] → joined_by star (numeral_pieces (unless_one c) ++ ps) ≡ pieces_text c ps
 pieces-written c [] n = absurd (n refl)
@@ -66,11 +67,13 @@ term-written : (q : ℕ) (ds : List ℕ) (d : ℕ) (t : Term) → 1 ≤ d → Is
 term-written q ds d t l h = ap (λ ps. joined_by star (numeral_pieces (unless_one t.scalar) ++ ps)) (factors-written ds 0 t.monomial)
     ∙ pieces-written t.scalar (factor_texts ds 0 t.monomial) (some-factor ds 0 t.monomial h.trimmed (not-unit q ds d t.monomial l h))
 
-terms-written : (q : ℕ) (ds : List ℕ) (d : ℕ) (f : List Term) → 1 ≤ d → IsOver q ds d f → map term_bytes (map (named_term ds) f) ≡ map (term_text ds) f
+terms-written : (q : ℕ) (ds : List ℕ) (d : ℕ) (f : List Term) → 1 ≤ d → IsOver q ds d f
+    → map term_bytes (map (named_term ds) f) ≡ map (term_text ds) f
 terms-written q ds d [] l h = refl
 terms-written q ds d (t ∷ f) l h = ap₂ (λ (p : List ℕ) ps. p ∷ ps) (term-written q ds d t l h.0) (terms-written q ds d f l h.1)
 
-text-written : (q : ℕ) (ds : List ℕ) (d : ℕ) (f : List Term) → 1 ≤ d → f ≢ [] → IsOver q ds d f → joined_by plus_sign (map term_bytes (map (named_term ds) f)) ≡ polynomial_text ds f
+text-written : (q : ℕ) (ds : List ℕ) (d : ℕ) (f : List Term) → 1 ≤ d → f ≢ [] → IsOver q ds d f
+    → joined_by plus_sign (map term_bytes (map (named_term ds) f)) ≡ polynomial_text ds f
 text-written q ds d [] l n h = absurd (n refl)
 text-written q ds d (t ∷ f) l n h = ap (joined_by plus_sign) (terms-written q ds d (t ∷ f) l h)
 
@@ -94,20 +97,23 @@ unless-one-below q e false a b = (a, b)
 factors-formed : (ds : List ℕ) (i : ℕ) (m : List ℕ) → AreDegrees ds → Each (λ e. e ≤ 24) m → Each IsFactor (named_factors ds i m)
 factors-formed ds i [] g h = tt
 factors-formed ds i (zero ∷ m) g h = factors-formed ds (suc i) m g h.1
-factors-formed ds i (suc e ∷ m) g h = (record { name = name-formed ds i g; exponent = unless-one-small (suc e) (eqb (suc e) 1) (omega arith) h.0 }, factors-formed ds (suc i) m g h.1)
+factors-formed ds i (suc e ∷ m) g h =
+    (record { name = name-formed ds i g; exponent = unless-one-small (suc e) (eqb (suc e) 1) (omega arith) h.0 }, factors-formed ds (suc i) m g h.1)
 
 -- a factor is written for each that has a text
 named-some : (ds : List ℕ) (i : ℕ) (m : List ℕ) → factor_texts ds i m ≢ [] → named_factors ds i m ≢ []
 named-some ds i m n e = n (sym (factors-written ds i m) ∙ ap (map factor_text) e)
 
-term-formed : (q : ℕ) (ds : List ℕ) (d : ℕ) (t : Term) → AreDegrees ds → 1 ≤ d → d ≤ 24 → (0 < t.scalar) × (t.scalar ≤ q) → IsMonomial q ds d t.monomial → IsTerm q (named_term ds t)
+term-formed : (q : ℕ) (ds : List ℕ) (d : ℕ) (t : Term) → AreDegrees ds → 1 ≤ d → d ≤ 24 → (0 < t.scalar) × (t.scalar ≤ q)
+    → IsMonomial q ds d t.monomial → IsTerm q (named_term ds t)
 term-formed q ds d t g l k c h = record {
   numeral = unless-one-below q t.scalar (eqb t.scalar 1) (omega (arith, c.0)) c.1;
   some = named-some ds 0 t.monomial (some-factor ds 0 t.monomial h.trimmed (not-unit q ds d t.monomial l h));
   each = factors-formed ds 0 t.monomial g (exponents-small ds t.monomial (degrees-each ds g) h.within (omega (arith, h.degree_is)));
 }
 
-terms-formed : (q : ℕ) (ds : List ℕ) (d : ℕ) (f : List Term) → AreDegrees ds → 1 ≤ d → d ≤ 24 → Each (λ t. (0 < t.scalar) × (t.scalar ≤ q)) f → IsOver q ds d f → Each (IsTerm q) (map (named_term ds) f)
+terms-formed : (q : ℕ) (ds : List ℕ) (d : ℕ) (f : List Term) → AreDegrees ds → 1 ≤ d → d ≤ 24
+    → Each (λ t. (0 < t.scalar) × (t.scalar ≤ q)) f → IsOver q ds d f → Each (IsTerm q) (map (named_term ds) f)
 terms-formed q ds d [] g l k c h = tt
 terms-formed q ds d (t ∷ f) g l k c h = (term-formed q ds d t g l k c.0 h.0, terms-formed q ds d f g l k c.1 h.1)
 
@@ -124,7 +130,10 @@ number-unless e = go (cases_eqb e)
 factors-named : (ds : List ℕ) (i : ℕ) (m : List ℕ) → i + length m ≤ length ds → NamesEach ds (named_factors ds i m) (factors_of i m)
 factors-named ds i [] l = tt
 factors-named ds i (zero ∷ m) l = factors-named ds (suc i) m (omega (arith, l))
-factors-named ds i (suc e ∷ m) l = (record { within = omega (arith, l); name_is = refl; exponent_is = number-unless (suc e) }, factors-named ds (suc i) m (omega (arith, l)))
+factors-named ds i (suc e ∷ m) l = (
+  record { within = omega (arith, l); name_is = refl; exponent_is = number-unless (suc e) },
+  factors-named ds (suc i) m (omega (arith, l)),
+)
 
 within-length : (ds m : List ℕ) → IsWithin ds m → length m ≤ length ds
 within-length ds [] w = omega arith
@@ -133,17 +142,29 @@ within-length (d ∷ ds) (x ∷ m) w = omega (arith, within-length ds m w)
 
 terms-named : (q : ℕ) (ds : List ℕ) (d : ℕ) (f : List Term) → IsOver q ds d f → NamesTerms ds (map (named_term ds) f) (written f)
 terms-named q ds d [] h = tt
-terms-named q ds d (t ∷ f) h = (record { numeral_is = number-unless t.scalar; factors = factors-named ds 0 t.monomial (omega (arith, within-length ds t.monomial h.0.within)) }, terms-named q ds d f h.1)
+terms-named q ds d (t ∷ f) h = (
+  record {
+    numeral_is = number-unless t.scalar;
+    factors = factors-named ds 0 t.monomial (omega (arith, within-length ds t.monomial h.0.within));
+  },
+  terms-named q ds d f h.1,
+)
 
 -- the degree from generator i on
 degree-from : (ds : List ℕ) (i : ℕ) (m : List ℕ) → i + length m ≤ length ds → factors_degree ds (factors_of i m) ≡ degree (drop i ds) m
 degree-from ds i [] l = sym (no-degree (drop i ds))
-degree-from ds i (zero ∷ m) l = degree-from ds (suc i) m (omega (arith, l)) ∙ omega arith ∙ sym (ap (λ es. degree es (zero ∷ m)) (drop-cons ds i 0 (omega (arith, l))))
-degree-from ds i (suc e ∷ m) l = ap (λ n. get_or ds i 0 * suc e + n) (degree-from ds (suc i) m (omega (arith, l))) ∙ sym (ap (λ es. degree es (suc e ∷ m)) (drop-cons ds i 0 (omega (arith, l))))
+degree-from ds i (zero ∷ m) l = degree-from ds (suc i) m (omega (arith, l)) ∙ omega arith
+    ∙ sym (ap (λ es. degree es (zero ∷ m)) (drop-cons ds i 0 (omega (arith, l))))
+degree-from ds i (suc e ∷ m) l = ap (λ n. get_or ds i 0 * suc e + n) (degree-from ds (suc i) m (omega (arith, l)))
+    ∙ sym (ap (λ es. degree es (suc e ∷ m)) (drop-cons ds i 0 (omega (arith, l))))
 
 degrees-written : (q : ℕ) (ds : List ℕ) (d : ℕ) (f : List Term) → IsOver q ds d f → Each (λ r. term_degree ds r ≡ d) (written f)
 degrees-written q ds d [] h = tt
-degrees-written q ds d (t ∷ f) h = (degree-from ds 0 t.monomial (omega (arith, within-length ds t.monomial h.0.within)) ∙ h.0.degree_is, degrees-written q ds d f h.1)
+degrees-written q ds d (t ∷ f) h = (
+  degree-from ds 0 t.monomial (omega (arith, within-length ds t.monomial h.0.within))
+      ∙ h.0.degree_is,
+  degrees-written q ds d f h.1,
+)
 
 mapped-some : (ds : List ℕ) (f : List Term) → f ≢ [] → map (named_term ds) f ≢ []
 mapped-some ds [] n = absurd (n refl)
@@ -153,7 +174,8 @@ written-some : (f : List Term) → f ≢ [] → written f ≢ []
 written-some [] n = absurd (n refl)
 written-some (t ∷ f) n = λ e. cc
 
-pub text-reads-back : (q : ℕ) (ds : List ℕ) (f : Polynomial) → AreDegrees ds → f.terms ≢ [] → 1 ≤ f.degree → f.degree ≤ 24 → IsPolynomial q ds f.degree f.terms → IsReading q ds (polynomial_text ds f.terms) f
+pub text-reads-back : (q : ℕ) (ds : List ℕ) (f : Polynomial) → AreDegrees ds → f.terms ≢ [] → 1 ≤ f.degree → f.degree ≤ 24
+    → IsPolynomial q ds f.degree f.terms → IsReading q ds (polynomial_text ds f.terms) f
 text-reads-back q ds f g n l k h = record {
   sum = terms (map (named_term ds) f.terms);
   terms = written f.terms;

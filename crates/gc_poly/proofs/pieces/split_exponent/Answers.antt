@@ -4,7 +4,8 @@ use Rattle.gc_poly.proofs.Cutting.{cut-some, cut-none}
 use Rattle.gc_poly.proofs.pieces.split_exponent.Goals as goal
 
 pub returns-in-Some-clause-name : goal.returns-in-Some-clause-name
-returns-in-Some-clause-name c f h k = (cut-some f c.args.piece.now c.in-Some.name.now c.in-Some.digits.now h k c.in-Some.ensures.0 c.in-Some.ensures.1).name_is
+returns-in-Some-clause-name c f h k =
+    (cut-some f c.args.piece.now c.in-Some.name.now c.in-Some.digits.now h k c.in-Some.ensures.0 c.in-Some.ensures.1).name_is
 
 pub returns-in-Some-clause-exponent : goal.returns-in-Some-clause-exponent
 returns-in-Some-clause-exponent c f h k =

@@ -8,5 +8,6 @@ use Rattle.gc_poly.proofs.reader.read_factors.Given as goal
 abbrev pub invariant-loop-piece : goal.invariant-loop-piece
 invariant-loop-piece l = record {
   place : l.at ≡ l.column + spans (take l.piece-index (map (λ p. p.now) l.pieces));
-  named : (fs : List NamedFactor) → Each IsFactor fs → map factor_text fs ≡ map (λ p. p.now) l.pieces → NamesEach l.gens.degrees (take l.piece-index fs) l.factors.items;
+  named : (fs : List NamedFactor) → Each IsFactor fs → map factor_text fs ≡ map (λ p. p.now) l.pieces
+      → NamesEach l.gens.degrees (take l.piece-index fs) l.factors.items;
 }

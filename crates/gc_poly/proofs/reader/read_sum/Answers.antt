@@ -19,7 +19,8 @@ pub returns-then-eq-2 : goal.returns-then-eq-2
 returns-then-eq-2 c s h =
     one-named (greatest c.args.gens.now) c.args.gens.now.degrees s c.args.text.now c.push.new.self.items (omega (arith, c.requires.prime))
     (same_text c.args.text.now c.as_slice-2.result.now (sym c.if-eq-2.true ∙ c.eq-2.ensures) ∙ c.as_slice-2.ensures)
-    (c.in_ok-push.ensures.items ∙ ap (λ ts. ts ++ c.new-then-eq-2.result ∷ []) c.new-terms.ensures.items ∙ ap (λ (t : ReadTerm). t ∷ []) c.new-then-eq-2.ensures
+    (c.in_ok-push.ensures.items ∙ ap (λ ts. ts ++ c.new-then-eq-2.result ∷ []) c.new-terms.ensures.items
+    ∙ ap (λ (t : ReadTerm). t ∷ []) c.new-then-eq-2.ensures
     ∙ (let make : _ → ReadTerm = λ xs. record { numeral = 1; factors = xs } in ap (λ xs. make xs ∷ []) c.new.ensures.items)) h
 
 pub read_terms-requires-clause-small : goal.read_terms-requires-clause-small
@@ -30,7 +31,8 @@ read_terms-requires-clause-small c =
 
 pub returns : goal.returns
 returns c s h =
-    sum-cases (λ s. MatchResult c.read_terms.result (λ v. NamesSum c.args.gens.now.degrees s v.items) (IsUnknownAt c.args.gens.now.degrees (placed_names s)))
+    sum-cases (λ s. MatchResult c.read_terms.result (λ v. NamesSum c.args.gens.now.degrees s v.items)
+    (IsUnknownAt c.args.gens.now.degrees (placed_names s)))
     (greatest c.args.gens.now) s c.args.text.now (bytes_of c.deref-2.result.now) (omega (arith, c.requires.prime))
     (λ e. other_text c.args.text.now c.as_slice.result.now (sym c.if-eq.false ∙ c.eq.ensures) (e ∙ sym c.as_slice.ensures))
     (λ e. other_text c.args.text.now c.as_slice-2.result.now (sym c.if-eq-2.false ∙ c.eq-2.ensures) (e ∙ sym c.as_slice-2.ensures))

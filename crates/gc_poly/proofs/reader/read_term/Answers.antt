@@ -9,7 +9,8 @@ use Rattle.gc_poly.proofs.reader.read_term.Goals as goal
 pub read_factors-requires-clause-small : goal.read_factors-requires-clause-small
 read_factors-requires-clause-small c =
     let s : spans (bytes_of c.deref.result.now) ≡ length c.split_numeral-numeral.result.1.now + 1 =
-    ap (λ ps. spans (bytes_of ps)) c.deref.ensures.value ∙ ap spans c.in_ok-pieces.ensures ∙ spans-split (λ b. eqb b 42) c.split_numeral-numeral.result.1.now in
+    ap (λ ps. spans (bytes_of ps)) c.deref.ensures.value ∙ ap spans c.in_ok-pieces.ensures
+    ∙ spans-split (λ b. eqb b 42) c.split_numeral-numeral.result.1.now in
     omega (arith, s, c.split_numeral-numeral.ensures.len, c.requires.small)
 
 pub returns-in_err-factors : goal.returns-in_err-factors
@@ -20,7 +21,9 @@ returns-in_err-factors c t h k =
     let r = c.split_numeral-numeral.ensures.factors q t m h k in
     rw (p.1, p.2) (subst (λ n. IsUnknownAt c.args.gens.now.degrees (factor_names (c.args.column + n) t.factors) c.in_err-factors.field-0.0)
     (numeral-room t c.args.piece.now c.split_numeral-numeral.result.1.now h.some k r)
-    (c.in_err-factors.ensures t.factors h.each (term-split q t c.split_numeral-numeral.result.1.now (bytes_of c.deref.result.now) h r (ap bytes_of c.deref.ensures.value ∙ c.in_ok-pieces.ensures))))
+    (c.in_err-factors.ensures t.factors h.each
+    (term-split q t c.split_numeral-numeral.result.1.now (bytes_of c.deref.result.now) h r
+    (ap bytes_of c.deref.ensures.value ∙ c.in_ok-pieces.ensures))))
 
 pub returns : goal.returns
 returns c t h k =
@@ -29,5 +32,7 @@ returns c t h k =
     let r = c.split_numeral-numeral.ensures.factors q t m h k in
     rw c.new.ensures record {
       numeral_is = c.split_numeral-numeral.ensures.numeral q t m h k;
-      factors = c.in_ok-factors.ensures t.factors h.each (term-split q t c.split_numeral-numeral.result.1.now (bytes_of c.deref.result.now) h r (ap bytes_of c.deref.ensures.value ∙ c.in_ok-pieces.ensures));
+      factors = c.in_ok-factors.ensures t.factors h.each
+          (term-split q t c.split_numeral-numeral.result.1.now (bytes_of c.deref.result.now) h r
+          (ap bytes_of c.deref.ensures.value ∙ c.in_ok-pieces.ensures));
     }

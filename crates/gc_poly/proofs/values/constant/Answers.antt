@@ -10,4 +10,5 @@ add_term-requires-clause-monomial c =
     (unit-monomial c.args.gens.now c.in_ok-of.field-0 c.in_ok-of.ensures.trimmed c.in_ok-of.ensures.exponents)
 
 pub returns : goal.returns
-returns c = unit-sum c.args.gens.now c.args.c c.in_ok-of.field-0 c.zero-out.result c.add_term.new.self c.in_ok-of.ensures.trimmed c.in_ok-of.ensures.exponents c.zero-out.ensures c.in_ok-add_term.ensures.ok
+returns c = unit-sum c.args.gens.now c.args.c c.in_ok-of.field-0 c.zero-out.result c.add_term.new.self c.in_ok-of.ensures.trimmed
+    c.in_ok-of.ensures.exponents c.zero-out.ensures c.in_ok-add_term.ensures.ok
