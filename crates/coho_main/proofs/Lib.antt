@@ -8,6 +8,9 @@ pub mod OneTable
 pub mod Sizes
 pub mod StageRows
 pub mod OneResolution
+pub mod Ringing
 pub mod Unique
 pub mod Usage
+pub mod ParsedWords
+pub mod Commands
 pub mod Run

@@ -1,5 +1,5 @@
 -- The answers to commands, as the calls make them.
-use Rattle.std.proofs.Common.{◌≡◌, List, ℕ, Vec, String, Global, refl, ap, sym, subst, inl, inr}
+use Rattle.std.proofs.Common.{◌≡◌, List, ℕ, Vec, Global, refl, ap, sym, subst, inl, inr}
 use Rattle.std.specs.declared.option.Option.{Option}
 use Rattle.std.specs.declared.result.Result.{Result}
 use Rattle.std.specs.declared.result.Result.TheVariants.{Ok, Err}
@@ -8,24 +8,27 @@ use Rattle.power_commutator.specs.Presentations.{Presentation}
 use Rattle.coho_main.specs.declared.stop.Stop.{Stop}
 use Rattle.coho_main.specs.declared.stop.Stop.TheVariants as stop
 use Rattle.coho_main.specs.Steps.{Step, ◌>>=◌, Gives}
-use Rattle.coho_main.specs.Words.{Group, Resolve, asked, texts}
-use Rattle.coho_main.specs.Outcome.{Ask, Load, Layers, Stages, Reply, Comes, group_lines, stage_lines}
+use Rattle.coho_main.specs.Words.{Group, Resolve, Ring, asked, contents}
+use Rattle.coho_main.specs.Outcome.{Ask, Load, Layers, Stages, FitStages, Report, Reply, Comes, group_lines, stage_lines}
 use Rattle.coho_main.specs.Layers.{AreLayerSizes}
-use Rattle.coho_main.specs.Stages.{Summary, AreStagesOf}
+use Rattle.coho_main.specs.Stages.{Summary, AreStagesOf, HasFitStages}
 use Rattle.coho_main.specs.Resolving.{IsStageStop}
+use Rattle.coho_main.specs.Ringing.{IsReportOf, IsReportStop}
+use Rattle.coho_report.specs.Values.{ReportValue}
+use Rattle.coho_report.specs.Lines.{report_lines}
 use Rattle.coho_main.specs.declared.words.Command.{Command as Named}
 use Rattle.coho_main.specs.declared.cause.Cause.TheVariants as cause
-use Rattle.coho_main.specs.Refusals.{stage_refused}
+use Rattle.coho_main.specs.Refusals.{stage_refused, monomials_refused}
 use Rattle.coho_main.specs.Stops.{Meets, Settles}
 use Rattle.coho_main.specs.Run.{OfFiles}
 use Rattle.coho_main.proofs.Chain.{after_ok, at_stop, settled_meets}
 use Rattle.coho_main.proofs.Seen.{some_files}
 
 abbrev pub Lines : Type 0
-Lines = Vec (String Global) Global
+Lines = Vec (Vec ℕ Global) Global
 
 abbrev pub lines_of : Lines → List (List ℕ)
-lines_of lines = texts lines.items
+lines_of lines = contents lines.items
 
 abbrev itself : Presentation → Presentation
 itself P = P
@@ -42,6 +45,15 @@ stage_answer stages = Gives (stage_lines stages)
 abbrev pub after_load_of : ℕ → Presentation → Step (List (List ℕ))
 after_load_of n P = Stages P n >>= stage_answer
 
+abbrev pub report_answer : ReportValue → Step (List (List ℕ))
+report_answer report = Gives (report_lines report)
+
+abbrev pub after_fit : Presentation → ℕ → Unit {0} → Step (List (List ℕ))
+after_fit P n _ = Report P n >>= report_answer
+
+abbrev pub after_load_ring : ℕ → Presentation → Step (List (List ℕ))
+after_load_ring n P = FitStages P n >>= after_fit P n
+
 -- a call met its step, over files that agree
 abbrev pub MeetsOf : {T A : Type 0} → (T → A) → Step A → Option Content → Result T Stop → Type 0
 MeetsOf view step known r = OfFiles known (λ files. Meets view step files files r)
@@ -50,7 +62,7 @@ module _ (known : Option Content) where
   pub group_stop : (path : List ℕ) (s : Stop) → MeetsOf itself (Load path) known (Err s) → MeetsOf lines_of (Reply (Group path)) known (Err s)
   group_stop path s h = (h.0, h.1, at_stop itself lines_of (Load path) after_load h.0 h.0 s h.2)
 
-  pub group_then : (path : List ℕ) (P : Presentation) (dimensions : List ℕ) (lines : Lines) → MeetsOf itself (Load path) known (Ok P) → AreLayerSizes P dimensions → texts lines.items ≡ group_lines P dimensions → MeetsOf lines_of (Reply (Group path)) known (Ok lines)
+  pub group_then : (path : List ℕ) (P : Presentation) (dimensions : List ℕ) (lines : Lines) → MeetsOf itself (Load path) known (Ok P) → AreLayerSizes P dimensions → contents lines.items ≡ group_lines P dimensions → MeetsOf lines_of (Reply (Group path)) known (Ok lines)
   group_then path P dimensions lines h are e =
       (h.0, h.1, after_ok itself lines_of (Load path) after_load h.0 h.0 h.0 P (Ok lines) h.2 (inl (dimensions, h.0, (are, refl), (ap (λ ls. Ok ls) e, refl))))
 
@@ -58,7 +70,7 @@ module _ (known : Option Content) where
     pub resolve_stop : (s : Stop) → MeetsOf itself (Load path) known (Err s) → MeetsOf lines_of (Reply (Resolve path n)) known (Err s)
     resolve_stop s h = (h.0, h.1, at_stop itself lines_of (Load path) (after_load_of n) h.0 h.0 s h.2)
 
-    pub resolve_then : (P : Presentation) (stages : List Summary) (lines : Lines) → MeetsOf itself (Load path) known (Ok P) → AreStagesOf P n stages → texts lines.items ≡ stage_lines stages → MeetsOf lines_of (Reply (Resolve path n)) known (Ok lines)
+    pub resolve_then : (P : Presentation) (stages : List Summary) (lines : Lines) → MeetsOf itself (Load path) known (Ok P) → AreStagesOf P n stages → contents lines.items ≡ stage_lines stages → MeetsOf lines_of (Reply (Resolve path n)) known (Ok lines)
     resolve_then P stages lines h are e =
         (h.0, h.1, after_ok itself lines_of (Load path) (after_load_of n) h.0 h.0 h.0 P (Ok lines) h.2 (inl (stages, h.0, (are, refl), (ap (λ ls. Ok ls) e, refl))))
 
@@ -69,6 +81,7 @@ module _ (known : Option Content) where
     stage_stop P files (stop.Refused (cause.Text kind line column)) h = absurd h
     stage_stop P files (stop.Refused cause.Order) h = absurd h
     stage_stop P files (stop.Refused (cause.Inconsistent name)) h = absurd h
+    stage_stop P files (stop.Refused (cause.Monomials d X)) h = absurd h
     stage_stop P files (stop.Read path) h = absurd h
     stage_stop P files stop.Write h = absurd h
     stage_stop P files stop.Memory h = tt
@@ -76,6 +89,49 @@ module _ (known : Option Content) where
     pub resolve_refused : (P : Presentation) (s : Stop) → MeetsOf itself (Load path) known (Ok P) → IsStageStop P n s → MeetsOf lines_of (Reply (Resolve path n)) known (Err s)
     resolve_refused P s h k =
         (h.0, h.1, after_ok itself lines_of (Load path) (after_load_of n) h.0 h.0 h.0 P (Err s) h.2 (stage_stop P h.0 s k))
+
+    pub ring_stop : (s : Stop) → MeetsOf itself (Load path) known (Err s) → MeetsOf lines_of (Reply (Ring path n)) known (Err s)
+    ring_stop s h = (h.0, h.1, at_stop itself lines_of (Load path) (after_load_ring n) h.0 h.0 s h.2)
+
+    fit_stop : (P : Presentation) (files : Content) (s : Stop) → IsStageStop P n s → Meets lines_of (after_load_ring n P) files files (Err s)
+    fit_stop P files (stop.Refused (cause.Stage d X)) h = inr (stage_refused d X, ((d, X, h, refl), refl), refl)
+    fit_stop P files (stop.Refused cause.Words) h = absurd h
+    fit_stop P files (stop.Refused cause.Length) h = absurd h
+    fit_stop P files (stop.Refused (cause.Text kind line column)) h = absurd h
+    fit_stop P files (stop.Refused cause.Order) h = absurd h
+    fit_stop P files (stop.Refused (cause.Inconsistent name)) h = absurd h
+    fit_stop P files (stop.Refused (cause.Monomials d X)) h = absurd h
+    fit_stop P files (stop.Read path) h = absurd h
+    fit_stop P files stop.Write h = absurd h
+    fit_stop P files stop.Memory h = tt
+
+    pub ring_refused : (P : Presentation) (s : Stop) → MeetsOf itself (Load path) known (Ok P) → IsStageStop P n s → MeetsOf lines_of (Reply (Ring path n)) known (Err s)
+    ring_refused P s h k =
+        (h.0, h.1, after_ok itself lines_of (Load path) (after_load_ring n) h.0 h.0 h.0 P (Err s) h.2 (fit_stop P h.0 s k))
+
+    report_stop : (P : Presentation) (files : Content) (s : Stop) → HasFitStages P n → IsReportStop P n s → Meets lines_of (after_load_ring n P) files files (Err s)
+    report_stop P files (stop.Refused (cause.Monomials d X)) fit h = inl (tt, files, (fit, refl), inr (monomials_refused d X, ((d, X, h, refl), refl), refl))
+    report_stop P files (stop.Refused (cause.Stage d X)) fit h = absurd h
+    report_stop P files (stop.Refused cause.Words) fit h = absurd h
+    report_stop P files (stop.Refused cause.Length) fit h = absurd h
+    report_stop P files (stop.Refused (cause.Text kind line column)) fit h = absurd h
+    report_stop P files (stop.Refused cause.Order) fit h = absurd h
+    report_stop P files (stop.Refused (cause.Inconsistent name)) fit h = absurd h
+    report_stop P files (stop.Read path) fit h = absurd h
+    report_stop P files stop.Write fit h = absurd h
+    report_stop P files stop.Memory fit h = tt
+
+    pub ring_too_many : (P : Presentation) (s : Stop) → MeetsOf itself (Load path) known (Ok P) → HasFitStages P n → IsReportStop P n s → MeetsOf lines_of (Reply (Ring path n)) known (Err s)
+    ring_too_many P s h fit k =
+        (h.0, h.1, after_ok itself lines_of (Load path) (after_load_ring n) h.0 h.0 h.0 P (Err s) h.2 (report_stop P h.0 s fit k))
+
+    pub ring_then : (P : Presentation) (report : ReportValue) (lines : Lines) → MeetsOf itself (Load path) known (Ok P) → HasFitStages P n → IsReportOf P n report → contents lines.items ≡ report_lines report → MeetsOf lines_of (Reply (Ring path n)) known (Ok lines)
+    ring_then P report lines h fit is e = (
+      h.0,
+      h.1,
+      after_ok itself lines_of (Load path) (after_load_ring n) h.0 h.0 h.0 P (Ok lines) h.2
+          (inl (tt, h.0, (fit, refl), inl (report, h.0, (is, refl), (ap (λ ls. Ok ls) e, refl)))),
+    )
 
   -- a call that wants memory meets every step
   pub memory_meets : {T A : Type 0} (view : T → A) (step : Step A) (s : Stop) → s ≡ stop.Memory → MeetsOf view step known (Err s)

@@ -1,5 +1,5 @@
 -- What is told of a stage, from its value.
-use Rattle.std.proofs.Common.{◌≡◌, ◌⊎◌, inl, inr, refl, ℕ, zero, suc, ◌+◌, ◌*◌, ◌<◌, ◌≤◌, List, [], ◌∷◌, ◌++◌, length, take, codes, String, Global, string_bytes, flat_map, append_assoc, sym, ◌∙◌, ap, subst, arith}
+use Rattle.std.proofs.Common.{◌≡◌, ◌⊎◌, inl, inr, refl, ℕ, zero, suc, ◌+◌, ◌*◌, ◌<◌, ◌≤◌, List, [], ◌∷◌, ◌++◌, length, take, codes, String, Vec, Global, string_bytes, flat_map, append_assoc, sym, ◌∙◌, ap, subst, arith}
 use Rattle.std.specs.Prelude.{slice_index, MatchOption, unwrap_or, IfOk}
 use Rattle.std.specs.declared.option.Option.{Option}
 use Rattle.std.specs.declared.option.Option.TheVariants.{None, Some}
@@ -18,7 +18,7 @@ use Rattle.min_res.specs.Stages.{rank_of, stage_rows}
 use Rattle.min_res.specs.Refusals.{IsRefusal}
 use Rattle.coho_main.specs.Outcome.{after_space, stage_line, stage_lines}
 use Rattle.coho_main.specs.Stages.{Summary, summary, HasRows, rows_at, stage_at, stages_below, dimension, Fit, IsFirstAbove, AreStagesOf}
-use Rattle.coho_main.specs.Words.{texts}
+use Rattle.coho_main.specs.Words.{contents}
 use Rattle.power_commutator.specs.Presentations.{Presentation}
 use Rattle.coho_main.specs.declared.stop.Stop.{Stop}
 use Rattle.coho_main.specs.declared.stop.Stop.TheVariants as stop
@@ -114,24 +114,24 @@ pub line_of : {E : Type 0} (G : GroupTable) (d : ℕ) (s : StageValue) → ((h :
 line_of G d s L (Ok text) is = (summary s, λ h. same_summary G h d s (L h), is)
 line_of G d s L (Err e) is = tt
 
-texts_push : (lines : List (String Global)) (line : String Global) → texts (lines ++ line ∷ []) ≡ texts lines ++ string_bytes line ∷ []
-texts_push [] line = refl
-texts_push (l ∷ lines) line = ap (λ ls. string_bytes l ∷ ls) (texts_push lines line)
+contents_push : (lines : List (Vec ℕ Global)) (line : Vec ℕ Global) → contents (lines ++ line ∷ []) ≡ contents lines ++ line.items ∷ []
+contents_push [] line = refl
+contents_push (l ∷ lines) line = ap (λ ls. l.items ∷ ls) (contents_push lines line)
 
 lines_push : (stages : List Summary) (x : Summary) → stage_lines (stages ++ x ∷ []) ≡ stage_lines stages ++ stage_line x ∷ []
 lines_push [] x = refl
 lines_push (y ∷ stages) x = ap (λ ls. stage_line y ∷ ls) (lines_push stages x)
 
-pub no_lines : (G : GroupTable) (lines : List (String Global)) → lines ≡ [] → TellsStages G 0 (texts lines)
-no_lines G lines e = ([], λ h. refl, ap texts e)
+pub no_lines : (G : GroupTable) (lines : List (Vec ℕ Global)) → lines ≡ [] → TellsStages G 0 (contents lines)
+no_lines G lines e = ([], λ h. refl, ap contents e)
 
 -- the lines, one more
-pub lines_next : (G : GroupTable) (lines more : List (String Global)) (line : String Global) (d : ℕ) → TellsStages G d (texts lines) → TellsStage G d (string_bytes line) → more ≡ lines ++ line ∷ [] → TellsStages G (d + 1) (texts more)
-lines_next G lines more line d old is push =
+pub lines_next : (G : GroupTable) (lines more : List (Vec ℕ Global)) (line : Vec ℕ Global) (text : List ℕ) (d : ℕ) → TellsStages G d (contents lines) → TellsStage G d text → line.items ≡ text → more ≡ lines ++ line ∷ [] → TellsStages G (d + 1) (contents more)
+lines_next G lines more line text d old is same push =
     let next : suc d ≡ d + 1 = omega arith in (
       old.0 ++ is.0 ∷ [],
       λ h. ap (λ xs. xs ++ is.0 ∷ []) (old.1 h) ∙ ap (λ x. stages_below G h d ++ x ∷ []) (is.1 h) ∙ ap (λ c. stages_below G h c) next,
-      ap texts push ∙ texts_push lines line ∙ ap (λ ls. ls ++ string_bytes line ∷ []) old.2 ∙ ap (λ l. stage_lines old.0 ++ l ∷ []) is.2 ∙ sym (lines_push old.0 is.0),
+      ap contents push ∙ contents_push lines line ∙ ap (λ t. contents lines ++ t ∷ []) same ∙ ap (λ ls. ls ++ text ∷ []) old.2 ∙ ap (λ l. stage_lines old.0 ++ l ∷ []) is.2 ∙ sym (lines_push old.0 is.0),
     )
 
 -- a resolution that grows from its start

@@ -1,5 +1,5 @@
 -- The outcome is one.
-use Rattle.std.proofs.Common.{◌≡◌, Bool, true, false, List, ℕ, sym, ◌∙◌, ap, subst, inl, inr}
+use Rattle.std.proofs.Common.{◌≡◌, Bool, true, false, List, ℕ, refl, sym, ◌∙◌, ap, subst, inl, inr}
 use Rattle.std.specs.declared.option.Option.{Option}
 use Rattle.std.specs.declared.option.Option.TheVariants.{None, Some}
 use Rattle.std.specs.declared.result.Result.{Result}
@@ -10,11 +10,13 @@ use Rattle.power_commutator.specs.Presentations.{Presentation, first_fault}
 use Rattle.pc_text.specs.Faults.{Fault}
 use Rattle.pc_text.specs.Texts.{read}
 use Rattle.coho_main.specs.Steps.{Refusal, Step, ◌>>=◌, Gives, Refuses, OrRefuse, RefuseIf}
-use Rattle.coho_main.specs.Words.{Command, Group, Resolve, command}
-use Rattle.coho_main.specs.Outcome.{Ask, ReadFront, FitLength, OrFault, Present, FitOrder, UnlessFalse, Describe, Load, Layers, Stages, Reply, Comes, group_lines, stage_lines, Ending, ending, Outcome}
-use Rattle.coho_main.proofs.Replies.{after_load, group_answer, after_load_of, stage_answer}
+use Rattle.coho_main.specs.Words.{Command, Group, Resolve, Ring, command}
+use Rattle.coho_main.specs.Outcome.{Ask, ReadFront, FitLength, OrFault, Present, FitOrder, UnlessFalse, Describe, Load, Layers, Stages, FitStages, Report, Reply, Comes, group_lines, stage_lines, Ending, ending, Outcome}
+use Rattle.coho_main.proofs.Replies.{after_load, group_answer, after_load_of, stage_answer, after_load_ring, after_fit, report_answer}
+use Rattle.coho_main.proofs.Ringing.{same_report, report_or_none, same_degree, fit_or_above}
+use Rattle.coho_report.specs.Lines.{report_lines}
 use Rattle.coho_main.proofs.OneTable.{one_sizes}
-use Rattle.coho_main.specs.Refusals.{stage_refused}
+use Rattle.coho_main.specs.Refusals.{stage_refused, monomials_refused}
 use Rattle.coho_main.proofs.OneResolution.{one_list, one_above, not_both}
 
 -- no two ends of a step from the same files
@@ -81,9 +83,27 @@ stages P n old new new' (Err r) (Err q) h k =
     let same = one_above P n h.0.0 h.0.1 k.0.0 k.0.1 h.0.2 k.0.2 in
     (ap (λ r. Err r) (h.0.3 ∙ ap (λ d. stage_refused d h.0.1) same.0 ∙ ap (stage_refused k.0.0) same.1 ∙ sym k.0.3), h.1 ∙ sym k.1)
 
+fit_stages : (P : Presentation) (n : ℕ) → IsFunctional (FitStages P n)
+fit_stages P n old new new' (Ok x) (Ok y) h k = (refl, h.1 ∙ sym k.1)
+fit_stages P n old new new' (Ok x) (Err r) h k = absurd (fit_or_above P n k.0.0 k.0.1 h.0 k.0.2)
+fit_stages P n old new new' (Err r) (Ok y) h k = absurd (fit_or_above P n h.0.0 h.0.1 k.0 h.0.2)
+fit_stages P n old new new' (Err r) (Err q) h k =
+    let same = one_above P n h.0.0 h.0.1 k.0.0 k.0.1 h.0.2 k.0.2 in
+    (ap (λ r. Err r) (h.0.3 ∙ ap (λ d. stage_refused d h.0.1) same.0 ∙ ap (stage_refused k.0.0) same.1 ∙ sym k.0.3), h.1 ∙ sym k.1)
+
+report : (P : Presentation) (n : ℕ) → IsFunctional (Report P n)
+report P n old new new' (Ok r) (Ok s) h k = (ap (λ r. Ok r) (same_report P n r s h.0 k.0), h.1 ∙ sym k.1)
+report P n old new new' (Ok r) (Err q) h k = absurd (report_or_none P n r k.0.0 k.0.1 h.0 k.0.2)
+report P n old new new' (Err r) (Ok s) h k = absurd (report_or_none P n s h.0.0 h.0.1 k.0 h.0.2)
+report P n old new new' (Err r) (Err q) h k =
+    let same = same_degree P n h.0.0 h.0.1 k.0.0 k.0.1 h.0.2 k.0.2 in
+    (ap (λ r. Err r) (h.0.3 ∙ ap (λ d. monomials_refused d h.0.1) same.0 ∙ ap (monomials_refused k.0.0) same.1 ∙ sym k.0.3), h.1 ∙ sym k.1)
+
 reply : (asked : Command) → IsFunctional (Reply asked)
 reply (Group path) = then (Load path) after_load (load path) (λ P. then (Layers P) (group_answer P) (layers P) (λ dimensions. gives (group_lines P dimensions)))
 reply (Resolve path n) = then (Load path) (after_load_of n) (load path) (λ P. then (Stages P n) stage_answer (stages P n) (λ found. gives (stage_lines found)))
+reply (Ring path n) =
+    then (Load path) (after_load_ring n) (load path) (λ P. then (FitStages P n) (after_fit P n) (fit_stages P n) (λ _. then (Report P n) report_answer (report P n) (λ found. gives (report_lines found))))
 
 comes : (words : List (List ℕ)) → IsFunctional (Comes words)
 comes words = then (Ask words) _ (or_refuse _ (command words)) reply

@@ -10,12 +10,13 @@ use Rattle.power_commutator.specs.Presentations.{Presentation, first_fault}
 use Rattle.pc_text.specs.Faults.{Fault}
 use Rattle.pc_text.specs.Texts.{read}
 use Rattle.coho_main.specs.declared.status.Status.TheVariants as status
-use Rattle.coho_main.specs.Refusals.{words_refused, stage_refused}
+use Rattle.coho_main.specs.Refusals.{words_refused, stage_refused, monomials_refused}
 use Rattle.coho_main.specs.Steps.{Refusal, Step, ◌>>=◌, Gives, Refuses, OrRefuse, RefuseIf}
-use Rattle.coho_main.specs.Words.{Command, Group, Resolve, command}
-use Rattle.coho_main.specs.Outcome.{ReadFront, FitLength, OrFault, Present, FitOrder, UnlessFalse, Describe, Load, Layers, Stages, Reply, Comes, group_lines, stage_lines}
+use Rattle.coho_main.specs.Words.{Command, Group, Resolve, Ring, command}
+use Rattle.coho_main.specs.Outcome.{ReadFront, FitLength, OrFault, Present, FitOrder, UnlessFalse, Describe, Load, Layers, Stages, FitStages, Report, Reply, Comes, group_lines, stage_lines}
 use Rattle.coho_main.proofs.Loads.{after_length, after_present, after_order}
-use Rattle.coho_main.proofs.Replies.{after_load, group_answer, after_load_of, stage_answer}
+use Rattle.coho_main.proofs.Replies.{after_load, group_answer, after_load_of, stage_answer, after_load_ring, after_fit, report_answer}
+use Rattle.coho_report.specs.Lines.{report_lines}
 
 -- no refusal of the step is one of the words
 abbrev KeepsWords : {A : Type 0} → Step A → Type 0
@@ -62,9 +63,23 @@ stages P n old new r h e =
     let no : (stage_refused h.0.0 h.0.1).status ≡ status.Usage = subst (λ r. r.status ≡ status.Usage) is e in
     cc
 
+fit_stages : (P : Presentation) (n : ℕ) → KeepsWords (FitStages P n)
+fit_stages P n old new r h e =
+    let is = h.0.3 in
+    let no : (stage_refused h.0.0 h.0.1).status ≡ status.Usage = subst (λ r. r.status ≡ status.Usage) is e in
+    cc
+
+report : (P : Presentation) (n : ℕ) → KeepsWords (Report P n)
+report P n old new r h e =
+    let is = h.0.3 in
+    let no : (monomials_refused h.0.0 h.0.1).status ≡ status.Usage = subst (λ r. r.status ≡ status.Usage) is e in
+    cc
+
 reply : (asked : Command) → KeepsWords (Reply asked)
 reply (Group path) = then (Load path) after_load (load path) (λ P. then (Layers P) (group_answer P) (λ old new r h e. h) (λ dimensions. gives (group_lines P dimensions)))
 reply (Resolve path n) = then (Load path) (after_load_of n) (load path) (λ P. then (Stages P n) stage_answer (stages P n) (λ found. gives (stage_lines found)))
+reply (Ring path n) =
+    then (Load path) (after_load_ring n) (load path) (λ P. then (FitStages P n) (after_fit P n) (fit_stages P n) (λ _. then (Report P n) report_answer (report P n) (λ found. gives (report_lines found))))
 
 refused_none : {A : Type 0} (q r : Refusal) (o : Option A) (old new : Content) → OrRefuse q o old (Err r) new → o ≡ None
 refused_none q r None old new h = refl

@@ -2,6 +2,7 @@ pub mod Steps
 pub mod Words
 pub mod Refusals
 pub mod Layers
+pub mod Ringing
 pub mod Outcome
 pub mod Stops
 pub mod Reading

@@ -14,10 +14,13 @@ use Rattle.pc_text.specs.Texts.{read}
 use Rattle.coho_main.specs.declared.status.Status.{Status}
 use Rattle.coho_main.specs.declared.status.Status.TheVariants as status
 use Rattle.coho_main.specs.Steps.{Refusal, Step, ◌>>=◌, Gives, Refuses, OrRefuse, RefuseIf}
-use Rattle.coho_main.specs.Refusals.{words_refused, read_refused, length_refused, text_refused, order_refused, test_refused, stage_refused}
-use Rattle.coho_main.specs.Words.{Command, Group, Resolve, command}
+use Rattle.coho_main.specs.Refusals.{words_refused, read_refused, length_refused, text_refused, order_refused, test_refused, stage_refused, monomials_refused}
+use Rattle.coho_main.specs.Words.{Command, Group, Resolve, Ring, command}
 use Rattle.coho_main.specs.Layers.{AreLayerSizes}
-use Rattle.coho_main.specs.Stages.{Summary, AreStagesOf, IsStageAbove}
+use Rattle.coho_main.specs.Stages.{Summary, AreStagesOf, HasFitStages, IsStageAbove}
+use Rattle.coho_main.specs.Ringing.{IsReportOf, HasTooMany}
+use Rattle.coho_report.specs.Values.{ReportValue}
+use Rattle.coho_report.specs.Lines.{report_lines}
 
 -- the steps
 
@@ -82,6 +85,18 @@ Stages P n old (Ok stages) new = AreStagesOf P n stages × (new ≡ old)
 Stages P n old (Err refusal) new =
     ((d : ℕ) × (X : ℕ) × IsStageAbove P n d X × (refusal ≡ stage_refused d X)) × (new ≡ old)
 
+-- no stage to degree n is above the limit, or the first one
+abbrev pub FitStages : Presentation → ℕ → Step (Unit {0})
+FitStages P n old (Ok x) new = HasFitStages P n × (new ≡ old)
+FitStages P n old (Err refusal) new =
+    ((d : ℕ) × (X : ℕ) × IsStageAbove P n d X × (refusal ≡ stage_refused d X)) × (new ≡ old)
+
+-- the report on the cohomology ring through degree n, or the first degree that has too many monomials
+abbrev pub Report : Presentation → ℕ → Step ReportValue
+Report P n old (Ok report) new = IsReportOf P n report × (new ≡ old)
+Report P n old (Err refusal) new =
+    ((d : ℕ) × (X : ℕ) × HasTooMany P n d X × (refusal ≡ monomials_refused d X)) × (new ≡ old)
+
 -- the answers
 
 -- a word, a number and an LF
@@ -130,6 +145,11 @@ Reply (Resolve path n) = do
   P ← Load path
   stages ← Stages P n
   Gives (stage_lines stages)
+Reply (Ring path n) = do
+  P ← Load path
+  _ ← FitStages P n
+  report ← Report P n
+  Gives (report_lines report)
 
 abbrev pub Comes : List (List ℕ) → Step (List (List ℕ))
 Comes words = do

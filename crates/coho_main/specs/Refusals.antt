@@ -66,6 +66,16 @@ stage_refused d X = record {
       ++ (decimal X ++ (codes ", above 4096" ++ 10 ∷ []))));
 }
 
+-- degree d has X monomials in the generators of lower degree
+abbrev pub monomials_refused : ℕ → ℕ → Refusal
+monomials_refused d X = record {
+  status = status.Limit;
+  line =
+      codes "coho: limit: degree "
+      ++ (decimal d ++ (codes " has "
+      ++ (decimal X ++ (codes " monomials, above 4096" ++ 10 ∷ []))));
+}
+
 -- a write to out that failed
 abbrev pub write_refused : Refusal
 write_refused = record { status = status.Write; line = codes "coho: write failed" ++ 10 ∷ [] }

@@ -73,6 +73,12 @@ pub record AreStagesOf (P : Presentation) (n : ℕ) (stages : List Summary) : Ty
   pub fit : (h : IsPGroup group) → Fit group h n
   pub are : (h : IsPGroup group) → stages ≡ stages_below group h (suc n)
 
+-- the stages of degree 0 to n all fit, for the group of P
+pub record HasFitStages (P : Presentation) (n : ℕ) : Type 0 where
+  pub group : GroupTable
+  pub is_table : IsTableOf P group
+  pub fit : (h : IsPGroup group) → Fit group h n
+
 -- the stage of degree d, of dimension X, is the first that does not fit, for the group of P
 pub record IsStageAbove (P : Presentation) (n d X : ℕ) : Type 0 where
   pub group : GroupTable

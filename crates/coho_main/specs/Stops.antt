@@ -3,13 +3,15 @@ use Rattle.std.specs.Prelude.{◌≡◌, ℕ, List, ⊤}
 use Rattle.std.specs.declared.result.Result.{Result}
 use Rattle.std.specs.declared.result.Result.TheVariants.{Ok, Err}
 use Rattle.coho_io.specs.Causes.{Rose}
+use Rattle.clap.specs.declared.error.kind.ErrorKind.{ErrorKind}
+use Rattle.clap.specs.declared.error.kind.ErrorKind.TheVariants as kind
 use Rattle.coho_io.specs.Content.{Content}
 use Rattle.coho_main.specs.declared.cause.Cause.{Cause}
 use Rattle.coho_main.specs.declared.cause.Cause.TheVariants as cause
 use Rattle.coho_main.specs.declared.stop.Stop.{Stop}
 use Rattle.coho_main.specs.declared.stop.Stop.TheVariants as stop
 use Rattle.coho_main.specs.Steps.{Refusal, Step}
-use Rattle.coho_main.specs.Refusals.{words_refused, read_refused, length_refused, text_refused, order_refused, test_refused, stage_refused, write_refused, memory_refused}
+use Rattle.coho_main.specs.Refusals.{words_refused, read_refused, length_refused, text_refused, order_refused, test_refused, stage_refused, monomials_refused, write_refused, memory_refused}
 
 -- the refusal of a cause
 abbrev pub refusal_of : Cause → Refusal
@@ -20,6 +22,7 @@ refusal_of (cause.Text kind line column) =
 refusal_of cause.Order = order_refused
 refusal_of (cause.Inconsistent name) = test_refused name
 refusal_of (cause.Stage d X) = stage_refused d X
+refusal_of (cause.Monomials d X) = monomials_refused d X
 
 -- the status and the line of a stop
 abbrev pub told : Stop → Refusal
@@ -63,3 +66,14 @@ abbrev pub IsWriteStop : ℕ → ℕ → Stop → Type 0
 IsWriteStop before now stop.Write = Rose before now
 IsWriteStop before now stop.Memory = ⊤
 IsWriteStop before now _ = ⊥
+
+-- the stop at words that can't be read: want of memory, or they are not those of a command
+abbrev pub parse_stop : ErrorKind → Stop
+parse_stop kind.OutOfMemory = stop.Memory
+parse_stop _ = stop.Refused cause.Words
+
+-- a stop at the words, where P says why, or for want of memory
+abbrev pub IsWordsStop : Type 0 → Stop → Type 0
+IsWordsStop P (stop.Refused cause.Words) = P
+IsWordsStop P stop.Memory = ⊤
+IsWordsStop P _ = ⊥

@@ -1,5 +1,5 @@
 -- The words of the command line.
-use Rattle.std.specs.Prelude.{◌≡◌, ℕ, ◌≤◌, ◌==◌, ◌&&◌, Bool, false, not, if◌then◌else◌, List, [], ◌∷◌, map, string_bytes, String, codes, ⊤}
+use Rattle.std.specs.Prelude.{◌≡◌, ℕ, ◌≤◌, ◌==◌, ◌&&◌, Bool, false, not, if◌then◌else◌, List, [], ◌∷◌, map, string_bytes, String, Vec, codes, ⊤, option_and_then}
 use Rattle.std.specs.declared.alloc.Global.{Global}
 use Rattle.std.specs.declared.option.Option.{Option}
 use Rattle.std.specs.declared.option.Option.TheVariants.{None, Some}
@@ -9,9 +9,13 @@ use Rattle.pc_text.specs.Numerals.{numeral}
 use Rattle.coho_main.specs.declared.words.Command.{Command as Named}
 use Rattle.coho_main.specs.declared.words.Command.TheVariants as named
 
--- the bytes of each word, or of each line
+-- the bytes of each word
 abbrev pub texts : List (String Global) → List (List ℕ)
 texts words = map string_bytes words
+
+-- the bytes of each line
+abbrev pub contents : List (Vec ℕ Global) → List (List ℕ)
+contents lines = map (λ line. line.items) lines
 
 -- what a run is asked for
 pub data Command : Type 0 where
@@ -19,21 +23,26 @@ pub data Command : Type 0 where
   Group : List ℕ → Command
   -- to find the minimal resolution of a file's group to a degree
   Resolve : List ℕ → ℕ → Command
+  -- to find generators and relations of the cohomology ring of a file's group through a degree
+  Ring : List ℕ → ℕ → Command
 
 -- the command by the program's own value
 abbrev pub asked : Named → Command
 asked (named.Group path) = Group path.now
 asked (named.Resolve path n) = Resolve path.now n
+asked (named.Ring path n) = Ring path.now n
 
 -- the path of its file
 abbrev pub path_of : Command → List ℕ
 path_of (Group path) = path
 path_of (Resolve path n) = path
+path_of (Ring path n) = path
 
--- the degree of a command that has one is at most 24
+-- the degree of a command that has one is from 1 to 24
 abbrev pub IsWithin : Command → Type 0
 IsWithin (Group path) = ⊤
-IsWithin (Resolve path n) = n ≤ 24
+IsWithin (Resolve path n) = (1 ≤ n) × (n ≤ 24)
+IsWithin (Ring path n) = (1 ≤ n) × (n ≤ 24)
 
 -- a word that may stand for a file: it is not empty, and begins with no dash
 abbrev pub is_path : List ℕ → Bool
@@ -47,8 +56,27 @@ command (name ∷ path ∷ []) =
 command (name ∷ path ∷ degree ∷ []) =
     if bytes_eq name (codes "resolve") && is_path path
     then option_map (Resolve path) (numeral 1 24 degree)
-    else None
+    else (if bytes_eq name (codes "ring") && is_path path
+    then option_map (Ring path) (numeral 1 24 degree)
+    else None)
 command _ = None
+
+-- the one word after the command's name, where there is one
+abbrev pub one_operand : List (List ℕ) → Option (List ℕ)
+one_operand (name ∷ first ∷ []) = Some first
+one_operand _ = None
+
+-- the two words after the command's name, where there are two
+abbrev pub two_operands : List (List ℕ) → Option (List ℕ × List ℕ)
+two_operands (name ∷ first ∷ second ∷ []) = Some (first, second)
+two_operands _ = None
+
+-- the same, where the second is the numeral of a degree
+abbrev pub with_degree : List ℕ × List ℕ → Option (List ℕ × ℕ)
+with_degree p = option_map (λ n. (p.0, n)) (numeral 1 24 p.1)
+
+abbrev pub file_and_degree : List (List ℕ) → Option (List ℕ × ℕ)
+file_and_degree words = option_and_then with_degree (two_operands words)
 
 -- a path that the command of the words reads
 abbrev pub IsRead : List (List ℕ) → List ℕ → Type 0

@@ -4,7 +4,7 @@ ghost use Rattle.min_res.specs.Values.{boundary_of};
 ghost use Rattle.coho_main.specs.Outcome.{after_space, group_lines, layers_line, rows_words, stage_line};
 ghost use Rattle.coho_main.specs.Stages.{HasRows, summary};
 ghost use Rattle.coho_main.specs.Resolving.{TellsStage, TellsStages};
-ghost use Rattle.coho_main.specs.Words.{texts};
+ghost use Rattle.coho_main.specs.Words.{contents};
 
 use min_res::{Resolution, Stage};
 use pc_group::Consistent;
@@ -28,19 +28,19 @@ pub fn group_lines(
     alloc: Global,
     consistent: &Consistent,
     dimensions: &[usize],
-) -> Result<Vec<String>, AllocError>
+) -> Result<Vec<Vec<u8>>, AllocError>
     ensures { IfOk result
-        (λ lines. texts lines.items ≡ group_lines consistent.now dimensions.now) }
+        (λ lines. contents lines.items ≡ group_lines consistent.now dimensions.now) }
 {
     let presentation = consistent.presentation();
     let prime = u32::from(presentation.prime().value());
     let gens = presentation.gens();
     let order = prime.pow(gens);
     let mut lines = Vec::new(alloc);
-    lines.push(format!(in alloc; "prime {prime}\n")?)?;
-    lines.push(format!(in alloc; "gens {gens}\n")?)?;
-    lines.push(format!(in alloc; "order {order}\n")?)?;
-    lines.push(layers_line(alloc, dimensions)?)?;
+    lines.push(format!(in alloc; "prime {prime}\n")?.into_bytes())?;
+    lines.push(format!(in alloc; "gens {gens}\n")?.into_bytes())?;
+    lines.push(format!(in alloc; "order {order}\n")?.into_bytes())?;
+    lines.push(layers_line(alloc, dimensions)?.into_bytes())?;
     Ok(lines)
 }
 
@@ -99,15 +99,15 @@ fn line_at(alloc: Global, resolution: &Resolution, d: u32) -> Result<String, All
 
 /// The lines of the answer to `resolve`.
 #[tactic(auto, using(crate::proofs::StageRows::no_lines))]
-pub fn stage_lines(alloc: Global, resolution: &Resolution) -> Result<Vec<String>, AllocError>
+pub fn stage_lines(alloc: Global, resolution: &Resolution) -> Result<Vec<Vec<u8>>, AllocError>
     requires group { IsPGroup resolution.now.group }
     requires few { resolution.now.last ≤ 24 }
-    ensures { IfOk result (λ lines. TellsStages resolution.now.group (resolution.now.last + 1) (texts lines.items)) }
+    ensures { IfOk result (λ lines. TellsStages resolution.now.group (resolution.now.last + 1) (contents lines.items)) }
 {
     let count = resolution.last() + 1;
     let mut lines = Vec::new(alloc);
     for d in 0..count {
-        lines.push(line_at(alloc, resolution, d)?)?;
+        lines.push(line_at(alloc, resolution, d)?.into_bytes())?;
     }
     Ok(lines)
 }

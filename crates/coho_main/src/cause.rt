@@ -22,6 +22,8 @@ pub enum Cause {
     Inconsistent(TestName),
     /// The free module of the stage of this degree has a dimension above 4096.
     Stage { degree: u32, dimension: u64 },
+    /// This degree has more than 4096 monomials in generators of lower degree.
+    Monomials { degree: u32, count: u64 },
 }
 
 impl Cause {
@@ -35,6 +37,7 @@ impl Cause {
             Cause::Order => Status::Limit,
             Cause::Inconsistent(_) => Status::Inconsistent,
             Cause::Stage { .. } => Status::Limit,
+            Cause::Monomials { .. } => Status::Limit,
         }
     }
 
@@ -61,6 +64,11 @@ impl Cause {
             Cause::Stage { degree, dimension } => {
                 format!(in alloc;
                     "coho: limit: stage {degree} of the group has dimension {dimension}, above 4096\n"
+                )
+            }
+            Cause::Monomials { degree, count } => {
+                format!(in alloc;
+                    "coho: limit: degree {degree} has {count} monomials, above 4096\n"
                 )
             }
         }

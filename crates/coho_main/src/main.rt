@@ -1,4 +1,4 @@
-//! The program: describes the group of a presentation text, and finds its minimal resolution. `run` does all that it does, over any files and sinks.
+//! The program: describes the group of a presentation text, finds its minimal resolution, and presents its cohomology ring. `run` does all that it does, over any files and sinks.
 #![tactic(auto)]
 
 mod answers;
@@ -6,6 +6,7 @@ mod cause;
 mod degree;
 mod layers;
 mod loading;
+mod operands;
 mod reading;
 mod running;
 mod stages;
@@ -22,9 +23,10 @@ use coho_io::{DiskFiles, StdSink};
 pub use degree::read_degree;
 pub use layers::{algebra_of, radical_dimensions};
 pub use loading::load;
+pub use operands::{all_plain, one_operand, two_operands};
 pub use reading::read_front;
 pub use running::{outcome_is_unique, run};
-pub use stages::resolution_of;
+pub use stages::{GREATEST_DIMENSION, resolution_of};
 pub use status::Status;
 use std::process::ExitCode;
 use std::{env, io};

@@ -1,27 +1,31 @@
 ghost use Rattle.std.specs.Prelude.{◌≡◌, ◌≢◌, ◌≤◌, ◌⊎◌, ℕ, List, None, Some, IfErr};
 ghost use Rattle.coho_io.specs.Content.{Content};
 ghost use Rattle.coho_io.specs.Causes.{Rose, NoneFell};
-ghost use Rattle.coho_main.specs.Words.{Group, IsRead, Resolve, command, texts};
+ghost use Rattle.coho_main.specs.Words.{Group, IsRead, Resolve, Ring, command, contents, texts};
 ghost use Rattle.coho_main.specs.Outcome.{Reply, Comes, Ending, Outcome};
 ghost use Rattle.coho_main.specs.Refusals.{read_refused, write_refused};
 ghost use Rattle.coho_main.specs.Stops.{Meets, HasReadCause};
 ghost use Rattle.coho_main.specs.Run.{OfFiles, IsSettled, MayWrite, Tells, EndsAs, AnswersFront, WroteFront, ToldFront, NoReadFault};
 
 use crate::{
-    Command, Status, Stop, group_lines, load, radical_dimensions, read_words, report,
-    resolution_of, stage_lines, write_lines,
+    Command, GREATEST_DIMENSION, Status, Stop, group_lines, load, radical_dimensions, read_words,
+    report, resolution_of, stage_lines, write_lines,
 };
 use coho_io::{Files, Sink};
+use coho_report::{compose, report_lines};
 use std::alloc::Global;
+
+// The greatest number of monomials of one degree.
+const GREATEST_COUNT: u64 = 4096;
 
 // The lines of the answer to `group`.
 fn answer_group<'a, F: Files>(
     alloc: Global,
     files: &mut F,
     path: &'a str,
-) -> Result<Vec<String>, Stop<'a>>
+) -> Result<Vec<Vec<u8>>, Stop<'a>>
     ensures step { OfFiles (F.content files.old)
-        (λ seen. Meets (λ lines. texts lines.items) (Reply (Group path.now)) seen seen result) }
+        (λ seen. Meets (λ lines. contents lines.items) (Reply (Group path.now)) seen seen result) }
     ensures content { F.content files.new ≡ F.content files.old }
     ensures later { NoneFell (F.read_faults files.old) (F.read_faults files.new) }
     ensures cause { IfErr result
@@ -38,10 +42,10 @@ fn answer_resolve<'a, F: Files>(
     files: &mut F,
     path: &'a str,
     n: u32,
-) -> Result<Vec<String>, Stop<'a>>
+) -> Result<Vec<Vec<u8>>, Stop<'a>>
     requires { n ≤ 24 }
     ensures step { OfFiles (F.content files.old)
-        (λ seen. Meets (λ lines. texts lines.items) (Reply (Resolve path.now n)) seen seen result) }
+        (λ seen. Meets (λ lines. contents lines.items) (Reply (Resolve path.now n)) seen seen result) }
     ensures content { F.content files.new ≡ F.content files.old }
     ensures later { NoneFell (F.read_faults files.old) (F.read_faults files.new) }
     ensures cause { IfErr result
@@ -52,22 +56,45 @@ fn answer_resolve<'a, F: Files>(
     Ok(stage_lines(alloc, &resolution)?)
 }
 
+// The lines of the answer to `ring`.
+fn answer_ring<'a, F: Files>(
+    alloc: Global,
+    files: &mut F,
+    path: &'a str,
+    n: u32,
+) -> Result<Vec<Vec<u8>>, Stop<'a>>
+    requires low { 1 ≤ n }
+    requires high { n ≤ 24 }
+    ensures step { OfFiles (F.content files.old)
+        (λ seen. Meets (λ lines. contents lines.items) (Reply (Ring path.now n)) seen seen result) }
+    ensures content { F.content files.new ≡ F.content files.old }
+    ensures later { NoneFell (F.read_faults files.old) (F.read_faults files.new) }
+    ensures cause { IfErr result
+        (HasReadCause (λ p. p ≡ path.now) (F.read_faults files.old) (F.read_faults files.new)) }
+{
+    let consistent = load(alloc, files, path)?;
+    let resolution = resolution_of(alloc, &consistent, n)?;
+    let report = compose(alloc, &resolution, n, GREATEST_COUNT, GREATEST_DIMENSION)?;
+    Ok(report_lines(alloc, &report)?)
+}
+
 // The lines of the answer to the words.
 fn answer<'a, F: Files>(
     alloc: Global,
     words: &'a [String],
     files: &mut F,
-) -> Result<Vec<String>, Stop<'a>>
+) -> Result<Vec<Vec<u8>>, Stop<'a>>
     ensures step { OfFiles (F.content files.old)
-        (λ seen. Meets (λ lines. texts lines.items) (Comes (texts words.now)) seen seen result) }
+        (λ seen. Meets (λ lines. contents lines.items) (Comes (texts words.now)) seen seen result) }
     ensures content { F.content files.new ≡ F.content files.old }
     ensures later { NoneFell (F.read_faults files.old) (F.read_faults files.new) }
     ensures cause { IfErr result
         (HasReadCause (IsRead (texts words.now)) (F.read_faults files.old) (F.read_faults files.new)) }
 {
-    match read_words(words)? {
+    match read_words(alloc, words)? {
         Command::Group(path) => answer_group(alloc, files, path),
         Command::Resolve(path, n) => answer_resolve(alloc, files, path, n),
+        Command::Ring(path, n) => answer_ring(alloc, files, path, n),
     }
 }
 

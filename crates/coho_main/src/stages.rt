@@ -8,7 +8,8 @@ use min_res::{ResFault, Resolution};
 use pc_group::Consistent;
 use std::alloc::Global;
 
-const GREATEST_DIMENSION: u64 = 4096;
+/// The greatest dimension of the free module of a stage.
+pub const GREATEST_DIMENSION: u64 = 4096;
 
 // Adds the stages of degree 1 to n to the first one.
 fn extend_to(resolution: &mut Resolution, n: u32) -> Result<(), ResFault>

@@ -1,9 +1,13 @@
 ghost use Rattle.std.specs.Prelude.{◌≡◌, ◌++◌, IfOk, string_bytes};
 ghost use Rattle.coho_main.specs.declared.stop.Stop.TheVariants.{Memory as WantOfMemory};
 ghost use Rattle.coho_main.specs.Resolving.{stop_of};
-ghost use Rattle.coho_main.specs.Stops.{told};
+ghost use Rattle.coho_main.specs.Ringing.{stop_of as report_stop};
+ghost use Rattle.clap.specs.Words.{kind_of};
+ghost use Rattle.coho_main.specs.Stops.{parse_stop, told};
 
 use crate::{Cause, Status};
+use clap::error::ErrorKind;
+use coho_report::ReportFault;
 use group_table::Memory;
 use min_res::ResFault;
 use std::alloc::{AllocError, AllocFailed, Global};
@@ -45,6 +49,17 @@ impl<'a> From<Memory> for Stop<'a> {
     }
 }
 
+impl<'a> From<clap::Error> for Stop<'a> {
+    ghost from_gives = { λ e s. s ≡ parse_stop (kind_of e) };
+
+    fn from(error: clap::Error) -> Self {
+        match error.kind() {
+            ErrorKind::OutOfMemory => Stop::Memory,
+            _ => Stop::Refused(Cause::Words),
+        }
+    }
+}
+
 impl<'a> From<ResFault> for Stop<'a> {
     ghost from_gives = { λ e s. s ≡ stop_of e };
 
@@ -54,6 +69,19 @@ impl<'a> From<ResFault> for Stop<'a> {
                 Stop::Refused(Cause::Stage { degree, dimension })
             }
             ResFault::Memory => Stop::Memory,
+        }
+    }
+}
+
+impl<'a> From<ReportFault> for Stop<'a> {
+    ghost from_gives = { λ e s. s ≡ report_stop e };
+
+    fn from(fault: ReportFault) -> Self {
+        match fault {
+            ReportFault::TooManyMonomials { degree, count } => {
+                Stop::Refused(Cause::Monomials { degree, count })
+            }
+            ReportFault::Memory => Stop::Memory,
         }
     }
 }

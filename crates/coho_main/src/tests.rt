@@ -81,6 +81,35 @@ fn resolves_groups(rt: HostRuntime) -> Result<(), Fail> {
 }
 
 #[test]
+fn presents_rings(rt: HostRuntime) -> Result<(), Fail> {
+    for (text, degree, answer) in [
+        (
+            "pgroup 1\nprime 2\ngens 1\n",
+            "3",
+            "coho ring 1\nprime 2\norder 2\ndegree 3\nranks 1 1 1 1\ngenerators 1\nx_1_1\nrelations 0\n",
+        ),
+        (
+            "pgroup 1\nprime 2\ngens 3\ng1^2 = g3\ng2^2 = g3\n[g2,g1] = g3\n",
+            "6",
+            "coho ring 1\nprime 2\norder 8\ndegree 6\nranks 1 2 2 1 1 2 2\ngenerators 3\nx_1_1\nx_1_2\nx_4_1\nrelations 2\nx_1_1^2+x_1_1*x_1_2+x_1_2^2\nx_1_2^3\n",
+        ),
+        (
+            "pgroup 1\nprime 3\ngens 1\n",
+            "2",
+            "coho ring 1\nprime 3\norder 3\ndegree 2\nranks 1 1 1\ngenerators 2\nx_1_1\nx_2_1\nrelations 0\n",
+        ),
+    ] {
+        let mut files = MemFiles::new(rt.alloc());
+        files.put("t", text.as_bytes())?;
+        let ended = run_words(rt.alloc(), &mut files, &["ring", "t", degree])?;
+        assert_eq!(rt; ended.status, Status::Answered, "{text}");
+        assert_eq!(rt; ended.out.bytes(), answer.as_bytes(), "{text}");
+        assert_eq!(rt; ended.err.bytes(), b"".as_slice(), "{text}");
+    }
+    Ok(())
+}
+
+#[test]
 fn reads_degrees_from_1_to_24(rt: HostRuntime) -> Result<(), Fail> {
     let mut files = MemFiles::new(rt.alloc());
     files.put("t", b"pgroup 1\nprime 2\ngens 1\n")?;
@@ -178,6 +207,15 @@ fn refuses_files_and_words(rt: HostRuntime) -> Result<(), Fail> {
         (["group", "t", "t"].as_slice(), Status::Usage, usage),
         (["groups", "t"].as_slice(), Status::Usage, usage),
         (["group", ""].as_slice(), Status::Usage, usage),
+        (["ring", "t"].as_slice(), Status::Usage, usage),
+        (["ring", "t", "0"].as_slice(), Status::Usage, usage),
+        (["ring", "t", "25"].as_slice(), Status::Usage, usage),
+        (["ring", "t", "03"].as_slice(), Status::Usage, usage),
+        (
+            ["ring", "t", "3", "--from"].as_slice(),
+            Status::Usage,
+            usage,
+        ),
     ] {
         let ended = run_words(rt.alloc(), &mut files, texts)?;
         assert_eq!(rt; ended.status, status, "{texts:?}");

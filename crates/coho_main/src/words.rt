@@ -1,9 +1,11 @@
-ghost use Rattle.std.specs.Prelude.{◌≡◌, IfOk, Some};
-ghost use Rattle.coho_main.specs.Words.{IsWithin, asked, command, is_path, texts};
+ghost use Rattle.std.specs.Prelude.{◌≡◌, ◌≤◌, IfErr, IfOk, None, Some, true};
+ghost use Rattle.std.specs.List.{list_all};
+ghost use Rattle.coho_main.specs.Words.{IsWithin, asked, command, file_and_degree, is_path, texts};
 ghost use Rattle.coho_main.specs.Outcome.{Ask};
-ghost use Rattle.coho_main.specs.Stops.{Settles};
+ghost use Rattle.coho_main.specs.Stops.{IsWordsStop, Settles};
 
-use crate::{Cause, Stop, read_degree};
+use crate::{Cause, Stop, all_plain, one_operand, read_degree, two_operands};
+use std::alloc::Global;
 
 /// What a run is asked for.
 #[derive(Clone, Copy)]
@@ -12,34 +14,43 @@ pub enum Command<'a> {
     Group(&'a str),
     /// To find the minimal resolution of the group of the file at this path, to this degree.
     Resolve(&'a str, u32),
+    /// To find generators and relations of the cohomology ring of the group of the file at this path, through this degree.
+    Ring(&'a str, u32),
 }
 
-// The word may stand for a file.
-fn is_path(word: &str) -> bool
-    ensures { result ≡ is_path word.now }
+// The two words after the command's name, a file and a degree.
+fn file_and_degree<'a>(alloc: Global, words: &'a [String]) -> Result<(&'a str, u32), Stop<'a>>
+    requires { list_all is_path (texts words.now) ≡ true }
+    ensures found { IfOk result (λ found. file_and_degree (texts words.now) ≡ Some (found.0.now, found.1)) }
+    ensures range { IfOk result (λ found. (1 ≤ found.1) × (found.1 ≤ 24)) }
+    ensures refused { IfErr result (IsWordsStop (file_and_degree (texts words.now) ≡ None)) }
 {
-    match word.as_bytes() {
-        [] => false,
-        [first, ..] => *first != b'-',
+    let (path, degree) = two_operands(alloc, words)?;
+    match read_degree(degree) {
+        Some(degree) => Ok((path, degree)),
+        None => Err(Stop::Refused(Cause::Words)),
     }
 }
 
 /// The command of the words.
-pub fn read_words<'a>(words: &'a [String]) -> Result<Command<'a>, Stop<'a>>
+pub fn read_words<'a>(alloc: Global, words: &'a [String]) -> Result<Command<'a>, Stop<'a>>
     ensures step { Settles asked (Ask (texts words.now)) result }
     ensures command { IfOk result (λ found. command (texts words.now) ≡ Some (asked found)) }
     ensures degree { IfOk result (λ found. IsWithin (asked found)) }
 {
-    match words {
-        [name, path] if name.as_str() == "group" && is_path(path.as_str()) => {
-            return Ok(Command::Group(path.as_str()));
-        }
-        [name, path, degree] if name.as_str() == "resolve" && is_path(path.as_str()) => {
-            if let Some(degree) = read_degree(degree.as_str()) {
-                return Ok(Command::Resolve(path.as_str(), degree));
-            }
-        }
-        _ => {}
+    if !all_plain(words) {
+        return Err(Stop::Refused(Cause::Words));
     }
-    Err(Stop::Refused(Cause::Words))
+    match words {
+        [name, ..] if name.as_str() == "group" => Ok(Command::Group(one_operand(alloc, words)?)),
+        [name, ..] if name.as_str() == "resolve" => {
+            let (path, degree) = file_and_degree(alloc, words)?;
+            Ok(Command::Resolve(path, degree))
+        }
+        [name, ..] if name.as_str() == "ring" => {
+            let (path, degree) = file_and_degree(alloc, words)?;
+            Ok(Command::Ring(path, degree))
+        }
+        _ => Err(Stop::Refused(Cause::Words)),
+    }
 }

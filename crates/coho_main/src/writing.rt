@@ -5,23 +5,23 @@ ghost use Rattle.coho_io.specs.Bytes.{AppendsFront};
 ghost use Rattle.coho_main.specs.Refusals.{memory_refused};
 ghost use Rattle.coho_main.specs.Stops.{told, IsWriteStop};
 ghost use Rattle.coho_main.specs.Run.{Tells};
-ghost use Rattle.coho_main.specs.Words.{texts};
+ghost use Rattle.coho_main.specs.Words.{contents};
 
 use crate::{Status, Stop};
 use coho_io::{Fault, Sink};
 use std::alloc::Global;
 
 /// Writes the lines of an answer, each by one call.
-pub fn write_lines<O: Sink>(out: &mut O, lines: &[String]) -> Result<(), Stop<'static>>
+pub fn write_lines<O: Sink>(out: &mut O, lines: &[Vec<u8>]) -> Result<(), Stop<'static>>
     ensures ok { OnOk result
-        (Appends (O.written out.old) (O.written out.new) (concat (texts lines.now))) }
+        (Appends (O.written out.old) (O.written out.new) (concat (contents lines.now))) }
     ensures err { OnErr result
-        (AppendsFront (O.written out.old) (O.written out.new) (concat (texts lines.now))) }
+        (AppendsFront (O.written out.old) (O.written out.new) (concat (contents lines.now))) }
     ensures later { O.faults out.old ≤ O.faults out.new }
     ensures cause { IfErr result (IsWriteStop (O.faults out.old) (O.faults out.new)) }
 {
     for line in lines {
-        match out.write(line.as_bytes()) {
+        match out.write(line) {
             Ok(()) => {}
             Err(Fault::Failed) => return Err(Stop::Write),
             Err(Fault::Memory) => return Err(Stop::Memory),

@@ -17,5 +17,6 @@ mod words;
 mod writer;
 
 pub use crate::fault::{Kind, TextFault};
+pub use crate::numerals::numeral;
 pub use crate::reader::read_presentation;
 pub use crate::writer::write_presentation;

@@ -21,3 +21,9 @@ returns-in-Resolve-clause-step g c =
     let known = g.F.Files.content c.args.files.now in
     ask_then known (texts c.args.words.now) c.in_ok-path.field-0 c.answer_resolve.result c.in_ok-path.ensures.step
     (subst (λ k. MeetsOf lines_of (Reply (asked k)) known c.answer_resolve.result) (sym c.in-Resolve.is) c.answer_resolve.ensures.step)
+
+pub returns-in-Ring-clause-step : goal.returns-in-Ring-clause-step
+returns-in-Ring-clause-step g c =
+    let known = g.F.Files.content c.args.files.now in
+    ask_then known (texts c.args.words.now) c.in_ok-path.field-0 c.answer_ring.result c.in_ok-path.ensures.step
+    (subst (λ k. MeetsOf lines_of (Reply (asked k)) known c.answer_ring.result) (sym c.in-Ring.is) c.answer_ring.ensures.step)

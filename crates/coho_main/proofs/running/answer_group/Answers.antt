@@ -1,6 +1,6 @@
 use Rattle.std.proofs.Common.{◌≡◌, subst}
 use Rattle.std.proofs.lemmas.Result.{err_from_is_err_and}
-use Rattle.coho_main.specs.Words.{Group, texts}
+use Rattle.coho_main.specs.Words.{Group, contents}
 use Rattle.coho_main.specs.Outcome.{Reply, group_lines}
 use Rattle.coho_main.proofs.Replies.{lines_of, group_stop, group_then, memory_meets}
 use Rattle.coho_main.proofs.running.answer_group.Goals as goal
@@ -23,4 +23,4 @@ returns-in_err-group_lines-clause-step g c =
 pub returns-clause-step : goal.returns-clause-step
 returns-clause-step g c =
     group_then (g.F.Files.content c.args.files.now) c.args.path.now c.in_ok-consistent.consistent c.in_ok-dimensions.dimensions.items c.in_ok-group_lines.field-0 c.in_ok-consistent.ensures.step c.in_ok-dimensions.ensures
-    (subst (λ xs. texts c.in_ok-group_lines.field-0.items ≡ group_lines c.in_ok-consistent.consistent xs) c.deref.ensures.value c.in_ok-group_lines.ensures)
+    (subst (λ xs. contents c.in_ok-group_lines.field-0.items ≡ group_lines c.in_ok-consistent.consistent xs) c.deref.ensures.value c.in_ok-group_lines.ensures)

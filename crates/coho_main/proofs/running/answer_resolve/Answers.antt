@@ -1,5 +1,5 @@
 use Rattle.std.proofs.lemmas.Result.{err_from_is_err_and}
-use Rattle.coho_main.specs.Words.{Resolve, texts}
+use Rattle.coho_main.specs.Words.{Resolve, contents}
 use Rattle.coho_main.specs.Outcome.{Reply}
 use Rattle.coho_main.proofs.Replies.{lines_of, resolve_stop, resolve_refused, resolve_then, memory_meets}
 use Rattle.coho_main.proofs.StageRows.{stages_of}
@@ -22,5 +22,5 @@ returns-in_err-stage_lines-clause-step g c =
 
 pub returns-clause-step : goal.returns-clause-step
 returns-clause-step g c =
-    let found = stages_of c.in_ok-consistent.consistent c.args.n c.in_ok-resolution.resolution c.in_ok-resolution.ensures.found (texts c.in_ok-stage_lines.field-0.items) c.in_ok-stage_lines.ensures in
+    let found = stages_of c.in_ok-consistent.consistent c.args.n c.in_ok-resolution.resolution c.in_ok-resolution.ensures.found (contents c.in_ok-stage_lines.field-0.items) c.in_ok-stage_lines.ensures in
     resolve_then (g.F.Files.content c.args.files.now) c.args.path.now c.args.n c.in_ok-consistent.consistent found.0 c.in_ok-stage_lines.field-0 c.in_ok-consistent.ensures.step found.1 found.2

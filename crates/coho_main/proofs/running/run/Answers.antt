@@ -1,36 +1,36 @@
-use Rattle.std.proofs.Common.{sym, subst, inl, inr, map, string_bytes, Ok, Err}
+use Rattle.std.proofs.Common.{sym, subst, inl, inr, Ok, Err}
 use Rattle.std.specs.List.{concat}
 use Rattle.std.specs.Io.KnownBytes.{Appends}
 use Rattle.coho_io.specs.Bytes.{AppendsFront}
 use Rattle.coho_io.specs.Causes.{Rose}
-use Rattle.coho_main.specs.Words.{texts}
+use Rattle.coho_main.specs.Words.{contents, texts}
 use Rattle.coho_main.proofs.Run.{wrote_all, wrote_front, answers, told_meets, write_told, write_complete, answer_front, line_of_write, stopped, usage_stop, read_told, nothing_written, line_of_stop, complete_stop}
 use Rattle.coho_main.proofs.running.run.Goals as goal
 
 pub returns-in-Ok-write_lines-clause-outcome : goal.returns-in-Ok-write_lines-clause-outcome
 returns-in-Ok-write_lines-clause-outcome g c = λ _.
     wrote_all (texts c.args.words.now) (g.F.Files.content c.args.files.now) (g.O.Sink.written c.args.out.now) (g.O.Sink.written c.write_lines.new.out) (g.E.Sink.written c.args.err.now) (g.E.Sink.written c.args.err.now) c.in-Ok.lines (g.F.Files.content c.answer.new.files) (g.E.Sink.faults c.args.err.now) c.in-Ok.ensures.content c.in-Ok.ensures.step
-    (subst (λ ls. Appends (g.O.Sink.written c.args.out.now) (g.O.Sink.written c.write_lines.new.out) (concat (map string_bytes ls))) c.deref.ensures.value c.in-Ok-write_lines.ensures.ok)
+    (subst (λ ls. Appends (g.O.Sink.written c.args.out.now) (g.O.Sink.written c.write_lines.new.out) (concat (contents ls))) c.deref.ensures.value c.in-Ok-write_lines.ensures.ok)
 
 pub returns-in-Ok-write_lines-clause-complete : goal.returns-in-Ok-write_lines-clause-complete
-returns-in-Ok-write_lines-clause-complete g c = λ told e is k reads writes. inl (sym (answers (texts c.args.words.now) told (texts c.in-Ok.lines.items) (told_meets (texts c.args.words.now) (g.F.Files.content c.args.files.now) (Ok c.in-Ok.lines) c.in-Ok.ensures.step told is) e k))
+returns-in-Ok-write_lines-clause-complete g c = λ told e is k reads writes. inl (sym (answers (texts c.args.words.now) told (contents c.in-Ok.lines.items) (told_meets (texts c.args.words.now) (g.F.Files.content c.args.files.now) (Ok c.in-Ok.lines) c.in-Ok.ensures.step told is) e k))
 
 pub returns-in-Ok-clause-write : goal.returns-in-Ok-clause-write
 returns-in-Ok-clause-write g c = write_told c.report.result (g.E.Sink.written c.args.err.now) (g.E.Sink.written c.report.new.err) (g.E.Sink.faults c.args.err.now) (g.E.Sink.faults c.report.new.err) c.in-Err-write_lines.stop (g.O.Sink.faults c.args.out.now) (g.O.Sink.faults c.write_lines.new.out) c.report.ensures.told c.in-Err-write_lines.ensures.cause
 
 pub returns-in-Ok-clause-answered : goal.returns-in-Ok-clause-answered
-returns-in-Ok-clause-answered g c = λ _. (wrote_front (texts c.args.words.now) (g.F.Files.content c.args.files.now) (g.O.Sink.written c.args.out.now) (g.O.Sink.written c.write_lines.new.out) (g.E.Sink.written c.args.err.now) (g.E.Sink.written c.args.err.now) c.in-Ok.lines c.in-Ok.ensures.step (subst (λ ls. AppendsFront (g.O.Sink.written c.args.out.now) (g.O.Sink.written c.write_lines.new.out) (concat (map string_bytes ls))) c.deref.ensures.value c.in-Err-write_lines.ensures.err))
+returns-in-Ok-clause-answered g c = λ _. (wrote_front (texts c.args.words.now) (g.F.Files.content c.args.files.now) (g.O.Sink.written c.args.out.now) (g.O.Sink.written c.write_lines.new.out) (g.E.Sink.written c.args.err.now) (g.E.Sink.written c.args.err.now) c.in-Ok.lines c.in-Ok.ensures.step (subst (λ ls. AppendsFront (g.O.Sink.written c.args.out.now) (g.O.Sink.written c.write_lines.new.out) (concat (contents ls))) c.deref.ensures.value c.in-Err-write_lines.ensures.err))
 
 pub returns-in-Ok-clause-front : goal.returns-in-Ok-clause-front
 returns-in-Ok-clause-front g c = λ _. answer_front (texts c.args.words.now) (g.F.Files.content c.args.files.now) (g.O.Sink.written c.args.out.now) (g.O.Sink.written c.write_lines.new.out) (g.E.Sink.written c.args.err.now) (g.E.Sink.written c.args.err.now)
-    (wrote_front (texts c.args.words.now) (g.F.Files.content c.args.files.now) (g.O.Sink.written c.args.out.now) (g.O.Sink.written c.write_lines.new.out) (g.E.Sink.written c.args.err.now) (g.E.Sink.written c.args.err.now) c.in-Ok.lines c.in-Ok.ensures.step (subst (λ ls. AppendsFront (g.O.Sink.written c.args.out.now) (g.O.Sink.written c.write_lines.new.out) (concat (map string_bytes ls))) c.deref.ensures.value c.in-Err-write_lines.ensures.err))
+    (wrote_front (texts c.args.words.now) (g.F.Files.content c.args.files.now) (g.O.Sink.written c.args.out.now) (g.O.Sink.written c.write_lines.new.out) (g.E.Sink.written c.args.err.now) (g.E.Sink.written c.args.err.now) c.in-Ok.lines c.in-Ok.ensures.step (subst (λ ls. AppendsFront (g.O.Sink.written c.args.out.now) (g.O.Sink.written c.write_lines.new.out) (concat (contents ls))) c.deref.ensures.value c.in-Err-write_lines.ensures.err))
 
 pub returns-in-Ok-clause-line : goal.returns-in-Ok-clause-line
 returns-in-Ok-clause-line g c = λ h. line_of_write (texts c.args.words.now) (g.F.Files.content c.args.files.now) (g.O.Sink.written c.args.out.now) (g.O.Sink.written c.write_lines.new.out) (g.E.Sink.written c.args.err.now) (g.E.Sink.written c.report.new.err) (g.F.Files.read_faults c.args.files.now) (g.F.Files.read_faults c.answer.new.files) (g.O.Sink.faults c.args.out.now) (g.O.Sink.faults c.write_lines.new.out) c.in-Err-write_lines.stop c.in-Err-write_lines.ensures.cause (c.report.ensures.memory h)
 
 pub returns-in-Ok-clause-complete : goal.returns-in-Ok-clause-complete
 returns-in-Ok-clause-complete g c = λ told e is k reads writes. inr (write_complete c.report.result (g.E.Sink.written c.args.err.now) (g.E.Sink.written c.report.new.err) (g.E.Sink.faults c.args.err.now) (g.E.Sink.faults c.report.new.err) c.in-Err-write_lines.stop (g.O.Sink.faults c.args.out.now) (g.O.Sink.faults c.write_lines.new.out) c.report.ensures.told c.in-Err-write_lines.ensures.cause
-    (writes (answers (texts c.args.words.now) told (texts c.in-Ok.lines.items) (told_meets (texts c.args.words.now) (g.F.Files.content c.args.files.now) (Ok c.in-Ok.lines) c.in-Ok.ensures.step told is) e k)))
+    (writes (answers (texts c.args.words.now) told (contents c.in-Ok.lines.items) (told_meets (texts c.args.words.now) (g.F.Files.content c.args.files.now) (Ok c.in-Ok.lines) c.in-Ok.ensures.step told is) e k)))
 
 pub returns-clause-outcome : goal.returns-clause-outcome
 returns-clause-outcome g c = λ h.

@@ -1,0 +1,206 @@
+-- The command of the words, by its name and the words after it.
+use Rattle.std.proofs.Common.{◌≡◌, ◌∙◌, ◌⊎◌, inl, inr, Bool, true, false, not, ◌&&◌, ◌==◌, ℕ, List, [], ◌∷◌, length, slice_index_or, drop, string_bytes, String, Global, ◌≤◌, cond, sym, ap, subst, refl, codes, arith, true≢false}
+use Rattle.std.proofs.lemmas.Slice.Eq.{bytes_eq-Decides}
+use Rattle.std.proofs.lemmas.Bool.Decides.{nat_tests}
+use Rattle.std.specs.declared.option.Option.{Option}
+use Rattle.std.specs.declared.option.Option.TheVariants.{None, Some}
+use Rattle.std.specs.Option.{option_map}
+use Rattle.std.specs.Prelude.{option_and_then}
+use Rattle.std.specs.Str.{bytes_eq}
+use Rattle.std.specs.List.{list_all}
+use Rattle.pc_text.specs.Numerals.{numeral}
+use Rattle.std.specs.declared.result.Result.TheVariants.{Ok, Err}
+use Rattle.clap.specs.declared.error.kind.ErrorKind.{ErrorKind}
+use Rattle.clap.specs.declared.error.kind.ErrorKind.TheVariants as kind
+use Rattle.coho_main.specs.declared.cause.Cause.TheVariants as cause
+use Rattle.coho_main.specs.declared.stop.Stop.{Stop}
+use Rattle.coho_main.specs.declared.stop.Stop.TheVariants as stop
+use Rattle.coho_main.specs.declared.words.Command.{Command as Named}
+use Rattle.coho_main.specs.Steps.{OrRefuse}
+use Rattle.coho_main.specs.Stops.{IsWordsStop, Settles, parse_stop}
+use Rattle.coho_main.specs.Refusals.{words_refused}
+use Rattle.coho_main.specs.Outcome.{Ask}
+use Rattle.coho_main.specs.Words.{Command, Group, Resolve, Ring, asked, command, file_and_degree, is_path, one_operand, texts, two_operands, with_degree}
+
+abbrev Text : Type 0
+Text = List ℕ
+
+both : (a b : Bool) → (a && b) ≡ true → (a ≡ true) × (b ≡ true)
+both true b e = (refl, e)
+both false b e = absurd (true≢false (sym e))
+
+negated : (a : Bool) → not a ≡ false → a ≡ true
+negated true e = refl
+negated false e = absurd (true≢false e)
+
+is_name : (name known : Text) → bytes_eq name known ≡ true → name ≡ known
+is_name name known e = (bytes_eq-Decides name known).0 e
+
+-- ---- words of which none is empty or begins with a dash
+
+group_at : (rest : List Text) → list_all is_path rest ≡ true → command (codes "group" ∷ rest) ≡ option_map Group (one_operand (codes "group" ∷ rest))
+group_at [] h = refl
+group_at (a ∷ []) h = rw (both (is_path a) _ h).0 refl
+group_at (a ∷ b ∷ []) h = refl
+group_at (a ∷ b ∷ c ∷ rest) h = refl
+
+-- what a command with a file and a degree asks for
+abbrev pub of_degree : (Text → ℕ → Command) → Option (Text × ℕ) → Option Command
+of_degree make o = option_map (λ p. make p.0 p.1) o
+
+same_degree : (make : Text → ℕ → Command) (a : Text) (o : Option ℕ) → option_map (make a) o ≡ of_degree make (option_map (λ n. (a, n)) o)
+same_degree make a None = refl
+same_degree make a (Some n) = refl
+
+resolve_at : (rest : List Text) → list_all is_path rest ≡ true → command (codes "resolve" ∷ rest) ≡ of_degree Resolve (file_and_degree (codes "resolve" ∷ rest))
+resolve_at [] h = refl
+resolve_at (a ∷ []) h = refl
+resolve_at (a ∷ b ∷ []) h = rw (both (is_path a) _ h).0 (same_degree Resolve a (numeral 1 24 b))
+resolve_at (a ∷ b ∷ c ∷ rest) h = refl
+
+ring_at : (rest : List Text) → list_all is_path rest ≡ true → command (codes "ring" ∷ rest) ≡ of_degree Ring (file_and_degree (codes "ring" ∷ rest))
+ring_at [] h = refl
+ring_at (a ∷ []) h = refl
+ring_at (a ∷ b ∷ []) h = rw (both (is_path a) _ h).0 (same_degree Ring a (numeral 1 24 b))
+ring_at (a ∷ b ∷ c ∷ rest) h = refl
+
+pub group_is : (name : Text) (rest : List Text) → list_all is_path (name ∷ rest) ≡ true → bytes_eq name (codes "group") ≡ true → command (name ∷ rest) ≡ option_map Group (one_operand (name ∷ rest))
+group_is name rest h e =
+    subst (λ n. list_all is_path (n ∷ rest) ≡ true → command (n ∷ rest) ≡ option_map Group (one_operand (n ∷ rest))) (sym (is_name name (codes "group") e)) (group_at rest) h
+
+pub resolve_is : (name : Text) (rest : List Text) → list_all is_path (name ∷ rest) ≡ true → bytes_eq name (codes "resolve") ≡ true → command (name ∷ rest) ≡ of_degree Resolve (file_and_degree (name ∷ rest))
+resolve_is name rest h e =
+    subst (λ n. list_all is_path (n ∷ rest) ≡ true → command (n ∷ rest) ≡ of_degree Resolve (file_and_degree (n ∷ rest))) (sym (is_name name (codes "resolve") e)) (resolve_at rest) h
+
+pub ring_is : (name : Text) (rest : List Text) → list_all is_path (name ∷ rest) ≡ true → bytes_eq name (codes "ring") ≡ true → command (name ∷ rest) ≡ of_degree Ring (file_and_degree (name ∷ rest))
+ring_is name rest h e =
+    subst (λ n. list_all is_path (n ∷ rest) ≡ true → command (n ∷ rest) ≡ of_degree Ring (file_and_degree (n ∷ rest))) (sym (is_name name (codes "ring") e)) (ring_at rest) h
+
+-- ---- words of no command
+
+pub other_is : (name : Text) (rest : List Text) → bytes_eq name (codes "group") ≡ false → bytes_eq name (codes "resolve") ≡ false → bytes_eq name (codes "ring") ≡ false → command (name ∷ rest) ≡ None
+other_is name [] g r s = refl
+other_is name (a ∷ []) g r s = rw g refl
+other_is name (a ∷ b ∷ []) g r s = rw (r, s) refl
+other_is name (a ∷ b ∷ c ∷ rest) g r s = refl
+
+dash_first : (word : Text) → is_path word ≡ false → numeral 1 24 word ≡ None
+dash_first [] h = refl
+dash_first (b ∷ bs) h = subst (λ b. numeral 1 24 (b ∷ bs) ≡ None) (sym dash) (at bs)
+  where
+    dash : b ≡ 45
+    dash = let e = negated (b == 45) h in grind (arith, nat_tests)
+
+    at : (bs : Text) → numeral 1 24 (45 ∷ bs) ≡ None
+    at [] = refl
+    at (c ∷ bs) = refl
+
+unless : {A : Type 0} (t p : Bool) (x y : Option A) → (t ≡ true → p ≡ true → x ≡ None) → y ≡ None → cond (t && p) x y ≡ None
+unless true true x y h k = h refl refl
+unless true false x y h k = k
+unless false p x y h k = k
+
+-- of the words after a plain name, and after a plain file, the next is not plain
+after_name : (name known : Text) (rest : List Text) → list_all is_path (name ∷ rest) ≡ false → is_path known ≡ true → bytes_eq name known ≡ true → list_all is_path rest ≡ false
+after_name name known rest h k e = rw (is_name name known e, k) at h
+
+after_file : (a : Text) (rest : List Text) → list_all is_path (a ∷ rest) ≡ false → is_path a ≡ true → list_all is_path rest ≡ false
+after_file a rest h p = rw p at h
+
+ends : (b : Text) → list_all is_path (b ∷ []) ≡ false → is_path b ≡ false
+ends b h = go (is_path b) h
+  where
+    go : (t : Bool) → (t && true) ≡ false → t ≡ false
+    go true e = e
+    go false e = refl
+
+pub dashed_is : (words : List Text) → list_all is_path words ≡ false → command words ≡ None
+dashed_is [] h = refl
+dashed_is (name ∷ []) h = refl
+dashed_is (name ∷ a ∷ []) h =
+    unless (bytes_eq name (codes "group")) (is_path a) (Some (Group a)) None (λ e p. absurd (true≢false (after_file a [] (after_name name (codes "group") (a ∷ []) h refl e) p))) refl
+dashed_is (name ∷ a ∷ b ∷ []) h =
+    let no_degree = λ (known : Text) (k : is_path known ≡ true) (e : bytes_eq name known ≡ true) (p : is_path a ≡ true). dash_first b (ends b (after_file a (b ∷ []) (after_name name known (a ∷ b ∷ []) h k e) p)) in
+    unless (bytes_eq name (codes "resolve")) (is_path a) (option_map (Resolve a) (numeral 1 24 b)) _ (λ e p. ap (option_map (Resolve a)) (no_degree (codes "resolve") refl e p))
+    (unless (bytes_eq name (codes "ring")) (is_path a) (option_map (Ring a) (numeral 1 24 b)) None (λ e p. ap (option_map (Ring a)) (no_degree (codes "ring") refl e p)) refl)
+dashed_is (name ∷ a ∷ b ∷ c ∷ rest) h = refl
+
+-- ---- so the words are read as their command says
+
+some_asked : (o : Option Command) (found : Named) → o ≡ Some (asked found) → Settles asked (OrRefuse words_refused o) (Ok found)
+some_asked o found e = subst (λ o. Settles asked (OrRefuse words_refused o) (Ok found)) (sym e) (λ files. (refl, refl))
+
+none_asked : (o : Option Command) → o ≡ None → Settles asked (OrRefuse words_refused o) (Err (stop.Refused cause.Words))
+none_asked o e = subst (λ o. Settles asked (OrRefuse words_refused o) (Err (stop.Refused cause.Words))) (sym e) (λ files. (refl, refl))
+
+pub reads : (words : List Text) (found : Named) → command words ≡ Some (asked found) → Settles asked (Ask words) (Ok found)
+reads words found e = some_asked (command words) found e
+
+pub refuses : (words : List Text) → command words ≡ None → Settles asked (Ask words) (Err (stop.Refused cause.Words))
+refuses words e = none_asked (command words) e
+
+-- a parse that fails is refused by the words, or for want of memory
+pub unread : (words : List Text) (k : ErrorKind) → (k ≡ kind.OutOfMemory) ⊎ (command words ≡ None) → Settles asked (Ask words) (Err (parse_stop k))
+unread words k (inl e) = rw e tt
+unread words k (inr e) = go k
+  where
+    go : (k : ErrorKind) → Settles asked (Ask words) (Err (parse_stop k))
+    go kind.OutOfMemory = tt
+    go _ = refuses words e
+
+pub unread_words : (P : Type 0) (k : ErrorKind) → (k ≡ kind.OutOfMemory) ⊎ P → IsWordsStop P (parse_stop k)
+unread_words P k (inl e) = rw e tt
+unread_words P k (inr p) = go k
+  where
+    go : (k : ErrorKind) → IsWordsStop P (parse_stop k)
+    go kind.OutOfMemory = tt
+    go _ = p
+
+-- a call stopped at the words
+pub stopped : (words : List Text) (P : Type 0) (s : Stop) → IsWordsStop P s → (P → command words ≡ None) → Settles asked (Ask words) (Err s)
+stopped words P (stop.Refused cause.Words) h none = refuses words (none h)
+stopped words P (stop.Refused cause.Length) h none = absurd h
+stopped words P (stop.Refused (cause.Text kind line column)) h none = absurd h
+stopped words P (stop.Refused cause.Order) h none = absurd h
+stopped words P (stop.Refused (cause.Inconsistent name)) h none = absurd h
+stopped words P (stop.Refused (cause.Stage d X)) h none = absurd h
+stopped words P (stop.Refused (cause.Monomials d X)) h none = absurd h
+stopped words P (stop.Read path) h none = absurd h
+stopped words P stop.Write h none = absurd h
+stopped words P stop.Memory h none = tt
+
+pub degree_found : (words : List Text) (path word : Text) (n : ℕ) → two_operands words ≡ Some (path, word) → numeral 1 24 word ≡ Some n → file_and_degree words ≡ Some (path, n)
+degree_found words path word n is number = ap (option_and_then with_degree) is ∙ ap (option_map (λ n. (path, n))) number
+
+pub degree_none : (words : List Text) (path word : Text) → two_operands words ≡ Some (path, word) → numeral 1 24 word ≡ None → file_and_degree words ≡ None
+degree_none words path word is number = ap (option_and_then with_degree) is ∙ ap (option_map (λ n. (path, n))) number
+
+pub operands_none : (words : List Text) (k : ErrorKind) → (k ≡ kind.OutOfMemory) ⊎ (two_operands words ≡ None) → (k ≡ kind.OutOfMemory) ⊎ (file_and_degree words ≡ None)
+operands_none words k (inl m) = inl m
+operands_none words k (inr none) = inr (ap (option_and_then with_degree) none)
+
+-- ---- the same of the words as they are given
+
+pub named : (words : List (String Global)) (name : String Global) → 1 ≤ length words → name ≡ slice_index_or words 0 name → texts words ≡ string_bytes name ∷ drop 1 (texts words)
+named [] name some is = absurd (omega arith)
+named (x ∷ xs) name some is = ap (λ (n : String Global). string_bytes n ∷ texts xs) (sym is)
+
+module _ (words rest : List Text) (plain : list_all is_path words ≡ true) (name : Text) (first : words ≡ name ∷ rest) where
+  at_group : bytes_eq name (codes "group") ≡ true → command words ≡ option_map Group (one_operand words)
+  at_group e = subst (λ ws. command ws ≡ option_map Group (one_operand ws)) (sym first) (group_is name rest (subst (λ ws. list_all is_path ws ≡ true) first plain) e)
+
+  pub group_found : bytes_eq name (codes "group") ≡ true → (path : Text) → one_operand words ≡ Some path → command words ≡ Some (Group path)
+  group_found e path is = at_group e ∙ ap (option_map Group) is
+
+  pub group_none : (k : ErrorKind) → bytes_eq name (codes "group") ≡ true → (k ≡ kind.OutOfMemory) ⊎ (one_operand words ≡ None) → (k ≡ kind.OutOfMemory) ⊎ (command words ≡ None)
+  group_none k e (inl m) = inl m
+  group_none k e (inr none) = inr (at_group e ∙ ap (option_map Group) none)
+
+  pub at_resolve : bytes_eq name (codes "resolve") ≡ true → command words ≡ of_degree Resolve (file_and_degree words)
+  at_resolve e = subst (λ ws. command ws ≡ of_degree Resolve (file_and_degree ws)) (sym first) (resolve_is name rest (subst (λ ws. list_all is_path ws ≡ true) first plain) e)
+
+  pub at_ring : bytes_eq name (codes "ring") ≡ true → command words ≡ of_degree Ring (file_and_degree words)
+  at_ring e = subst (λ ws. command ws ≡ of_degree Ring (file_and_degree ws)) (sym first) (ring_is name rest (subst (λ ws. list_all is_path ws ≡ true) first plain) e)
+
+  pub other_none : bytes_eq name (codes "group") ≡ false → bytes_eq name (codes "resolve") ≡ false → bytes_eq name (codes "ring") ≡ false → command words ≡ None
+  other_none g r s = ap command first ∙ other_is name rest g r s

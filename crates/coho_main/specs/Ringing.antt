@@ -1,0 +1,37 @@
+-- The report on the ring of a presentation's group, or why there is none.
+use Rattle.std.specs.Prelude.{ℕ, ⊤}
+use Rattle.group_table.specs.Tables.{GroupTable}
+use Rattle.power_commutator.specs.Presentations.{Presentation}
+use Rattle.group_algebra.specs.PGroups.{IsPGroup}
+use Rattle.coho_report.specs.Values.{ReportValue}
+use Rattle.coho_report.specs.Reports.{IsReport, HasFewMonomials, IsFirstTooMany}
+use Rattle.coho_report.specs.declared.fault.ReportFault.{ReportFault}
+use Rattle.coho_report.specs.declared.fault.ReportFault.TheVariants as fault
+use Rattle.coho_main.specs.declared.cause.Cause.TheVariants as cause
+use Rattle.coho_main.specs.declared.stop.Stop.{Stop}
+use Rattle.coho_main.specs.declared.stop.Stop.TheVariants as stop
+use Rattle.coho_main.specs.Layers.{IsTableOf}
+
+-- the report through degree n, where no degree has more than 4096 monomials, for the group of P
+pub record IsReportOf (P : Presentation) (n : ℕ) (report : ReportValue) : Type 0 where
+  pub group : GroupTable
+  pub is_table : IsTableOf P group
+  pub few : (h : IsPGroup group) → HasFewMonomials group h n 4096
+  pub is : (h : IsPGroup group) → IsReport group h n report
+
+-- degree d is the first to n that has more than 4096 monomials, and X their number, for the group of P
+pub record HasTooMany (P : Presentation) (n d X : ℕ) : Type 0 where
+  pub group : GroupTable
+  pub is_table : IsTableOf P group
+  pub is_first : (h : IsPGroup group) → IsFirstTooMany group h n 4096 d X
+
+-- the program's stop at a fault
+abbrev pub stop_of : ReportFault → Stop
+stop_of (fault.TooManyMonomials d X) = stop.Refused (cause.Monomials d X)
+stop_of fault.Memory = stop.Memory
+
+-- the stop names the first degree to n that has too many monomials, or memory was wanting
+abbrev pub IsReportStop : Presentation → ℕ → Stop → Type 0
+IsReportStop P n (stop.Refused (cause.Monomials d X)) = HasTooMany P n d X
+IsReportStop P n stop.Memory = ⊤
+IsReportStop P n _ = ⊥

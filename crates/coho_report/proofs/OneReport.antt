@@ -1,0 +1,73 @@
+-- Generators by spans are one list, and so is a report.
+use Rattle.std.proofs.Common.{◌≡◌, ◌∙◌, inl, inr, ℕ, zero, suc, ◌-◌, ◌<◌, min, List, [], ◌∷◌, ◌++◌, map, length, sym, ap, subst, arith}
+use Rattle.group_table.specs.Tables.{GroupTable}
+use Rattle.group_algebra.specs.PGroups.{IsPGroup, largest_residue}
+use Rattle.graded_polynomials.specs.Monomials.{IsMonomials}
+use Rattle.graded_polynomials.proofs.MonomialLists.{monomials-unique}
+use Rattle.graded_polynomials.specs.Polynomials.{Polynomial}
+use Rattle.graded_algebra.specs.Algebras.{Algebra, Generator, degrees, evaluate}
+use Rattle.graded_algebra.specs.Presentations.{IsChosen, IsSpanGenerators, IsRelations, generators_of}
+use Rattle.graded_algebra.specs.Vectors.{Vector}
+use Rattle.graded_algebra.proofs.Unique.{relations-unique}
+use Rattle.graded_algebra.proofs.VectorLemmas.{vector-space}
+use Rattle.chain_lift.specs.Products.{multiply}
+use Rattle.ring_present.specs.Rings.{cohomology, dual_basis, IsPresentation, IsTooMany}
+use Rattle.coho_report.specs.Values.{ReportValue}
+use Rattle.coho_report.specs.Reports.{IsReport, IsFirstTooMany}
+
+module _ (q : ℕ) {V : Type 0} (A : Algebra V) where
+  chosen-unique : (us vs before cs ds : List V) → IsChosen q A us vs before cs → IsChosen q A us vs before ds → cs ≡ ds
+  chosen-unique us [] before cs ds c d = c ∙ sym d
+  chosen-unique us (v ∷ vs) before cs ds (inl c) (inl d) = chosen-unique us vs before cs ds c.1 d.1
+  chosen-unique us (v ∷ vs) before cs ds (inl c) (inr d) = absurd (d.0 c.0)
+  chosen-unique us (v ∷ vs) before cs ds (inr c) (inl d) = absurd (c.0 d.0)
+  chosen-unique us (v ∷ vs) before cs ds (inr c) (inr d) = chosen-unique us vs (before ++ v ∷ []) cs ds c.1 d.1
+
+  pub span-generators-unique : (basis : ℕ → List V) (n : ℕ) (gs hs : List (Generator V)) → IsSpanGenerators q A basis n gs → IsSpanGenerators q A basis n hs → gs ≡ hs
+  span-generators-unique basis zero gs hs g h = g ∙ sym h
+  span-generators-unique basis (suc d) gs hs g h =
+      let same = span-generators-unique basis d g.0 h.0 g.3 h.3 in
+      let monomials = monomials-unique q (degrees h.0) (suc d) g.1 h.1 (subst (λ b. IsMonomials q (degrees b) (suc d) g.1) same g.4) h.4 in
+      let chosen = chosen-unique (map (evaluate A h.0) h.1) (basis (suc d)) [] g.2 h.2
+      (subst (λ ms. IsChosen q A (map (evaluate A h.0) ms) (basis (suc d)) [] g.2) monomials (subst (λ b. IsChosen q A (map (evaluate A b) g.1) (basis (suc d)) [] g.2) same g.5)) h.5 in
+      g.6 ∙ ap (λ b. b ++ generators_of q A (suc d) g.2) same ∙ ap (λ c. h.0 ++ generators_of q A (suc d) c) chosen ∙ sym h.6
+
+module _ (G : GroupTable) (h : IsPGroup G) where
+  abbrev Class : Type 0
+  Class = Vector (largest_residue G)
+
+  same_generators : (n : ℕ) (gs hs : List (Generator Class)) (rs ss : List Polynomial) → IsPresentation G h n gs rs → IsPresentation G h n hs ss → gs ≡ hs
+  same_generators n gs hs rs ss g k = span-generators-unique (largest_residue G) (cohomology G h) (dual_basis G h) n gs hs g.generators_are k.generators_are
+
+  same_relations : (n : ℕ) (gs hs : List (Generator Class)) (rs ss : List Polynomial) → IsPresentation G h n gs rs → IsPresentation G h n hs ss → rs ≡ ss
+  same_relations n gs hs rs ss g k =
+      let same = same_generators n gs hs rs ss g k in
+      relations-unique (largest_residue G) Class (cohomology G h) (vector-space (largest_residue G) (multiply G h)) hs n rs ss
+      (subst (λ gs. IsRelations (largest_residue G) (cohomology G h) gs n rs) same g.relations_are) k.relations_are
+
+  pub one_report : (n : ℕ) (r s : ReportValue) → IsReport G h n r → IsReport G h n s → r ≡ s
+  one_report n r s a b =
+      let generators = a.degrees_are ∙ ap degrees (same_generators n a.generators b.generators r.relations s.relations a.presentation b.presentation) ∙ sym b.degrees_are in
+      let relations = same_relations n a.generators b.generators r.relations s.relations a.presentation b.presentation in
+      let prime = a.prime ∙ sym b.prime in
+      let orders = a.order_is ∙ sym b.order_is in
+      let degree = a.degree ∙ sym b.degree in
+      let ranks = a.ranks ∙ sym b.ranks in
+      λ i. record { prime = prime i; order = orders i; degree = degree i; ranks = ranks i; generators = generators i; relations = relations i }
+
+  one_count : (d cap x y : ℕ) → IsTooMany G h d cap x → IsTooMany G h d cap y → x ≡ y
+  one_count d cap x y a b =
+      let same = span-generators-unique (largest_residue G) (cohomology G h) (dual_basis G h) (d - 1) a.generators b.generators a.generators_are b.generators_are in
+      let monomials = monomials-unique (largest_residue G) (degrees b.generators) d a.monomials b.monomials
+      (subst (λ gs. IsMonomials (largest_residue G) (degrees gs) d a.monomials) same a.monomials_are) b.monomials_are in
+      a.count_is ∙ ap (λ ms. min (length ms) 18446744073709551615) monomials ∙ sym b.count_is
+
+  not_less : (n cap d x e y : ℕ) → IsFirstTooMany G h n cap d x → IsFirstTooMany G h n cap e y → d < e → ⊥
+  not_less n cap d x e y a b less = b.first d a.from less x a.is
+
+  pub one_refusal : (n cap d x e y : ℕ) → IsFirstTooMany G h n cap d x → IsFirstTooMany G h n cap e y → (d ≡ e) × (x ≡ y)
+  one_refusal n cap d x e y a b =
+      let left = not_less n cap d x e y a b in
+      let right = not_less n cap e y d x b a in
+      let same : d ≡ e = grind (arith, left, right) in
+      (same, one_count e cap x y (subst (λ d. IsTooMany G h d cap x) same a.is) b.is)

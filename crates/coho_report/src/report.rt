@@ -1,0 +1,49 @@
+//! What a report holds.
+
+ghost use Rattle.std.specs.Prelude.{◌≡◌, length};
+
+use ring_present::Ring;
+use std::marker::Model;
+
+/// What the answer to `ring` tells: the prime, the order of the group, the degree through which the ring is known, the ranks, the generators by
+/// their degrees, and the relations.
+#[derive(Drop)]
+pub struct Report {
+    pub(crate) order: u16,
+    pub(crate) ranks: Vec<usize>,
+    pub(crate) ring: Ring,
+}
+
+impl Model for Report {
+    ghost use Rattle.std.specs.Prelude.{map};
+    ghost use Rattle.coho_report.specs.Values.{ReportValue, AreOver};
+
+    ghost Value = { ReportValue };
+
+    ghost view = { λ r. record {
+      prime = r.ring.prime;
+      order = r.order;
+      degree = r.ring.degree;
+      ranks = r.ranks.items;
+      generators = map (λ g. g.degree) r.ring.generators;
+      relations = r.ring.relations;
+    } };
+
+    ghost invariant = { λ r. AreOver r.ring.prime (map (λ g. g.degree) r.ring.generators) r.ring.relations };
+}
+
+impl Report {
+    /// The number of generators.
+    pub fn generators(&self) -> usize
+        ensures { result ≡ length self.now.generators }
+    {
+        self.ring.gens().len()
+    }
+
+    /// The number of relations.
+    pub fn relations(&self) -> usize
+        ensures { result ≡ length self.now.relations }
+    {
+        self.ring.relations()
+    }
+}

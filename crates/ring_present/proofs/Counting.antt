@@ -1,0 +1,44 @@
+-- The number of the monomials of the next degree.
+use Rattle.std.proofs.Common.{◌≡◌, ℕ, suc, ◌-◌, ◌<◌, ◌≤◌, List, length, arith, sym}
+use Rattle.std.specs.Prelude.{min, All}
+use mathlib.Core.Path.{subst}
+use Rattle.group_table.specs.Tables.{GroupTable}
+use Rattle.group_algebra.specs.PGroups.{IsPGroup, largest_residue}
+use Rattle.graded_polynomials.specs.Monomials.{IsMonomials}
+use Rattle.graded_algebra.specs.Algebras.{degrees}
+use Rattle.graded_algebra.specs.Presentations.{IsSpanGenerators}
+use Rattle.gc_poly.specs.Generators.{Generators, greatest}
+use Rattle.gc_poly.specs.AllMonomials.{all_monomials}
+use Rattle.gc_poly.proofs.AllLemmas.{all-monomials}
+use Rattle.chain_lift.specs.Values.{LiftValue}
+use Rattle.ring_present.specs.Rings.{cohomology, dual_basis, IsTooMany}
+use Rattle.ring_present.specs.Degrees.{classes, degrees_of, IsLiftBelow}
+use Rattle.ring_present.proofs.Factors.{positive-degrees}
+use Rattle.ring_present.proofs.Nexts.{monomials-of-gens}
+
+-- what a count of the monomials of degree d says
+abbrev pub IsCount : Generators → ℕ → ℕ → Type 0
+IsCount gens d count = (ms : List (List ℕ)) → IsMonomials (greatest gens) gens.degrees d ms → count ≡ min (length ms) 18446744073709551615
+
+pub too-many : (G : GroupTable) (h : IsPGroup G) (n m d cap count : ℕ) (lifts : List LiftValue) (gens : Generators) → d ≡ suc n → IsSpanGenerators (largest_residue G) (cohomology G h) (dual_basis G h) n (classes G h lifts)
+    → All (IsLiftBelow G m) lifts → gens ≡ record { prime = G.p; degrees = degrees_of lifts } → IsCount gens d count → cap < count → IsTooMany G h (suc n) cap count
+too-many G h n m d cap count lifts gens ed S b e C l = record {
+  generators = classes G h lifts;
+  monomials = ms;
+  generators_are = subst (λ k. IsSpanGenerators (largest_residue G) (cohomology G h) (dual_basis G h) k (classes G h lifts)) (let z : n ≡ suc n - 1 = omega arith in z) S;
+  monomials_are = are;
+  count_is = C ms (subst (λ k. IsMonomials (greatest gens) gens.degrees k ms) (sym ed) (monomials-of-gens G h lifts gens (suc n) ms e are));
+  above = l;
+}
+  where
+    ms : List (List ℕ)
+    ms = all_monomials (largest_residue G) (degrees (classes G h lifts)) (suc n)
+
+    are : IsMonomials (largest_residue G) (degrees (classes G h lifts)) (suc n) ms
+    are = all-monomials (largest_residue G) (degrees (classes G h lifts)) (positive-degrees G h m lifts b) (suc n)
+
+pub counted : (p n d cap count : ℕ) (ds : List ℕ) (gens : Generators) → d ≡ suc n → gens ≡ record { prime = p; degrees = ds } → IsCount gens d count → count ≤ cap
+    → (ms : List (List ℕ)) → IsMonomials (p - 1) ds (suc n) ms → min (length ms) 18446744073709551615 ≤ cap
+counted p n d cap count ds gens ed e C l ms M =
+    let c = C ms (subst (λ (g : Generators). IsMonomials (greatest g) g.degrees d ms) (sym e) (subst (λ k. IsMonomials (p - 1) ds k ms) (sym ed) M)) in
+    subst (λ k. k ≤ cap) c l

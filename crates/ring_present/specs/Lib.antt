@@ -1,0 +1,9 @@
+pub mod Rings
+pub mod Values
+pub mod Prefixes
+pub mod Refusals
+pub mod Standard
+pub mod Degrees
+pub mod Multiples
+pub mod Nexts
+pub mod Stores

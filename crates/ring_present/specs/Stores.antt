@@ -1,0 +1,27 @@
+-- What a ring keeps.
+use Rattle.std.specs.Prelude.{◌≡◌, ◌≤◌, List, [], length, Option, MatchOption}
+use Rattle.group_table.specs.Tables.{GroupTable}
+use Rattle.group_algebra.specs.PGroups.{IsPGroup}
+use Rattle.graded_polynomials.specs.Polynomials.{Polynomial}
+use Rattle.gc_poly.specs.Generators.{Generators}
+use Rattle.chain_lift.specs.Values.{LiftValue}
+use Rattle.ring_present.specs.Rings.{IsPresentation}
+use Rattle.ring_present.specs.Degrees.{IsLower, classes, degrees_of}
+use Rattle.ring_present.specs.declared.degree.Degree.{Degree}
+
+-- generators, relations and degrees of the ring of G
+pub record IsRingOf (G : GroupTable) (gens : Generators) (lifts : List LiftValue) (relations : List Polynomial) (Ds : List Degree) : Type 0 where
+  pub high : length Ds ≤ 24
+  pub prime : gens.prime ≡ G.p
+  pub presentation : (h : IsPGroup G) → IsPresentation G h (length Ds) (classes G h lifts) relations
+  pub lower : IsLower G lifts Ds
+
+-- the ring through degree 0
+pub record IsEmpty (lifts : List LiftValue) (relations : List Polynomial) (Ds : List Degree) : Type 0 where
+  pub no_generators : lifts ≡ []
+  pub no_relations : relations ≡ []
+  pub no_degrees : Ds ≡ []
+
+pub record IsRingStore (group : Option GroupTable) (gens : Generators) (lifts : List LiftValue) (relations : List Polynomial) (Ds : List Degree) : Type 0 where
+  pub degrees_of_gens : gens.degrees ≡ degrees_of lifts
+  pub through : MatchOption group (IsEmpty lifts relations Ds) (λ G. IsRingOf G gens lifts relations Ds)

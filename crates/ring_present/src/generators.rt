@@ -1,0 +1,192 @@
+//! The new generators of a degree.
+
+ghost use Rattle.std.specs.Prelude.{◌≡◌, ℕ, suc, ◌+◌, ◌<◌, ◌≤◌, [], ◌∷◌, ◌++◌, List, length, map, replicate, All, IfOk, OnOk};
+ghost use Rattle.linear_algebra.specs.Rows.{IsEchelonOf, row};
+ghost use Rattle.linear_algebra.specs.Choices.{IsGreedy, rows_at};
+ghost use Rattle.group_table.specs.Prime.{prime_value};
+ghost use Rattle.fp_rows.specs.Refs.{entries_of, modulus_of};
+ghost use Rattle.group_algebra.specs.PGroups.{IsPGroup};
+ghost use Rattle.graded_polynomials.specs.Monomials.{IsGreater};
+ghost use Rattle.graded_polynomials.specs.Texts.{power};
+ghost use Rattle.presentation_rows.specs.Values.{AreUnitRows};
+ghost use Rattle.min_res.specs.Stages.{rank_of};
+ghost use Rattle.ring_present.specs.Degrees.{AreAll, IsLower, degrees_of, new_lift, kept};
+
+use crate::degree::Valued;
+use crate::values::Lower;
+use chain_lift::Lift;
+use fp_rows::{Echelon, Matrix, Positions, Row, RowRef, echelon, greedy};
+use gc_poly::{Gens, Mono};
+use group_table::{Memory, Prime};
+use min_res::Resolution;
+use std::alloc::Global;
+
+/// A copy of the generators, over the prime p.
+pub(crate) fn gens_over(alloc: Global, p: Prime, gens: &Gens) -> Result<Gens, Memory>
+    ensures { IfOk result (λ copy. copy ≡ record { prime = prime_value p; degrees = gens.now.degrees }) }
+{
+    let count = gens.len();
+    if count > u32::MAX as usize {
+        return Err(Memory);
+    }
+    let mut copy = Gens::new(alloc, p);
+    for i in 0..count {
+        copy.push(gens.degree(i))?;
+    }
+    Ok(copy)
+}
+
+/// Extends each lift to all products of degree d. After an error some may be extended.
+pub(crate) fn raise(lifts: &mut [Lift], res: &Resolution, d: u32) -> Result<(), Memory>
+    requires groups { All (λ l. l.group ≡ res.now.group) lifts.old }
+    requires degrees { All (λ l. l.degree ≤ d) lifts.old }
+    requires within { d ≤ res.now.last }
+    ensures kept { map kept lifts.new ≡ map kept lifts.old }
+    ensures raised { OnOk result (All (λ l. d ≤ l.degree + l.height) lifts.new) }
+{
+    for lift in lifts.iter_mut() {
+        lift.extend_to(res, d - lift.degree())?;
+    }
+    Ok(())
+}
+
+// The unit rows of a width.
+fn unit_rows(alloc: Global, p: Prime, width: usize) -> Result<Matrix, Memory>
+    ensures prime { IfOk result (λ m. m.p ≡ prime_value p) }
+    ensures width { IfOk result (λ m. m.width ≡ width) }
+    ensures rows { IfOk result (λ m. AreUnitRows width m.rows) }
+{
+    let mut rows = Matrix::new(alloc, p, width);
+    let mut unit = Row::zero(alloc, p, width)?;
+    for i in 0..width {
+        unit.clear();
+        unit.set(i, 1);
+        rows.push(unit.view())?;
+    }
+    Ok(rows)
+}
+
+/// The rows of the classes of the dual basis.
+pub(crate) fn dual_basis(alloc: Global, p: Prime, rank: usize) -> Result<Echelon, Memory>
+    ensures prime { IfOk result (λ e. e.p ≡ prime_value p) }
+    ensures width { IfOk result (λ e. e.width ≡ rank) }
+    ensures rows { IfOk result (λ e. AreUnitRows rank e.rows) }
+{
+    let rows = unit_rows(alloc, p, rank)?;
+    let basis = echelon(alloc, &rows)?;
+    Ok(basis)
+}
+
+/// The places in the dual basis of the new generators: no class is taken that is in the span of the values and of those taken before.
+/// There are no places of 2^32 and more.
+pub(crate) fn new_places(
+    alloc: Global,
+    basis: &Echelon,
+    values: &Matrix,
+) -> Result<Positions, Memory>
+    requires same_prime { basis.now.p ≡ values.now.p }
+    requires same_width { basis.now.width ≡ values.now.width }
+    ensures greedy { IfOk result (λ places. (span : List (List ℕ)) × IsEchelonOf values.now.p values.now.width values.now.rows span
+        × IsGreedy values.now.p basis.now.rows span places) }
+    ensures inside { IfOk result (λ places. All (λ k. k < length basis.now.rows) places) }
+{
+    if basis.rows() > u32::MAX as usize {
+        return Err(Memory);
+    }
+    let span = echelon(alloc, values)?;
+    let places = greedy(alloc, basis, &span)?;
+    Ok(places)
+}
+
+// So many zeros.
+fn zeros(alloc: Global, count: usize) -> Result<Vec<u8>, Memory>
+    ensures { IfOk result (λ v. v.items ≡ replicate count 0) }
+{
+    let zeros = vec![in alloc; 0u8; count]?;
+    Ok(zeros)
+}
+
+// The generator i as a monomial.
+fn generator_monomial(alloc: Global, i: usize) -> Result<Mono, Memory>
+    ensures { IfOk result (λ m. m ≡ power i 1) }
+{
+    let mut exponents = zeros(alloc, i)?;
+    exponents.push(1)?;
+    let monomial = Mono::of(alloc, &exponents)?;
+    Ok(monomial)
+}
+
+// Adds a generator of degree d with this class, and its monomial to those of degree d. There are fewer than 2^32 generators.
+fn add_generator(
+    alloc: Global,
+    res: &Resolution,
+    d: u32,
+    class: RowRef<'_>,
+    gens: &mut Gens,
+    lifts: &mut Vec<Lift>,
+    all: &mut Valued,
+) -> Result<(), Memory>
+    requires within { d ≤ res.now.last }
+    requires low { 1 ≤ d }
+    requires high { d ≤ 24 }
+    requires prime { modulus_of class ≡ res.now.group.p }
+    requires length { (h : IsPGroup res.now.group) → length (entries_of class) ≡ rank_of res.now.group h d }
+    requires order { All (λ e. e ≤ d) gens.old.degrees }
+    requires values_prime { all.old.values.p ≡ res.now.group.p }
+    requires values_width { all.old.values.width ≡ length (entries_of class) }
+    requires greater { All (λ m. IsGreater m (power (length gens.old.degrees) 1)) all.old.monomials }
+    ensures lifts { OnOk result (lifts.new.items ≡ lifts.old.items ++ new_lift res.now.group d (entries_of class.entry) ∷ []) }
+    ensures gens { OnOk result (gens.new ≡ record gens.old { degrees = gens.old.degrees ++ d ∷ [] }) }
+    ensures monomials { OnOk result (all.new.monomials ≡ all.old.monomials ++ power (length gens.old.degrees) 1 ∷ []) }
+    ensures values { OnOk result (all.new.values ≡ record all.old.values { rows = all.old.values.rows ++ entries_of class.entry ∷ [] }) }
+{
+    if gens.len() >= u32::MAX as usize {
+        return Err(Memory);
+    }
+    let lift = Lift::new(alloc, res, d, class)?;
+    all.monomials.push(generator_monomial(alloc, gens.len())?)?;
+    all.values.push(class)?;
+    gens.push(d)?;
+    lifts.push(lift)?;
+    Ok(())
+}
+
+impl<'a> Lower<'a> {
+    /// Adds the generators of degree d, the next one, with the classes at these places of the dual basis, and their monomials to all of
+    /// degree d.
+    pub(crate) fn new_generators(
+        &self,
+        alloc: Global,
+        res: &Resolution,
+        basis: &Echelon,
+        places: &Positions,
+        gens: &mut Gens,
+        all: &mut Valued,
+    ) -> Result<Vec<Lift>, Memory>
+        requires group { self.now.group.now ≡ res.now.group }
+        requires lower { IsLower self.now.group.now self.now.lifts.now self.now.degrees.now }
+        requires within { suc (length self.now.degrees.now) ≤ res.now.last }
+        requires high { length self.now.degrees.now < 24 }
+        requires basis_prime { basis.now.p ≡ res.now.group.p }
+        requires basis { (h : IsPGroup res.now.group) → AreUnitRows (rank_of res.now.group h (suc (length self.now.degrees.now))) basis.now.rows }
+        requires basis_width { (h : IsPGroup res.now.group) → basis.now.width ≡ rank_of res.now.group h (suc (length self.now.degrees.now)) }
+        requires places { All (λ k. k < length basis.now.rows) places.now }
+        requires gens { gens.old ≡ record { prime = res.now.group.p; degrees = degrees_of self.now.lifts.now } }
+        requires all { (h : IsPGroup res.now.group) → AreAll res.now.group h (suc (length self.now.degrees.now)) self.now.lifts.now all.old }
+        ensures lifts { IfOk result (λ lifts. lifts.items
+            ≡ map (λ k. new_lift res.now.group (suc (length self.now.degrees.now)) (row basis.now.rows k)) places.now) }
+        ensures gens { IfOk result (λ lifts. gens.new
+            ≡ record { prime = res.now.group.p; degrees = degrees_of (self.now.lifts.now ++ lifts.items) }) }
+        ensures all { IfOk result (λ lifts. (h : IsPGroup res.now.group)
+            → AreAll res.now.group h (suc (length self.now.degrees.now)) (self.now.lifts.now ++ lifts.items) all.new) }
+        ensures rows { IfOk result (λ lifts. all.new.values.rows ≡ all.old.values.rows ++ rows_at basis.now.rows places.now) }
+    {
+        let d = self.degrees.len() as u32 + 1;
+        let mut lifts = Vec::new(alloc);
+        for i in 0..places.len() {
+            let class = basis.row(places.get(i) as usize);
+            add_generator(alloc, res, d, class, gens, &mut lifts, all)?;
+        }
+        Ok(lifts)
+    }
+}

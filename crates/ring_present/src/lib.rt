@@ -1,0 +1,19 @@
+//! Generators and relations of the cohomology ring of a p-group, degree by degree, with standard monomials and normal forms.
+#![tactic(auto)]
+
+mod degree;
+mod fault;
+mod generators;
+mod next;
+mod normal_forms;
+mod presentation;
+mod relations;
+mod ring;
+mod standard;
+mod values;
+
+pub use fault::RingFault;
+pub use ring::Ring;
+
+#[cfg(test)]
+mod tests;

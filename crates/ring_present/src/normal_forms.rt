@@ -1,0 +1,29 @@
+// Being proved by helper R3: see /work/h/ring/NOTE-FROM-LEAD.md.
+//! Combinations of rows.
+
+ghost use Rattle.std.specs.Prelude.{◌≡◌, length, IfOk};
+ghost use Rattle.linear_algebra.specs.Rows.{entry, IsRow, IsCombination};
+ghost use Rattle.fp_rows.specs.Refs.{entries_of, modulus_of};
+
+use fp_rows::{Matrix, Row, RowRef};
+use group_table::Memory;
+use std::alloc::Global;
+
+/// The sum of the rows with these coefficients.
+pub(crate) fn combination(
+    alloc: Global,
+    rows: &Matrix,
+    coefficients: RowRef<'_>,
+) -> Result<Row, Memory>
+    requires prime { modulus_of coefficients ≡ rows.now.p }
+    requires length { length (entries_of coefficients) ≡ length rows.now.rows }
+    ensures prime { IfOk result (λ r. r.p ≡ rows.now.p) }
+    ensures row { IfOk result (λ r. IsRow rows.now.p rows.now.width r.entries) }
+    ensures combination { IfOk result (λ r. IsCombination rows.now.p (entry (entries_of coefficients.entry)) rows.now.rows (entry r.entries)) }
+{
+    let mut sum = Row::zero(alloc, rows.prime(), rows.width())?;
+    for i in 0..rows.rows() {
+        sum.add(coefficients.get(i), rows.row(i));
+    }
+    Ok(sum)
+}

@@ -1,0 +1,190 @@
+//! The ring through a degree.
+
+ghost use Rattle.std.specs.Prelude.{◌≡◌, ℕ, suc, ◌<◌, ◌≤◌, [], List, length, map, min, slice_get, slice_index_or};
+ghost use Rattle.std.specs.Prelude.{OnOk, OnErr, IfOk, IfErr, IfSome, Some, None};
+ghost use Rattle.group_table.specs.Prime.{prime_value};
+ghost use Rattle.group_table.specs.Tables.{GroupTable};
+ghost use Rattle.group_algebra.specs.PGroups.{IsPGroup, largest_residue};
+ghost use Rattle.graded_polynomials.specs.Monomials.{IsMonomials};
+ghost use Rattle.graded_algebra.specs.Algebras.{evaluate};
+ghost use Rattle.graded_algebra.specs.Presentations.{IsNormalForm};
+ghost use Rattle.presentation_rows.specs.Values.{vector_of};
+ghost use Rattle.fp_rows.specs.Refs.{entries_of, modulus_of};
+ghost use Rattle.min_res.specs.Stages.{rank_of};
+ghost use Rattle.ring_present.specs.Rings.{cohomology, IsPresentation};
+ghost use Rattle.ring_present.specs.Values.{GeneratorValue, generators_of, standard_of};
+ghost use Rattle.ring_present.specs.Standard.{AreStandard};
+ghost use Rattle.ring_present.specs.Refusals.{IsRefusal};
+ghost use Rattle.ring_present.specs.Prefixes.{IsPrefix};
+
+use crate::fault::RingFault;
+use crate::normal_forms::combination;
+use crate::presentation::Presentation;
+use crate::relations::polynomial_of;
+use fp_rows::RowRef;
+use gc_poly::{Gens, Monos, Poly};
+use group_table::{Memory, Prime};
+use min_res::Resolution;
+use std::alloc::Global;
+use std::marker::Model;
+
+/// Generators and relations of the cohomology ring of a p-group through a degree, with its standard monomials.
+///
+/// In each degree those classes of the dual basis are generators, in order, that are not in the span of the monomials in generators of lower
+/// degree and of the generators before; and there is one relation for each monomial that is the greatest of a polynomial of value 0 and not of
+/// a combination of multiples of relations of lower degree: the monomial minus the combination of standard monomials with the same value
+/// (Carlson, Townsley, Valeri-Elizondo and Zhang, "Cohomology Rings of Finite Groups").
+///
+/// It keeps the lifts of its generators, and by them the stages that it used, and borrows no resolution.
+#[derive(Drop)]
+pub struct Ring {
+    alloc: Global,
+    known: Presentation,
+}
+
+impl Model for Ring {
+    ghost use Rattle.std.specs.Prelude.{length, map};
+    ghost use Rattle.ring_present.specs.Values.{RingValue};
+
+    ghost Value = { RingValue };
+
+    ghost use Rattle.ring_present.specs.Degrees.{lifted};
+    ghost use Rattle.ring_present.specs.Stores.{IsRingStore};
+
+    ghost view = { λ r. record {
+      prime = r.known.gens.prime;
+      group = r.known.group;
+      degree = length r.known.degrees.items;
+      generators = lifted r.known.lifts.items;
+      relations = r.known.relations.items;
+      standard = map (λ d. d.standard.monomials) r.known.degrees.items;
+    } };
+
+    ghost invariant = { λ r. IsRingStore r.known.group r.known.gens r.known.lifts.items r.known.relations.items r.known.degrees.items };
+}
+
+impl Ring {
+    /// The ring through degree 0.
+    pub fn start(alloc: Global, p: Prime) -> Ring
+        ensures { result ≡ record { prime = prime_value p; group = None; degree = 0; generators = []; relations = []; standard = [] } }
+    {
+        Ring {
+            alloc,
+            known: Presentation {
+                group: None,
+                gens: Gens::new(alloc, p),
+                lifts: Vec::new(alloc),
+                relations: Vec::new(alloc),
+                degrees: Vec::new(alloc),
+            },
+        }
+    }
+
+    /// Adds the next degree, from a resolution of the same group. `TooManyMonomials` comes exactly where that degree has more than `cap`
+    /// monomials in the generators of lower degree. After an error the ring is as before.
+    pub fn add_degree(&mut self, res: &Resolution, cap: u64) -> Result<(), RingFault>
+        requires within { suc self.old.degree ≤ res.now.last }
+        requires high { self.old.degree < 24 }
+        requires same_group { IfSome self.old.group (λ G. G ≡ res.now.group) }
+        ensures group { OnOk result (self.new.group ≡ Some res.now.group) }
+        ensures prime { OnOk result (self.new.prime ≡ res.now.group.p) }
+        ensures degree { OnOk result (self.new.degree ≡ suc self.old.degree) }
+        ensures presentation { OnOk result ((h : IsPGroup res.now.group) → IsPresentation res.now.group h self.new.degree
+            (generators_of (largest_residue res.now.group) self.new.generators) self.new.relations) }
+        ensures generators_kept { OnOk result (IsPrefix self.old.generators self.new.generators) }
+        ensures relations_kept { OnOk result (IsPrefix self.old.relations self.new.relations) }
+        ensures standard_kept { OnOk result (IsPrefix self.old.standard self.new.standard) }
+        ensures counted { OnOk result ((ms : List (List ℕ))
+            → IsMonomials (largest_residue res.now.group) (map (λ g. g.degree) self.old.generators) (suc self.old.degree) ms
+            → min (length ms) 18446744073709551615 ≤ cap) }
+        ensures refused { IfErr result (λ e. (h : IsPGroup res.now.group) → IsRefusal res.now.group h (suc self.old.degree) cap e) }
+        ensures kept { OnErr result (self.new ≡ self.old) }
+    {
+        self.known.add_degree(self.alloc, res, cap)
+    }
+
+    /// The degree through which the ring is known.
+    pub fn degree(&self) -> u32
+        ensures { result ≡ self.now.degree }
+    {
+        self.known.degrees.len() as u32
+    }
+
+    /// The generators by their degrees.
+    pub fn gens(&self) -> &Gens
+        ensures { result.now ≡ record { prime = self.now.prime; degrees = map (λ g. g.degree) self.now.generators } }
+    {
+        &self.known.gens
+    }
+
+    /// The class of generator i, counted from 0.
+    pub fn class_of(&self, i: usize) -> RowRef<'_>
+        requires { i < length self.now.generators }
+        ensures entries { (g : GeneratorValue) → entries_of result ≡ (slice_index_or self.now.generators i g).class }
+        ensures modulus { modulus_of result ≡ self.now.prime }
+    {
+        self.known.lifts[i].class()
+    }
+
+    /// The number of relations.
+    pub fn relations(&self) -> usize
+        ensures { result ≡ length self.now.relations }
+    {
+        self.known.relations.len()
+    }
+
+    /// Relation i, counted from 0.
+    pub fn relation(&self, i: usize) -> &Poly
+        requires { i < length self.now.relations }
+        ensures { slice_get self.now.relations i ≡ Some result.now }
+    {
+        &self.known.relations[i]
+    }
+
+    /// The standard monomials of degree d, in descending order: those that are the greatest of no polynomial of value 0.
+    pub fn standard(&self, d: u32) -> &Monos
+        requires from { 1 ≤ d }
+        requires to { d ≤ self.now.degree }
+        ensures list { result.now ≡ standard_of self.now d }
+        ensures standard { (G : GroupTable) (h : IsPGroup G) → self.now.group ≡ Some G
+            → AreStandard (largest_residue G) (cohomology G h) (generators_of (largest_residue G) self.now.generators) d result.now }
+    {
+        &self.known.degrees[d as usize - 1].standard.monomials
+    }
+
+    /// The class to which standard monomial i of degree d evaluates.
+    pub fn standard_class(&self, d: u32, i: usize) -> RowRef<'_>
+        requires from { 1 ≤ d }
+        requires to { d ≤ self.now.degree }
+        requires within { i < length (standard_of self.now d) }
+        ensures modulus { modulus_of result ≡ self.now.prime }
+        ensures length { (G : GroupTable) (h : IsPGroup G) → self.now.group ≡ Some G → length (entries_of result) ≡ rank_of G h d }
+        ensures value { (G : GroupTable) (h : IsPGroup G) → self.now.group ≡ Some G → vector_of (largest_residue G) (entries_of result)
+            ≡ evaluate (cohomology G h) (generators_of (largest_residue G) self.now.generators) (slice_index_or (standard_of self.now d) i []) }
+    {
+        self.known.degrees[d as usize - 1].standard.values.row(i)
+    }
+
+    /// The one combination of standard monomials of degree d that evaluates to the class of this row.
+    pub fn normal_form(&self, alloc: Global, d: u32, class: RowRef<'_>) -> Result<Poly, Memory>
+        requires from { 1 ≤ d }
+        requires to { d ≤ self.now.degree }
+        requires prime { modulus_of class ≡ self.now.prime }
+        requires length { (G : GroupTable) (h : IsPGroup G) → self.now.group ≡ Some G → length (entries_of class) ≡ rank_of G h d }
+        ensures degree { IfOk result (λ f. f.degree ≡ d) }
+        ensures form { IfOk result (λ f. (G : GroupTable) (h : IsPGroup G) → self.now.group ≡ Some G
+            → IsNormalForm (largest_residue G) (cohomology G h) (generators_of (largest_residue G) self.now.generators) d
+            (vector_of (largest_residue G) (entries_of class.entry)) f.terms) }
+    {
+        let degree = &self.known.degrees[d as usize - 1];
+        let row = combination(alloc, &degree.preimages, class)?;
+        let form = polynomial_of(
+            alloc,
+            &self.known.gens,
+            d,
+            &degree.all.monomials,
+            row.view(),
+        )?;
+        Ok(form)
+    }
+}

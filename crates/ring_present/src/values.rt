@@ -1,0 +1,159 @@
+//! The classes to which monomials evaluate.
+
+ghost use Rattle.std.specs.Prelude.{◌≡◌, ℕ, suc, ◌+◌, ◌-◌, ◌<◌, ◌≤◌, [], ◌∷◌, length, slice_index_or, All, IfOk, OnOk};
+ghost use Rattle.linear_algebra.specs.Rows.{row};
+ghost use Rattle.fp_rows.specs.Refs.{entries_of, modulus_of};
+ghost use Rattle.group_table.specs.Prime.{prime_value};
+ghost use Rattle.group_algebra.specs.PGroups.{IsPGroup, largest_residue};
+ghost use Rattle.graded_polynomials.specs.Monomials.{IsMonomial, IsMonomials, IsTrimmed};
+ghost use Rattle.graded_algebra.specs.Algebras.{degrees, evaluate};
+ghost use Rattle.presentation_rows.specs.Factors.{IsLastFactor};
+ghost use Rattle.presentation_rows.specs.Values.{vector_of, AreValues};
+ghost use Rattle.min_res.specs.Stages.{rank_of};
+ghost use Rattle.ring_present.specs.Rings.{cohomology};
+ghost use Rattle.ring_present.specs.Degrees.{classes, IsLower};
+
+use crate::degree::{Degree, Valued};
+use chain_lift::Lift;
+use fp_rows::{Matrix, Row, RowRef};
+use gc_poly::{Mono, Monos};
+use group_table::{Group, Memory, Prime};
+use std::alloc::Global;
+
+/// The generators and the degrees that a ring has.
+#[derive(Clone, Copy)]
+pub(crate) struct Lower<'a> {
+    pub(crate) group: &'a Group,
+    pub(crate) lifts: &'a [Lift],
+    pub(crate) degrees: &'a [Degree],
+}
+
+// The monomial without one factor of its last generator.
+fn quotient(alloc: Global, m: &Mono) -> Result<Mono, Memory>
+    requires { 0 < length m.now }
+    ensures factor { IfOk result (λ n. IsLastFactor (length m.now - 1) n m.now) }
+    ensures trimmed { IfOk result IsTrimmed }
+{
+    let last = m.len() - 1;
+    let mut exponents = Vec::new(alloc);
+    for i in 0..last {
+        exponents.push(m.exponent(i))?;
+    }
+    exponents.push(m.exponent(last) - 1)?;
+    let rest = Mono::of(alloc, &exponents)?;
+    Ok(rest)
+}
+
+// The row of a monomial of the list.
+fn row_of<'a>(all: &'a Valued, m: &Mono) -> RowRef<'a>
+    requires listed { (i : ℕ) × (i < length all.now.monomials) × (slice_index_or all.now.monomials i [] ≡ m.now) }
+    requires rows { length all.now.values.rows ≡ length all.now.monomials }
+    ensures value { (i : ℕ) × (i < length all.now.monomials) × (slice_index_or all.now.monomials i [] ≡ m.now)
+        × (entries_of result ≡ row all.now.values.rows i) }
+    ensures modulus { modulus_of result ≡ all.now.values.p }
+    ensures length { length (entries_of result) ≡ all.now.values.width }
+{
+    match all.monomials.position(m) {
+        Some(i) => all.values.row(i),
+        None => unreachable!(),
+    }
+}
+
+// The lift of the last factor of a monomial.
+fn last_lift<'a>(lifts: &'a [Lift], m: &Mono) -> &'a Lift
+    requires some { 0 < length m.now }
+    requires within { length m.now ≤ length lifts.now }
+    ensures { result.now ≡ slice_index_or lifts.now (length m.now - 1) result.now }
+{
+    &lifts[m.len() - 1]
+}
+
+impl<'a> Lower<'a> {
+    // The class of a monomial of degree d, which is 0 or a degree that the ring has.
+    fn value_of(&self, one: &'a Row, d: u32, m: &Mono) -> RowRef<'a>
+        requires one { (one.now.p ≡ self.now.group.now.p) × (one.now.entries ≡ 1 ∷ []) }
+        requires lower { IsLower self.now.group.now self.now.lifts.now self.now.degrees.now }
+        requires within { d ≤ length self.now.degrees.now }
+        requires monomial { (h : IsPGroup self.now.group.now)
+            → IsMonomial (largest_residue self.now.group.now) (degrees (classes self.now.group.now h self.now.lifts.now)) d m.now }
+        ensures modulus { modulus_of result ≡ self.now.group.now.p }
+        ensures length { (h : IsPGroup self.now.group.now) → length (entries_of result) ≡ rank_of self.now.group.now h d }
+        ensures value { (h : IsPGroup self.now.group.now) → vector_of (largest_residue self.now.group.now) (entries_of result)
+            ≡ evaluate (cohomology self.now.group.now h) (classes self.now.group.now h self.now.lifts.now) m.now }
+    {
+        if d == 0 {
+            one.view()
+        } else {
+            row_of(&self.degrees[d as usize - 1].all, m)
+        }
+    }
+
+    // Writes the class of a monomial of degree d, the next one: that of the monomial without its last factor, times that of the factor.
+    fn write_value(
+        &self,
+        alloc: Global,
+        one: &Row,
+        d: u32,
+        m: &Mono,
+        out: &mut Row,
+    ) -> Result<(), Memory>
+        requires one { (one.now.p ≡ self.now.group.now.p) × (one.now.entries ≡ 1 ∷ []) }
+        requires lower { IsLower self.now.group.now self.now.lifts.now self.now.degrees.now }
+        requires heights { All (λ l. d ≤ l.degree + l.height) self.now.lifts.now }
+        requires degree { d ≡ suc (length self.now.degrees.now) }
+        requires monomial { (h : IsPGroup self.now.group.now)
+            → IsMonomial (largest_residue self.now.group.now) (degrees (classes self.now.group.now h self.now.lifts.now)) d m.now }
+        requires out_prime { out.old.p ≡ self.now.group.now.p }
+        requires out_length { (h : IsPGroup self.now.group.now) → length out.old.entries ≡ rank_of self.now.group.now h d }
+        ensures prime { out.new.p ≡ out.old.p }
+        ensures length { length out.new.entries ≡ length out.old.entries }
+        ensures value { OnOk result ((h : IsPGroup self.now.group.now) → vector_of (largest_residue self.now.group.now) out.new.entries
+            ≡ evaluate (cohomology self.now.group.now h) (classes self.now.group.now h self.now.lifts.now) m.now) }
+    {
+        let rest = quotient(alloc, m)?;
+        let lift = last_lift(self.lifts, m);
+        let degree = d - lift.degree();
+        lift.product(degree, self.value_of(one, degree, &rest), out);
+        Ok(())
+    }
+
+    /// The classes of the monomials of degree d, the next one.
+    pub(crate) fn values(
+        &self,
+        alloc: Global,
+        rank: usize,
+        d: u32,
+        monomials: &Monos,
+    ) -> Result<Matrix, Memory>
+        requires lower { IsLower self.now.group.now self.now.lifts.now self.now.degrees.now }
+        requires heights { All (λ l. d ≤ l.degree + l.height) self.now.lifts.now }
+        requires degree { d ≡ suc (length self.now.degrees.now) }
+        requires rank { (h : IsPGroup self.now.group.now) → rank ≡ rank_of self.now.group.now h d }
+        requires monomials { (h : IsPGroup self.now.group.now)
+            → IsMonomials (largest_residue self.now.group.now) (degrees (classes self.now.group.now h self.now.lifts.now)) d monomials.now }
+        ensures prime { IfOk result (λ m. m.p ≡ self.now.group.now.p) }
+        ensures width { IfOk result (λ m. m.width ≡ rank) }
+        ensures values { IfOk result (λ m. (h : IsPGroup self.now.group.now)
+            → AreValues (largest_residue self.now.group.now) (cohomology self.now.group.now h) (classes self.now.group.now h self.now.lifts.now)
+            monomials.now m.rows) }
+    {
+        let p = self.group.prime();
+        let one = one(alloc, p)?;
+        let mut value = Row::zero(alloc, p, rank)?;
+        let mut values = Matrix::new(alloc, p, rank);
+        for i in 0..monomials.len() {
+            self.write_value(alloc, &one, d, monomials.get(i), &mut value)?;
+            values.push(value.view())?;
+        }
+        Ok(values)
+    }
+}
+
+// The class 1 of degree 0.
+fn one(alloc: Global, p: Prime) -> Result<Row, Memory>
+    ensures { IfOk result (λ r. r ≡ record { p = prime_value p; entries = 1 ∷ [] }) }
+{
+    let mut one = Row::zero(alloc, p, 1)?;
+    one.set(0, 1);
+    Ok(one)
+}
