@@ -44,7 +44,7 @@ module _ (q : ℕ) {V : Type 0} (A : Algebra V) (gs : List (Generator V)) where
   all_over zero rs h = subst (Each IsOverThem) (sym h) tt
   all_over (suc d) rs h = subst (Each IsOverThem) (sym h.6) (each_append IsOverThem h.0 h.1 (all_over d h.0 h.3) (new_over h.0 (suc d) h.2 h.1 h.5))
 
-degrees_are : (q : ℕ) (gs : List GeneratorValue) → degrees (generators_of q gs) ≡ map (λ g. g.degree) gs
+pub degrees_are : (q : ℕ) (gs : List GeneratorValue) → degrees (generators_of q gs) ≡ map (λ g. g.degree) gs
 degrees_are q [] = refl
 degrees_are q (g ∷ gs) = ap (λ ds. g.degree ∷ ds) (degrees_are q gs)
 

@@ -1,5 +1,5 @@
 -- The number of the monomials of the next degree.
-use Rattle.std.proofs.Common.{◌≡◌, ℕ, suc, ◌-◌, ◌<◌, ◌≤◌, List, length, arith, sym}
+use Rattle.std.proofs.Common.{◌≡◌, ℕ, suc, ◌-◌, ◌<◌, List, length, arith, sym}
 use Rattle.std.specs.Prelude.{min, All}
 use mathlib.Core.Path.{subst}
 use Rattle.group_table.specs.Tables.{GroupTable}
@@ -36,9 +36,3 @@ too-many G h n m d cap count lifts gens ed S b e C l = record {
 
     are : IsMonomials (largest_residue G) (degrees (classes G h lifts)) (suc n) ms
     are = all-monomials (largest_residue G) (degrees (classes G h lifts)) (positive-degrees G h m lifts b) (suc n)
-
-pub counted : (p n d cap count : ℕ) (ds : List ℕ) (gens : Generators) → d ≡ suc n → gens ≡ record { prime = p; degrees = ds } → IsCount gens d count → count ≤ cap
-    → (ms : List (List ℕ)) → IsMonomials (p - 1) ds (suc n) ms → min (length ms) 18446744073709551615 ≤ cap
-counted p n d cap count ds gens ed e C l ms M =
-    let c = C ms (subst (λ (g : Generators). IsMonomials (greatest g) g.degrees d ms) (sym e) (subst (λ k. IsMonomials (p - 1) ds k ms) (sym ed) M)) in
-    subst (λ k. k ≤ cap) c l

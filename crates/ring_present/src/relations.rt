@@ -1,4 +1,3 @@
-// Being proved by helper R3: see /work/h/ring/NOTE-FROM-LEAD.md.
 //! The new relations of a degree.
 
 ghost use Rattle.std.specs.Prelude.{◌≡◌, ℕ, suc, ◌+◌, ◌-◌, ◌<◌, ◌≤◌, [], ◌∷◌, ◌++◌, List, length, map, All, IfOk, OnOk};

@@ -1,4 +1,3 @@
-// Being proved by helper R3: see /work/h/ring/NOTE-FROM-LEAD.md.
 //! Standard monomials.
 
 ghost use Rattle.std.specs.Prelude.{◌≡◌, ◌<◌, length, IfOk};

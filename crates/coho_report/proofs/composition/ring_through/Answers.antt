@@ -1,9 +1,14 @@
-use Rattle.std.proofs.Common.{◌≡◌, ◌<◌, suc, subst, sym, arith}
+use Rattle.std.proofs.Common.{◌≡◌, ◌+◌, ◌<◌, suc, map, refl, subst, sym, arith}
+use Rattle.std.specs.Prelude.{IfSome}
+use Rattle.group_algebra.specs.PGroups.{largest_residue}
+use Rattle.graded_polynomials.specs.Monomials.{IsMonomials}
+use Rattle.ring_present.specs.Rings.{IsPresentation}
+use Rattle.ring_present.specs.Values.{generators_of}
 use Rattle.std.proofs.lemmas.Result.{err_from_is_err_and}
 use Rattle.ring_present.specs.Refusals as ring
 use Rattle.coho_report.specs.Reports.{HasFewMonomials}
 use Rattle.coho_report.specs.Refusals.{IsRefusal, passed_up}
-use Rattle.coho_report.proofs.Composing.{refused}
+use Rattle.coho_report.proofs.Composing.{few_next, refused}
 use Rattle.coho_report.proofs.composition.ring_through.Goals as goal
 
 pub returns-in_err-add_degree-clause-refused : goal.returns-in_err-add_degree-clause-refused
@@ -21,3 +26,23 @@ pub returns-clause-few : goal.returns-clause-few
 returns-clause-few c =
     let same : c.loop-d._d ≡ c.args.n = omega arith in
     λ h. subst (λ k. HasFewMonomials c.args.res.now.group h k c.args.cap) same (c.loop-d.invariant.few h)
+
+pub loop-d-preserved : goal.loop-d-preserved
+loop-d-preserved c =
+    let G = c.args.res.now.group in
+    let k = c.loop-d._d in
+    let old = c.loop-d.ring in
+    let new = c.add_degree.new.self in
+    let before = c.loop-d.invariant in
+    let added = c.in_ok-add_degree.ensures in
+    let e = before.degree in
+    let f = added.degree in
+    let degree : new.degree ≡ k + 1 = omega (arith, e, f) in
+    record {
+      prime = added.prime;
+      group = subst (λ o. IfSome o (λ H. H ≡ G)) (sym added.group) refl;
+      degree = degree;
+      presentation = λ h. subst (λ n. IsPresentation G h n (generators_of (largest_residue G) new.generators) new.relations) degree (added.presentation h);
+      few = λ h. few_next G h k c.args.cap old.generators old.relations (before.presentation h) (before.few h)
+          (λ ms M. added.counted ms (subst (λ d. IsMonomials (largest_residue G) (map (λ g. g.degree) old.generators) (suc d) ms) (sym e) M));
+    }
