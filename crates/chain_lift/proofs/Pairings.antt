@@ -3,7 +3,6 @@ use Rattle.std.proofs.Common.{◌≡◌, ℕ, zero, suc, ◌+◌, ◌*◌, ◌%�
 use Rattle.std.proofs.lemmas.List.{ext_get_or}
 use Rattle.std.proofs.Math.Nat.{mod-eq_of_lt}
 use native.Mathlib.Nat.{lt-suc_self}
-use Rattle.group_table.specs.Tables.{GroupTable}
 use Rattle.group_modules.specs.Module.{times}
 use Rattle.group_modules.specs.Field.{Below, Fp, residue, plus, plus-residue, times-residue}
 use Rattle.group_modules.specs.Sums.{below, up, total, total-map}
@@ -12,7 +11,7 @@ use Rattle.group_modules.specs.Maps.{block-sum}
 use Rattle.linear_algebra.specs.Modular.{sum_below}
 use Rattle.linear_algebra.specs.Rows.{entry, row, IsRow}
 use Rattle.fp_rows.specs.Values.{MatrixValue}
-use Rattle.group_algebra.specs.PGroups.{IsPGroup, largest_residue, group}
+use Rattle.group_algebra.specs.PGroups.{PGroup, largest_residue, group}
 use Rattle.group_algebra.specs.Coordinates.{residues, free_module, layer_claims, layer_coordinates, sum_coordinates_are}
 use Rattle.min_res.specs.Stages.{stage_rows, rank_of}
 use Rattle.chain_maps.specs.Lifts.{ahead, lift, pair, product}
@@ -30,47 +29,47 @@ total-number q Γ (suc b) f g e =
     ap (plus q (f (b, lt-suc_self b))) (total-map (Fp q (monoid Γ)) (λ i. up i) (below b) f ∙ total-number q Γ b (λ i. f (up i)) g (λ k. e (up k)))
     ∙ ap (λ x. plus q x (residue q (sum_below b g))) (e (b, lt-suc_self b)) ∙ plus-residue q (g b) (sum_below b g) ∙ ap (residue q) (omega arith)
 
-module _ (G : GroupTable) (h : IsPGroup G) where
+module _ (G : PGroup) where
   abbrev q : ℕ
   q = largest_residue G
 
   -- the value of a class at a table, by the first entries of its row
-  pair-is : (d : ℕ) (a : List ℕ) (v : (free_module G h (rank_of G h d)).of) (x : List ℕ) → x ≡ (layer_coordinates G h (rank_of G h d)).row v
-      → IsRow (suc q) (rank_of G h d) a
-      → pair q (group G h) (layer_coordinates G h) (stage_rows G h) d (λ k. vector q a k.0) v ≡ residue q
-      (sum_below (rank_of G h d) (λ k. entry a k * entry x k))
-  pair-is d a v x e r = pair-sums q (group G h) (rank_of G h d) (λ k. vector q a k.0) v
-      ∙ total-number q (group G h) (rank_of G h d)
-      (λ k. times (plus q) (residue q 0) (block-sum q (group G h) (rank_of G h d) v k).0 (vector q a k.0)) (λ k. entry a k * entry x k) each
+  pair-is : (d : ℕ) (a : List ℕ) (v : (free_module G (rank_of G d)).of) (x : List ℕ) → x ≡ (layer_coordinates G (rank_of G d)).row v
+      → IsRow (suc q) (rank_of G d) a
+      → pair q (group G) (layer_coordinates G) (stage_rows G) d (λ k. vector q a k.0) v ≡ residue q
+      (sum_below (rank_of G d) (λ k. entry a k * entry x k))
+  pair-is d a v x e r = pair-sums q (group G) (rank_of G d) (λ k. vector q a k.0) v
+      ∙ total-number q (group G) (rank_of G d)
+      (λ k. times (plus q) (residue q 0) (block-sum q (group G) (rank_of G d) v k).0 (vector q a k.0)) (λ k. entry a k * entry x k) each
     where
-      each : (k : Below (rank_of G h d))
-          → times (plus q) (residue q 0) (block-sum q (group G h) (rank_of G h d) v k).0 (vector q a k.0) ≡ residue q (entry a k.0 * entry x k.0)
-      each k = times-residue q (block-sum q (group G h) (rank_of G h d) v k).0 (vector q a k.0)
+      each : (k : Below (rank_of G d))
+          → times (plus q) (residue q 0) (block-sum q (group G) (rank_of G d) v k).0 (vector q a k.0) ≡ residue q (entry a k.0 * entry x k.0)
+      each k = times-residue q (block-sum q (group G) (rank_of G d) v k).0 (vector q a k.0)
           ∙ ap₂ (λ (s t : ℕ). residue q (s * t))
-          ((layer_claims G h).sums (sum_coordinates_are G h).first h.law.some (rank_of G h d) v k ∙ ap (λ y. entry y k.0) (sym e))
+          ((layer_claims G).sums (sum_coordinates_are G).first G.law.law.some (rank_of G d) v k ∙ ap (λ y. entry y k.0) (sym e))
           (mod-eq_of_lt (r.below k.0 k.1))
           ∙ ap (residue q) (let z : entry x k.0 * entry a k.0 ≡ entry a k.0 * entry x k.0 = omega arith in z)
 
   -- the inner products with the rows of the map of degree d are the product
-  pub product-is : (d e : ℕ) (a c : List ℕ) (m : MatrixValue) (out : List ℕ) → IsLiftMap G h e c d m → IsRow (suc q) (rank_of G h d) a
+  pub product-is : (d e : ℕ) (a c : List ℕ) (m : MatrixValue) (out : List ℕ) → IsLiftMap G e c d m → IsRow (suc q) (rank_of G d) a
       → length out ≡ length m.rows
       → ((i : ℕ) → i < length m.rows → entry out i ≡ sum_below (length a) (λ k. entry a k * entry (row m.rows i) k) % m.p)
-      → out ≡ product_row G h d e a c
-  product-is d e a c m out M r n v = ext_get_or 0 out (product_row G h d e a c) (count ∙ sym (length-entries (rank_of G h (d + e)) w))
-      (λ i l. at i (let z : i < rank_of G h (ahead e d) = (let t : length out ≡ rank_of G h (ahead e d) = n ∙ M.count in omega (arith, t, l)) in z)
-      ∙ sym (entry-entries (rank_of G h (d + e)) w i (let t : length out ≡ rank_of G h (d + e) = count in omega (arith, t, l))))
+      → out ≡ product_row G d e a c
+  product-is d e a c m out M r n v = ext_get_or 0 out (product_row G d e a c) (count ∙ sym (length-entries (rank_of G (d + e)) w))
+      (λ i l. at i (let z : i < rank_of G (ahead e d) = (let t : length out ≡ rank_of G (ahead e d) = n ∙ M.count in omega (arith, t, l)) in z)
+      ∙ sym (entry-entries (rank_of G (d + e)) w i (let t : length out ≡ rank_of G (d + e) = count in omega (arith, t, l))))
     where
       w : ℕ → Below (suc q)
-      w = multiply G h d e (vector q a) (vector q c)
+      w = multiply G d e (vector q a) (vector q c)
 
-      count : length out ≡ rank_of G h (d + e)
-      count = n ∙ M.count ∙ ap (rank_of G h) (ahead-is e d)
+      count : length out ≡ rank_of G (d + e)
+      count = n ∙ M.count ∙ ap (rank_of G) (ahead-is e d)
 
-      at : (i : ℕ) → i < rank_of G h (ahead e d) → entry out i ≡ (w i).0
-      at i l = v i (let t : length m.rows ≡ rank_of G h (ahead e d) = M.count in omega (arith, t, l))
-          ∙ ap₂ (λ (s p : ℕ). sum_below s (λ k. entry a k * entry (row m.rows i) k) % p) r.length_is (M.prime ∙ sym (residues G h))
+      at : (i : ℕ) → i < rank_of G (ahead e d) → entry out i ≡ (w i).0
+      at i l = v i (let t : length m.rows ≡ rank_of G (ahead e d) = M.count in omega (arith, t, l))
+          ∙ ap₂ (λ (s p : ℕ). sum_below s (λ k. entry a k * entry (row m.rows i) k) % p) r.length_is (M.prime ∙ sym (residues G))
           ∙ ap (λ (x : Below (suc q)). x.0)
-          (sym (pair-is d a (lift q (group G h) (layer_coordinates G h) (stage_rows G h) e (λ k. vector q c k.0) d (i, l)) (row m.rows i)
+          (sym (pair-is d a (lift q (group G) (layer_coordinates G) (stage_rows G) e (λ k. vector q c k.0) d (i, l)) (row m.rows i)
           (M.each (i, l)) r)
-          ∙ sym (extended-at (rank_of G h (ahead e d))
-          (product q (group G h) (layer_coordinates G h) (stage_rows G h) e (λ k. vector q c k.0) d (λ k. vector q a k.0)) (i, l)))
+          ∙ sym (extended-at (rank_of G (ahead e d))
+          (product q (group G) (layer_coordinates G) (stage_rows G) e (λ k. vector q c k.0) d (λ k. vector q a k.0)) (i, l)))

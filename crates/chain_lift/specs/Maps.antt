@@ -1,25 +1,25 @@
 -- The maps of a lift by their rows.
 use Rattle.std.specs.Prelude.{◌≡◌, ℕ, ◌*◌, List, length}
-use Rattle.group_table.specs.Tables.{GroupTable, order}
+use Rattle.group_table.specs.Tables.{order}
 use Rattle.group_modules.specs.Field.{Below}
 use Rattle.linear_algebra.specs.Rows.{row}
 use Rattle.fp_rows.specs.Values.{MatrixValue}
-use Rattle.group_algebra.specs.PGroups.{IsPGroup, largest_residue, group}
+use Rattle.group_algebra.specs.PGroups.{PGroup, largest_residue, group}
 use Rattle.group_algebra.specs.Coordinates.{layer_coordinates, row_of}
 use Rattle.min_res.specs.Stages.{stage_rows, rank_of}
 use Rattle.chain_maps.specs.Lifts.{ahead, lift}
 use Rattle.chain_maps.specs.Vectors.{vector}
 
-module _ (G : GroupTable) (h : IsPGroup G) (q : ℕ) (c : List ℕ) where
+module _ (G : PGroup) (q : ℕ) (c : List ℕ) where
   -- row i of the map of degree j of the lift of c, a class of degree q
-  abbrev pub lift_row : (j : ℕ) → Below (rank_of G h (ahead q j)) → List ℕ
+  abbrev pub lift_row : (j : ℕ) → Below (rank_of G (ahead q j)) → List ℕ
   lift_row j i =
-      row_of G h (rank_of G h j)
-      (lift (largest_residue G) (group G h) (layer_coordinates G h) (stage_rows G h) q (λ k. vector (largest_residue G) c k.0) j i)
+      row_of G (rank_of G j)
+      (lift (largest_residue G) (group G) (layer_coordinates G) (stage_rows G) q (λ k. vector (largest_residue G) c k.0) j i)
 
   -- m has the rows of this map
   pub record IsLiftMap (j : ℕ) (m : MatrixValue) : Type 0 where
-    pub prime : m.p ≡ G.p
-    pub width : m.width ≡ order G * rank_of G h j
-    pub count : length m.rows ≡ rank_of G h (ahead q j)
-    pub each : (i : Below (rank_of G h (ahead q j))) → row m.rows i.0 ≡ lift_row j i
+    pub prime : m.p ≡ G.table.p
+    pub width : m.width ≡ order G.table * rank_of G j
+    pub count : length m.rows ≡ rank_of G (ahead q j)
+    pub each : (i : Below (rank_of G (ahead q j))) → row m.rows i.0 ≡ lift_row j i

@@ -1,6 +1,6 @@
 -- Linear maps of free modules by their rows.
 use Rattle.std.specs.Prelude.{◌≡◌, ℕ, ◌*◌, ◌^◌, ◌<◌, List, length}
-use Rattle.group_table.specs.Tables.{GroupTable, order}
+use Rattle.group_table.specs.Tables.{order}
 use Rattle.group_modules.specs.Module.{lin, times}
 use Rattle.group_modules.specs.Field.{Below, residue}
 use Rattle.group_modules.specs.Tables.{terms, unit}
@@ -8,15 +8,15 @@ use Rattle.linear_algebra.specs.Choices.{rows_at}
 use Rattle.linear_algebra.specs.Rows.{row, IsRow}
 use Rattle.resolution_stages.specs.Chain.{section_row}
 use Rattle.fp_rows.specs.Values.{MatrixValue}
-use Rattle.group_algebra.specs.PGroups.{IsPGroup, largest_residue, group}
+use Rattle.group_algebra.specs.PGroups.{PGroup, largest_residue, group}
 use Rattle.group_algebra.specs.Coordinates.{free_module, table_of, row_of}
 use Rattle.min_res.specs.Values.{StageValue, boundary_of}
 
 -- the value at x of the linear map to kG^b that takes basis element k to row k
-abbrev pub map_row : (G : GroupTable) (h : IsPGroup G) (b : ℕ) → List (List ℕ) → List ℕ → List ℕ
-map_row G h b rows x =
-    row_of G h b (lin (free_module G h b) (λ (k : Below (length rows)). table_of G h b (row rows k.0))
-    (terms (largest_residue G) (group G h) (length rows) (table_of G h (length rows) x)))
+abbrev pub map_row : (G : PGroup) (b : ℕ) → List (List ℕ) → List ℕ → List ℕ
+map_row G b rows x =
+    row_of G b (lin (free_module G b) (λ (k : Below (length rows)). table_of G b (row rows k.0))
+    (terms (largest_residue G) (group G) (length rows) (table_of G (length rows) x)))
 
 -- row i of the boundary of a stage
 abbrev pub image_row : StageValue → ℕ → List ℕ
@@ -27,17 +27,17 @@ abbrev pub section_of : StageValue → List ℕ → List ℕ
 section_of s x = section_row s.kernel.p s.kernel.width (boundary_of s).source.rows (boundary_of s).sections.rows x
 
 -- c times the element 1 of the group algebra
-abbrev pub multiple_of_one : (G : GroupTable) (h : IsPGroup G) → ℕ → (free_module G h 1).of
-multiple_of_one G h c = times (free_module G h 1).add (free_module G h 1).zero c (unit (largest_residue G) (group G h) 1 (residue 0 0))
+abbrev pub multiple_of_one : (G : PGroup) → ℕ → (free_module G 1).of
+multiple_of_one G c = times (free_module G 1).add (free_module G 1).zero c (unit (largest_residue G) (group G) 1 (residue 0 0))
 
 -- the rows of a map to a free module of this rank, and the stages between which the map after it goes
-pub record FitTogether (G : GroupTable) (rank : ℕ) (before : MatrixValue) (source target : StageValue) : Type 0 where
+pub record FitTogether (G : PGroup) (rank : ℕ) (before : MatrixValue) (source target : StageValue) : Type 0 where
   pub source_above_zero : 0 < source.degree
   pub target_above_zero : 0 < target.degree
-  pub before_prime : before.p ≡ G.p
-  pub source_prime : source.kernel.p ≡ G.p
-  pub target_prime : target.kernel.p ≡ G.p
-  pub before_width : before.width ≡ order G * rank
-  pub target_width : (boundary_of target).source.width ≡ order G * rank
-  pub fits : order G * length before.rows < 2 ^ 64
-  pub images : (i : ℕ) → i < source.rank → IsRow G.p (order G * length before.rows) (image_row source i)
+  pub before_prime : before.p ≡ G.table.p
+  pub source_prime : source.kernel.p ≡ G.table.p
+  pub target_prime : target.kernel.p ≡ G.table.p
+  pub before_width : before.width ≡ order G.table * rank
+  pub target_width : (boundary_of target).source.width ≡ order G.table * rank
+  pub fits : order G.table * length before.rows < 2 ^ 64
+  pub images : (i : ℕ) → i < source.rank → IsRow G.table.p (order G.table * length before.rows) (image_row source i)

@@ -3,7 +3,6 @@
 ghost use Rattle.chain_lift.specs.Products.{product_row};
 ghost use Rattle.chain_lift.specs.Stores.{IsLevel};
 ghost use Rattle.fp_rows.specs.Refs.{entries_of, modulus_of};
-ghost use Rattle.group_algebra.specs.PGroups.{IsPGroup};
 ghost use Rattle.min_res.specs.Defined.{IsStageAt};
 ghost use Rattle.min_res.specs.Stages.{rank_of};
 ghost use Rattle.std.specs.Prelude.{◌≡◌, ◌≤◌, ◌<◌, ◌+◌, max, suc, length, IfOk, OnErr, OnOk};
@@ -12,7 +11,8 @@ use crate::level::Level;
 use crate::maps::{first_rows, next_rows};
 use crate::products::write_inner_products;
 use fp_rows::{Row, RowRef};
-use group_table::{Group, Memory};
+use group_algebra::PGroup;
+use group_table::Memory;
 use min_res::{Resolution, Stage};
 use std::alloc::Global;
 use std::marker::Model;
@@ -28,7 +28,7 @@ use std::rc::Rc;
 #[derive(Drop)]
 pub struct Lift {
     alloc: Global,
-    group: Group,
+    group: PGroup,
     degree: u32,
     class: Row,
     levels: Vec<Level>,
@@ -36,10 +36,12 @@ pub struct Lift {
 
 impl Model for Lift {
     ghost use Rattle.std.specs.Prelude.{◌-◌, length};
-    ghost use Rattle.chain_lift.specs.Values.{LiftValue};
+    ghost use Rattle.chain_lift.specs.Values.{LiftValue, coded_lift};
     ghost use Rattle.chain_lift.specs.Stores.{IsLiftStore};
 
     ghost Value = { LiftValue };
+
+    ghost coded = { coded_lift };
 
     ghost view = { λ l. record { group = l.group; degree = l.degree; class = l.class.entries; height = length l.levels.items - 1 } };
 
@@ -51,7 +53,7 @@ impl Model for Lift {
 // The stage of degree d, which is at most `last`.
 fn stage_at(res: &Resolution, d: u32) -> &Rc<Stage>
     requires { d ≤ res.now.last }
-    ensures { (h : IsPGroup res.now.group) → IsStageAt res.now.group h d result.now.value }
+    ensures { IsStageAt res.now.group d result.now.value }
 {
     match res.stage(d) {
         Some(stage) => stage,
@@ -63,8 +65,8 @@ impl Lift {
     /// The lift of the class, up to height 0. The class is one of degree q, which is at most the degree of the last stage.
     pub fn new(alloc: Global, res: &Resolution, q: u32, class: RowRef<'_>) -> Result<Lift, Memory>
         requires degree { q ≤ res.now.last }
-        requires prime { modulus_of class ≡ res.now.group.p }
-        requires length { (h : IsPGroup res.now.group) → length (entries_of class) ≡ rank_of res.now.group h q }
+        requires prime { modulus_of class ≡ res.now.group.table.p }
+        requires length { length (entries_of class) ≡ rank_of res.now.group q }
         ensures { IfOk result (λ l. l ≡ record { group = res.now.group; degree = q; class = entries_of class.entry; height = 0 }) }
     {
         let algebra = res.algebra();
@@ -97,7 +99,7 @@ impl Lift {
     /// The class.
     pub fn class(&self) -> RowRef<'_>
         ensures entries { entries_of result ≡ self.now.class }
-        ensures modulus { modulus_of result ≡ self.now.group.p }
+        ensures modulus { modulus_of result ≡ self.now.group.table.p }
     {
         self.class.view()
     }
@@ -111,7 +113,7 @@ impl Lift {
 
     // The last map.
     fn last(&self) -> &Level
-        ensures { (h : IsPGroup self.now.group) → IsLevel self.now.group h self.now.degree self.now.class self.now.height result.now }
+        ensures { IsLevel self.now.group self.now.degree self.now.class self.now.height result.now }
     {
         &self.levels[self.levels.len() - 1]
     }
@@ -120,10 +122,9 @@ impl Lift {
     fn next(&self, res: &Resolution) -> Result<Level, Memory>
         requires within { self.now.degree + self.now.height < res.now.last }
         requires group { res.now.group ≡ self.now.group }
-        ensures { IfOk result (λ l. (h : IsPGroup self.now.group) → IsLevel self.now.group h self.now.degree self.now.class (suc self.now.height) l) }
+        ensures { IfOk result (λ l. IsLevel self.now.group self.now.degree self.now.class (suc self.now.height) l) }
     {
         let algebra = res.algebra();
-        let _group = algebra.group();
         let _last = res.last();
         let before = self.last();
         let _width = before.source.kernel().width();
@@ -184,13 +185,12 @@ impl Lift {
     /// Writes the product of a class a of degree j, which is at most the height, and the class of the lift.
     pub fn product(&self, j: u32, a: RowRef<'_>, out: &mut Row)
         requires degree { j ≤ self.now.height }
-        requires prime { modulus_of a ≡ self.now.group.p }
-        requires length { (h : IsPGroup self.now.group) → length (entries_of a) ≡ rank_of self.now.group h j }
-        requires out_prime { out.old.p ≡ self.now.group.p }
-        requires out_length { (h : IsPGroup self.now.group) → length out.old.entries ≡ rank_of self.now.group h (j + self.now.degree) }
+        requires prime { modulus_of a ≡ self.now.group.table.p }
+        requires length { length (entries_of a) ≡ rank_of self.now.group j }
+        requires out_prime { out.old.p ≡ self.now.group.table.p }
+        requires out_length { length out.old.entries ≡ rank_of self.now.group (j + self.now.degree) }
         ensures prime { out.new.p ≡ out.old.p }
-        ensures value { (h : IsPGroup self.now.group)
-            → out.new.entries ≡ product_row self.now.group h j self.now.degree (entries_of a.entry) self.now.class }
+        ensures value { out.new.entries ≡ product_row self.now.group j self.now.degree (entries_of a.entry) self.now.class }
     {
         let level = &self.levels[j as usize];
         write_inner_products(a, &level.rows, out);

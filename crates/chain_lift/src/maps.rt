@@ -2,7 +2,6 @@
 
 ghost use Rattle.chain_lift.specs.RowMaps.{FitTogether, map_row, image_row, section_of, multiple_of_one};
 ghost use Rattle.fp_rows.specs.Refs.{entries_of, modulus_of};
-ghost use Rattle.group_algebra.specs.PGroups.{IsPGroup};
 ghost use Rattle.group_algebra.specs.Coordinates.{row_of};
 ghost use Rattle.group_table.specs.Tables.{order};
 ghost use Rattle.linear_algebra.specs.Rows.{entry, row, IsRow};
@@ -18,13 +17,13 @@ use std::alloc::Global;
 // Writes block k of the row v of `rank` blocks.
 fn write_block(algebra: &Algebra, rank: usize, k: usize, v: RowRef<'_>, block: &mut Row)
     requires below { k < rank }
-    requires fits { order algebra.now * rank < 2 ^ 64 }
-    requires argument { length (entries_of v) ≡ order algebra.now * rank }
+    requires fits { order algebra.now.table * rank < 2 ^ 64 }
+    requires argument { length (entries_of v) ≡ order algebra.now.table * rank }
     requires argument_prime { modulus_of v ≡ block.old.p }
-    requires block_length { length block.old.entries ≡ order algebra.now }
+    requires block_length { length block.old.entries ≡ order algebra.now.table }
     ensures prime { block.new.p ≡ block.old.p }
     ensures length { length block.new.entries ≡ length block.old.entries }
-    ensures block { (h : IsPGroup algebra.now) → IsBlock algebra.now h rank k (entries_of v.entry) block.new.entries }
+    ensures block { IsBlock algebra.now rank k (entries_of v.entry) block.new.entries }
 {
     for m in 0..block.len() {
         block.set(m, v.get(algebra.place(rank, k, m)));
@@ -40,22 +39,21 @@ fn write_value(
     block: &mut Row,
     out: &mut Row,
 )
-    requires rows_prime { rows.now.p ≡ algebra.now.p }
-    requires rows_width { rows.now.width ≡ order algebra.now * rank }
-    requires fits { order algebra.now * length rows.now.rows < 2 ^ 64 }
-    requires argument { IsRow algebra.now.p (order algebra.now * length rows.now.rows) (entries_of v) }
-    requires argument_prime { modulus_of v ≡ algebra.now.p }
-    requires block_prime { block.old.p ≡ algebra.now.p }
-    requires block_length { length block.old.entries ≡ order algebra.now }
-    requires out_prime { out.old.p ≡ algebra.now.p }
-    requires out_length { length out.old.entries ≡ order algebra.now * rank }
+    requires rows_prime { rows.now.p ≡ algebra.now.table.p }
+    requires rows_width { rows.now.width ≡ order algebra.now.table * rank }
+    requires fits { order algebra.now.table * length rows.now.rows < 2 ^ 64 }
+    requires argument { IsRow algebra.now.table.p (order algebra.now.table * length rows.now.rows) (entries_of v) }
+    requires argument_prime { modulus_of v ≡ algebra.now.table.p }
+    requires block_prime { block.old.p ≡ algebra.now.table.p }
+    requires block_length { length block.old.entries ≡ order algebra.now.table }
+    requires out_prime { out.old.p ≡ algebra.now.table.p }
+    requires out_length { length out.old.entries ≡ order algebra.now.table * rank }
     ensures block_prime { block.new.p ≡ block.old.p }
     ensures block_length { length block.new.entries ≡ length block.old.entries }
     ensures out_prime { out.new.p ≡ out.old.p }
     ensures out_length { length out.new.entries ≡ length out.old.entries }
-    ensures value { (h : IsPGroup algebra.now) → out.new.entries ≡ map_row algebra.now h rank rows.now.rows (entries_of v.entry) }
+    ensures value { out.new.entries ≡ map_row algebra.now rank rows.now.rows (entries_of v.entry) }
 {
-    let _group = algebra.group();
     out.clear();
     for k in 0..rows.rows() {
         write_block(algebra, rows.rows(), k, v, block);
@@ -74,11 +72,11 @@ pub(crate) fn next_rows(
     target: &Stage,
 ) -> Result<Matrix, Memory>
     requires { FitTogether algebra.now rank before.now source.now target.now }
-    ensures prime { IfOk result (λ m. m.p ≡ algebra.now.p) }
+    ensures prime { IfOk result (λ m. m.p ≡ algebra.now.table.p) }
     ensures width { IfOk result (λ m. m.width ≡ target.now.kernel.width) }
     ensures count { IfOk result (λ m. length m.rows ≡ source.now.rank) }
-    ensures rows { IfOk result (λ m. (h : IsPGroup algebra.now) (i : ℕ) → i < source.now.rank
-        → row m.rows i ≡ section_of target.now (map_row algebra.now h rank before.now.rows (image_row source.now i))) }
+    ensures rows { IfOk result (λ m. (i : ℕ) → i < source.now.rank
+        → row m.rows i ≡ section_of target.now (map_row algebra.now rank before.now.rows (image_row source.now i))) }
 {
     let prime = before.prime();
     let mut block = Row::zero(alloc, prime, algebra.group().order() as usize)?;
@@ -106,12 +104,12 @@ pub(crate) fn first_rows(
     algebra: &Algebra,
     class: RowRef<'_>,
 ) -> Result<Matrix, Memory>
-    requires { modulus_of class ≡ algebra.now.p }
-    ensures prime { IfOk result (λ m. m.p ≡ algebra.now.p) }
-    ensures width { IfOk result (λ m. m.width ≡ order algebra.now) }
+    requires { modulus_of class ≡ algebra.now.table.p }
+    ensures prime { IfOk result (λ m. m.p ≡ algebra.now.table.p) }
+    ensures width { IfOk result (λ m. m.width ≡ order algebra.now.table) }
     ensures count { IfOk result (λ m. length m.rows ≡ length (entries_of class.entry)) }
-    ensures rows { IfOk result (λ m. (h : IsPGroup algebra.now) (i : ℕ) → i < length (entries_of class.entry)
-        → row m.rows i ≡ row_of algebra.now h 1 (multiple_of_one algebra.now h (entry (entries_of class.entry) i))) }
+    ensures rows { IfOk result (λ m. (i : ℕ) → i < length (entries_of class.entry)
+        → row m.rows i ≡ row_of algebra.now 1 (multiple_of_one algebra.now (entry (entries_of class.entry) i))) }
 {
     let prime = algebra.group().prime();
     let order = algebra.group().order() as usize;

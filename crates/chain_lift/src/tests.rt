@@ -1,5 +1,4 @@
 ghost use Rattle.std.specs.Prelude.{◌≡◌, ◌≤◌, ◌*◌, ◌<◌, All, IfOk, length, vec_len};
-ghost use Rattle.group_algebra.specs.PGroups.{IsPGroup};
 ghost use Rattle.min_res.specs.Stages.{rank_of};
 
 use super::*;
@@ -100,8 +99,8 @@ fn resolved(rt: &impl Abort, alloc: Global, kind: Kind, degree: u32) -> Result<R
 
 // The class 0 of degree d.
 fn zero(alloc: Global, resolution: &Resolution, d: u32) -> Result<Row, Fail>
-    ensures prime { IfOk result (λ r. r.p ≡ resolution.now.group.p) }
-    ensures length { IfOk result (λ r. (h : IsPGroup resolution.now.group) → length r.entries ≡ rank_of resolution.now.group h d) }
+    ensures prime { IfOk result (λ r. r.p ≡ resolution.now.group.table.p) }
+    ensures length { IfOk result (λ r. length r.entries ≡ rank_of resolution.now.group d) }
 {
     let prime = resolution.algebra().group().prime();
     let stage = resolution.stage(d).ok_or("no stage")?;
@@ -116,8 +115,8 @@ fn basis(
     d: u32,
     i: usize,
 ) -> Result<Row, Fail>
-    ensures prime { IfOk result (λ r. r.p ≡ resolution.now.group.p) }
-    ensures length { IfOk result (λ r. (h : IsPGroup resolution.now.group) → length r.entries ≡ rank_of resolution.now.group h d) }
+    ensures prime { IfOk result (λ r. r.p ≡ resolution.now.group.table.p) }
+    ensures length { IfOk result (λ r. length r.entries ≡ rank_of resolution.now.group d) }
 {
     let mut class = zero(alloc, resolution, d)?;
     assert!(rt; i < class.len());
@@ -136,7 +135,7 @@ fn product_with(
     lift: &Lift,
 ) -> Result<Row, Fail>
     requires { resolution.now.group ≡ lift.now.group }
-    ensures { IfOk result (λ r. r.p ≡ resolution.now.group.p) }
+    ensures { IfOk result (λ r. r.p ≡ resolution.now.group.table.p) }
 {
     assert!(rt; j <= lift.height() && j <= 24 && lift.degree() <= 24);
     let class = basis(rt, alloc, resolution, j, i)?;
@@ -153,7 +152,7 @@ fn product(
     i: usize,
     k: usize,
 ) -> Result<Row, Fail>
-    ensures { IfOk result (λ r. r.p ≡ resolution.now.group.p) }
+    ensures { IfOk result (λ r. r.p ≡ resolution.now.group.table.p) }
 {
     assert!(rt; resolution.last() >= 2);
     let class = basis(rt, alloc, resolution, 1, k)?;
@@ -204,7 +203,7 @@ fn add_product(
     k: usize,
     sum: &mut Row,
 ) -> Result<(), Fail>
-    requires { sum.old.p ≡ resolution.now.group.p }
+    requires { sum.old.p ≡ resolution.now.group.table.p }
     ensures { sum.new.p ≡ sum.old.p }
 {
     let p = product(rt, alloc, resolution, i, k)?;

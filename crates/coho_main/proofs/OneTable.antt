@@ -3,47 +3,47 @@ use Rattle.std.proofs.Common.{◌≡◌, ℕ, ◌+◌, ◌*◌, ◌/◌, ◌%◌
 use Rattle.std.proofs.Math.Nat.{div-lt_iff_lt-mul, mod-lt}
 use Rattle.std.proofs.lemmas.Nat.{div-add-mod'}
 use Rattle.std.proofs.lemmas.Grind.{same_number_lists}
-use Rattle.group_table.specs.Tables.{GroupTable, order, order_is, product, product_is}
+use Rattle.group_table.specs.Tables.{order, order_is, product, product_is}
 use Rattle.power_commutator.specs.Presentations.{Presentation}
-use Rattle.group_algebra.specs.PGroups.{IsPGroup}
+use Rattle.group_algebra.specs.PGroups.{PGroup}
+use Rattle.group_algebra.specs.SameTables.{same_table}
 use Rattle.group_algebra.specs.Coordinates.{sizes}
 use Rattle.coho_main.specs.Layers.{IsTableOf, AreLayerSizes}
 
-module _ (P : Presentation) (G H : GroupTable) (g : IsTableOf P G) (h : IsTableOf P H) where
-  same_prime : G.p ≡ H.p
+module _ (P : Presentation) (G H : PGroup) (g : IsTableOf P G) (h : IsTableOf P H) where
+  same_prime : G.table.p ≡ H.table.p
   same_prime = g.group.prime-is ∙ sym h.group.prime-is
 
-  same_rank : G.n ≡ H.n
+  same_rank : G.table.n ≡ H.table.n
   same_rank = g.group.rank-is ∙ sym h.group.rank-is
 
-  same_order : order G ≡ order H
-  same_order = order_is G ∙ ap (λ p. p ^ G.n) same_prime ∙ ap (λ n. H.p ^ n) same_rank ∙ sym (order_is H)
+  same_order : order G.table ≡ order H.table
+  same_order = order_is G.table ∙ ap (λ p. p ^ G.table.n) same_prime ∙ ap (λ n. H.table.p ^ n) same_rank ∙ sym (order_is H.table)
 
-  same_product : (a b : ℕ) → a < order G → b < order G → product G a b ≡ product H a b
+  same_product : (a b : ℕ) → a < order G.table → b < order G.table → product G.table a b ≡ product H.table a b
   same_product a b l m = g.group.product-is a b l m ∙ sym (h.group.product-is a b (subst (λ n. a < n) same_order l) (subst (λ n. b < n) same_order m))
 
-  at : (a b : ℕ) → a < order G → b < order G → get_or G.entries (a * order G + b) 0 ≡ get_or H.entries (a * order G + b) 0
-  at a b l m = sym (product_is G a b) ∙ same_product a b l m ∙ product_is H a b ∙ ap (λ n. get_or H.entries (a * n + b) 0) (sym same_order)
+  at : (a b : ℕ) → a < order G.table → b < order G.table → get_or G.table.entries (a * order G.table + b) 0 ≡ get_or H.table.entries (a * order G.table + b) 0
+  at a b l m = sym (product_is G.table a b) ∙ same_product a b l m ∙ product_is H.table a b ∙ ap (λ n. get_or H.table.entries (a * n + b) 0) (sym same_order)
 
-  same_entry : (i : ℕ) → i < order G * order G → get_or G.entries i 0 ≡ get_or H.entries i 0
+  same_entry : (i : ℕ) → i < order G.table * order G.table → get_or G.table.entries i 0 ≡ get_or H.table.entries i 0
   same_entry i l =
-      let above : 0 < order G = grind arith in
-      subst (λ k. get_or G.entries k 0 ≡ get_or H.entries k 0) (div-add-mod' i (order G)) (at (i / order G) (i % order G) ((div-lt_iff_lt-mul above).1 l) (mod-lt i above))
+      let above : 0 < order G.table = grind arith in
+      subst (λ k. get_or G.table.entries k 0 ≡ get_or H.table.entries k 0) (div-add-mod' i (order G.table)) (at (i / order G.table) (i % order G.table) ((div-lt_iff_lt-mul above).1 l) (mod-lt i above))
 
-  same_entries : G.entries ≡ H.entries
-  same_entries = same_number_lists G.entries H.entries
+  same_entries : G.table.entries ≡ H.table.entries
+  same_entries = same_number_lists G.table.entries H.table.entries
       (g.table.size ∙ ap (λ n. n * n) same_order ∙ sym h.table.size)
       (λ i l. same_entry i (subst (λ n. i < n) g.table.size l))
 
-  -- so there is one table
+  -- so there is one table, and one p-group
   pub one_table : G ≡ H
-  one_table =
-      ap (λ p. record { p = p; n = G.n; entries = G.entries }) same_prime
-      ∙ ap (λ n. record { p = H.p; n = n; entries = G.entries }) same_rank
-      ∙ ap (λ e. record { p = H.p; n = H.n; entries = e }) same_entries
+  one_table = same_table G H
+      (ap (λ p. record { p = p; n = G.table.n; entries = G.table.entries }) same_prime
+      ∙ ap (λ n. record { p = H.table.p; n = n; entries = G.table.entries }) same_rank
+      ∙ ap (λ e. record { p = H.table.p; n = H.table.n; entries = e }) same_entries)
 
 -- and one list of layer sizes
 pub one_sizes : (P : Presentation) (xs ys : List ℕ) → AreLayerSizes P xs → AreLayerSizes P ys → xs ≡ ys
 one_sizes P xs ys a b =
-    let k = a.is_table.p_group in
-    a.are k ∙ sym (subst (λ G. (h : IsPGroup G) → ys ≡ sizes G h) (sym (one_table P a.group b.group a.is_table b.is_table)) b.are k)
+    a.are ∙ sym (subst (λ G. ys ≡ sizes G) (sym (one_table P a.group b.group a.is_table b.is_table)) b.are)

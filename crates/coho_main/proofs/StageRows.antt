@@ -8,8 +8,8 @@ use Rattle.std.specs.declared.result.Result.TheVariants.{Ok, Err}
 use Rattle.std.specs.Option.{option_map}
 use Rattle.std.proofs.lemmas.List.{take_more, append-nil}
 use Rattle.std.proofs.lemmas.Grind.{flat_map-append}
-use Rattle.group_table.specs.Tables.{GroupTable, order}
-use Rattle.group_algebra.specs.PGroups.{IsPGroup}
+use Rattle.group_table.specs.Tables.{order}
+use Rattle.group_algebra.specs.PGroups.{PGroup}
 use Rattle.min_res.specs.declared.fault.ResFault.{ResFault}
 use Rattle.min_res.specs.declared.fault.ResFault.TheVariants as fault
 use Rattle.min_res.specs.Values.{BoundaryValue, StageValue, ResolutionValue, boundary_of, no_rows}
@@ -66,8 +66,8 @@ places_next places text more i lt h k =
 
 -- a stage of a group
 
-module _ (G : GroupTable) (h : IsPGroup G) where
-  pub has_rows : (d : ℕ) (s : StageValue) → IsStageAt G h d s → HasRows s
+module _ (G : PGroup) where
+  pub has_rows : (d : ℕ) (s : StageValue) → IsStageAt G d s → HasRows s
   has_rows zero s L = subst (λ o. MatchOption o (s.degree ≡ 0) (λ B. (0 < s.degree) × (s.rank ≡ length B.positions))) (sym (L.none_at_zero refl)) L.degree_is
   has_rows (suc d) s L =
       let b = L.boundary_is d refl in
@@ -75,19 +75,19 @@ module _ (G : GroupTable) (h : IsPGroup G) where
       let above : 0 < s.degree = omega (arith, e) in
       subst (λ o. MatchOption o (s.degree ≡ 0) (λ B. (0 < s.degree) × (s.rank ≡ length B.positions))) (sym b.1) (above, L.rank_is ∙ ap length (sym b.2.positions_are))
 
-  same_rows : (d : ℕ) (s : StageValue) → IsStageAt G h d s → (summary s).rows ≡ rows_at G h d
+  same_rows : (d : ℕ) (s : StageValue) → IsStageAt G d s → (summary s).rows ≡ rows_at G d
   same_rows zero s L = ap (option_map (λ B. B.positions)) (L.none_at_zero refl)
   same_rows (suc d) s L =
       let b = L.boundary_is d refl in
       ap (option_map (λ B. B.positions)) b.1 ∙ ap (λ ps. Some ps) b.2.positions_are
 
   -- its summary is that of its degree
-  pub same_summary : (d : ℕ) (s : StageValue) → IsStageAt G h d s → summary s ≡ stage_at G h d
+  pub same_summary : (d : ℕ) (s : StageValue) → IsStageAt G d s → summary s ≡ stage_at G d
   same_summary d s L =
       ap (λ k. record { degree = k; rank = s.rank; kernel = length s.kernel.rows; rows = (summary s).rows }) L.degree_is
       ∙ ap (λ k. record { degree = d; rank = k; kernel = length s.kernel.rows; rows = (summary s).rows }) L.rank_is
-      ∙ ap (λ m. record { degree = d; rank = rank_of G h d; kernel = length m.rows; rows = (summary s).rows }) L.kernel_is
-      ∙ ap (λ rows. record { degree = d; rank = rank_of G h d; kernel = length ((stage_rows G h).kernel d); rows = rows }) (same_rows d s L)
+      ∙ ap (λ m. record { degree = d; rank = rank_of G d; kernel = length m.rows; rows = (summary s).rows }) L.kernel_is
+      ∙ ap (λ rows. record { degree = d; rank = rank_of G d; kernel = length ((stage_rows G).kernel d); rows = rows }) (same_rows d s L)
 
   split : (d i : ℕ) → d ≤ suc i → (d ≤ i) ⊎ (d ≡ suc i)
   split zero i l = inl (omega arith)
@@ -95,23 +95,23 @@ module _ (G : GroupTable) (h : IsPGroup G) where
   split (suc d) (suc i) l = elim (split d i (omega arith)) [ inl k ↦ inl (omega arith) | inr k ↦ inr (omega arith) ]
 
   -- one stage more fits
-  fit_more : (i : ℕ) → Fit G h i → dimension G h (suc i) ≤ 4096 → Fit G h (i + 1)
-  fit_more i fit top d from to = elim (split d i (omega arith)) [ inl k ↦ fit d from k | inr k ↦ subst (λ d. dimension G h d ≤ 4096) (sym k) top ]
+  fit_more : (i : ℕ) → Fit G i → dimension G (suc i) ≤ 4096 → Fit G (i + 1)
+  fit_more i fit top d from to = elim (split d i (omega arith)) [ inl k ↦ fit d from k | inr k ↦ subst (λ d. dimension G d ≤ 4096) (sym k) top ]
 
-  first_fault : (i n : ℕ) (e : ResFault) → i < n → Fit G h i → IsRefusal G h (suc i) 4096 e → IsStageFault G h n e
+  first_fault : (i n : ℕ) (e : ResFault) → i < n → Fit G i → IsRefusal G (suc i) 4096 e → IsStageFault G n e
   first_fault i n (fault.TooLarge d X) lt fit r =
       let is = r.0 in
       record {
         from = omega arith;
         to = omega arith;
-        is = r.1 ∙ ap (dimension G h) (sym is);
+        is = r.1 ∙ ap (dimension G) (sym is);
         above = r.2;
         first = λ c from less. fit c from (omega arith);
       }
   first_fault i n fault.Memory lt fit r = tt
 
-pub line_of : {E : Type 0} (G : GroupTable) (d : ℕ) (s : StageValue) → ((h : IsPGroup G) → IsStageAt G h d s) → (r : Result (String Global) E) → IfOk r (λ text. string_bytes text ≡ stage_line (summary s)) → IfOk r (λ text. TellsStage G d (string_bytes text))
-line_of G d s L (Ok text) is = (summary s, λ h. same_summary G h d s (L h), is)
+pub line_of : {E : Type 0} (G : PGroup) (d : ℕ) (s : StageValue) → IsStageAt G d s → (r : Result (String Global) E) → IfOk r (λ text. string_bytes text ≡ stage_line (summary s)) → IfOk r (λ text. TellsStage G d (string_bytes text))
+line_of G d s L (Ok text) is = (summary s, same_summary G d s L, is)
 line_of G d s L (Err e) is = tt
 
 contents_push : (lines : List (Vec ℕ Global)) (line : Vec ℕ Global) → contents (lines ++ line ∷ []) ≡ contents lines ++ line.items ∷ []
@@ -122,15 +122,15 @@ lines_push : (stages : List Summary) (x : Summary) → stage_lines (stages ++ x 
 lines_push [] x = refl
 lines_push (y ∷ stages) x = ap (λ ls. stage_line y ∷ ls) (lines_push stages x)
 
-pub no_lines : (G : GroupTable) (lines : List (Vec ℕ Global)) → lines ≡ [] → TellsStages G 0 (contents lines)
-no_lines G lines e = ([], λ h. refl, ap contents e)
+pub no_lines : (G : PGroup) (lines : List (Vec ℕ Global)) → lines ≡ [] → TellsStages G 0 (contents lines)
+no_lines G lines e = ([], refl, ap contents e)
 
 -- the lines, one more
-pub lines_next : (G : GroupTable) (lines more : List (Vec ℕ Global)) (line : Vec ℕ Global) (text : List ℕ) (d : ℕ) → TellsStages G d (contents lines) → TellsStage G d text → line.items ≡ text → more ≡ lines ++ line ∷ [] → TellsStages G (d + 1) (contents more)
+pub lines_next : (G : PGroup) (lines more : List (Vec ℕ Global)) (line : Vec ℕ Global) (text : List ℕ) (d : ℕ) → TellsStages G d (contents lines) → TellsStage G d text → line.items ≡ text → more ≡ lines ++ line ∷ [] → TellsStages G (d + 1) (contents more)
 lines_next G lines more line text d old is same push =
     let next : suc d ≡ d + 1 = omega arith in (
       old.0 ++ is.0 ∷ [],
-      λ h. ap (λ xs. xs ++ is.0 ∷ []) (old.1 h) ∙ ap (λ x. stages_below G h d ++ x ∷ []) (is.1 h) ∙ ap (λ c. stages_below G h c) next,
+      ap (λ xs. xs ++ is.0 ∷ []) old.1 ∙ ap (λ x. stages_below G d ++ x ∷ []) is.1 ∙ ap (λ c. stages_below G c) next,
       ap contents push ∙ contents_push lines line ∙ ap (λ t. contents lines ++ t ∷ []) same ∙ ap (λ ls. ls ++ text ∷ []) old.2 ∙ ap (λ l. stage_lines old.0 ++ l ∷ []) is.2 ∙ sym (lines_push old.0 is.0),
     )
 
@@ -142,23 +142,23 @@ module _ (start now : ResolutionValue) (i : ℕ) (same : now ≡ record start { 
       let next : suc i ≡ i + 1 = omega arith in
       e ∙ ap (λ (r : ResolutionValue). record r { last = suc r.last }) same ∙ ap (λ k. record start { last = k }) next
 
-  pub fit_next : ((h : IsPGroup start.group) → Fit start.group h i) → ((h : IsPGroup now.group) → order now.group * rank_of now.group h (suc now.last) ≤ 4096) → (h : IsPGroup start.group) → Fit start.group h (i + 1)
-  fit_next fit within h = fit_more start.group h i (fit h) (subst (λ (r : ResolutionValue). (h : IsPGroup r.group) → order r.group * rank_of r.group h (suc r.last) ≤ 4096) same within h)
+  pub fit_next : Fit start.group i → order now.group.table * rank_of now.group (suc now.last) ≤ 4096 → Fit start.group (i + 1)
+  fit_next fit within = fit_more start.group i fit (subst (λ (r : ResolutionValue). order r.group.table * rank_of r.group (suc r.last) ≤ 4096) same within)
 
-  pub fault_first : (n : ℕ) (e : ResFault) → i < n → ((h : IsPGroup start.group) → Fit start.group h i) → ((h : IsPGroup now.group) → IsRefusal now.group h (suc now.last) 4096 e) → (h : IsPGroup start.group) → IsStageFault start.group h n e
-  fault_first n e lt fit within h = first_fault start.group h i n e lt (fit h) (subst (λ (r : ResolutionValue). (h : IsPGroup r.group) → IsRefusal r.group h (suc r.last) 4096 e) same within h)
+  pub fault_first : (n : ℕ) (e : ResFault) → i < n → Fit start.group i → IsRefusal now.group (suc now.last) 4096 e → IsStageFault start.group n e
+  fault_first n e lt fit within = first_fault start.group i n e lt fit (subst (λ (r : ResolutionValue). IsRefusal r.group (suc r.last) 4096 e) same within)
 
 -- the resolution of a presentation
 
-module _ (P : Presentation) (n : ℕ) (G : GroupTable) (start : ResolutionValue) (is : IsTableOf P G) (from : start ≡ record { group = G; last = 0 }) where
-  pub resolution_to : (new : ResolutionValue) → new ≡ record start { last = n } → ((h : IsPGroup start.group) → Fit start.group h n) → IsResolutionTo P n new
+module _ (P : Presentation) (n : ℕ) (G : PGroup) (start : ResolutionValue) (is : IsTableOf P G) (from : start ≡ record { group = G; last = 0 }) where
+  pub resolution_to : (new : ResolutionValue) → new ≡ record start { last = n } → Fit start.group n → IsResolutionTo P n new
   resolution_to new e fit =
       let whole : new ≡ record { group = G; last = n } = e ∙ ap (λ (r : ResolutionValue). record r { last = n }) from in
-      let fits = subst (λ (r : ResolutionValue). (h : IsPGroup r.group) → Fit r.group h n) from fit in
+      let fits = subst (λ (r : ResolutionValue). Fit r.group n) from fit in
       subst (IsResolutionTo P n) (sym whole) (record { is_table = is; last = refl; fit = fits })
 
-  pub stage_stop : (e : ResFault) → ((h : IsPGroup start.group) → IsStageFault start.group h n e) → IsStageStop P n (stop_of e)
-  stage_stop (fault.TooLarge d X) first = record { group = G; is_table = is; is_first = subst (λ (r : ResolutionValue). (h : IsPGroup r.group) → IsFirstAbove r.group h n d X) from first }
+  pub stage_stop : (e : ResFault) → IsStageFault start.group n e → IsStageStop P n (stop_of e)
+  stage_stop (fault.TooLarge d X) first = record { group = G; is_table = is; is_first = subst (λ (r : ResolutionValue). IsFirstAbove r.group n d X) from first }
   stage_stop fault.Memory first = tt
 
 pub memory_stop : (P : Presentation) (n : ℕ) (s : Stop) → s ≡ stop.Memory → IsStageStop P n s
@@ -168,4 +168,4 @@ memory_stop P n s e = subst (IsStageStop P n) (sym e) tt
 pub stages_of : (P : Presentation) (n : ℕ) (r : ResolutionValue) → IsResolutionTo P n r → (lines : List (List ℕ)) → TellsStages r.group (r.last + 1) lines → (stages : List Summary) × AreStagesOf P n stages × (lines ≡ stage_lines stages)
 stages_of P n r R lines t =
     let same : r.last + 1 ≡ suc n = let e = R.last in omega (arith, e) in
-    (t.0, record { group = r.group; is_table = R.is_table; fit = R.fit; are = λ k. t.1 k ∙ ap (λ c. stages_below r.group k c) same }, t.2)
+    (t.0, record { group = r.group; is_table = R.is_table; fit = R.fit; are = t.1 ∙ ap (stages_below r.group) same }, t.2)

@@ -1,8 +1,7 @@
 -- How a resolution to a degree is found, or refused.
 use Rattle.std.specs.Prelude.{◌≡◌, ℕ, List, ⊤}
-use Rattle.group_table.specs.Tables.{GroupTable}
 use Rattle.power_commutator.specs.Presentations.{Presentation}
-use Rattle.group_algebra.specs.PGroups.{IsPGroup}
+use Rattle.group_algebra.specs.PGroups.{PGroup}
 use Rattle.min_res.specs.Values.{ResolutionValue}
 use Rattle.min_res.specs.declared.fault.ResFault.{ResFault}
 use Rattle.min_res.specs.declared.fault.ResFault.TheVariants as fault
@@ -14,9 +13,9 @@ use Rattle.coho_main.specs.Stages.{Summary, stage_at, stages_below, Fit, IsFirst
 use Rattle.coho_main.specs.Outcome.{stage_line, stage_lines}
 
 -- the fault names the first stage to degree n that does not fit, or memory was wanting
-abbrev pub IsStageFault : (G : GroupTable) → IsPGroup G → ℕ → ResFault → Type 0
-IsStageFault G h n (fault.TooLarge d X) = IsFirstAbove G h n d X
-IsStageFault G h n fault.Memory = ⊤
+abbrev pub IsStageFault : PGroup → ℕ → ResFault → Type 0
+IsStageFault G n (fault.TooLarge d X) = IsFirstAbove G n d X
+IsStageFault G n fault.Memory = ⊤
 
 -- the program's stop at a fault
 abbrev pub stop_of : ResFault → Stop
@@ -33,13 +32,13 @@ IsStageStop P n _ = ⊥
 pub record IsResolutionTo (P : Presentation) (n : ℕ) (r : ResolutionValue) : Type 0 where
   pub is_table : IsTableOf P r.group
   pub last : r.last ≡ n
-  pub fit : (h : IsPGroup r.group) → Fit r.group h n
+  pub fit : Fit r.group n
 
 -- the line of the stage of degree d
-abbrev pub TellsStage : GroupTable → ℕ → List ℕ → Type 0
-TellsStage G d line = (stage : Summary) × ((h : IsPGroup G) → stage ≡ stage_at G h d) × (line ≡ stage_line stage)
+abbrev pub TellsStage : PGroup → ℕ → List ℕ → Type 0
+TellsStage G d line = (stage : Summary) × (stage ≡ stage_at G d) × (line ≡ stage_line stage)
 
 -- the lines of the stages of the degrees below c
-abbrev pub TellsStages : GroupTable → ℕ → List (List ℕ) → Type 0
+abbrev pub TellsStages : PGroup → ℕ → List (List ℕ) → Type 0
 TellsStages G c lines =
-    (stages : List Summary) × ((h : IsPGroup G) → stages ≡ stages_below G h c) × (lines ≡ stage_lines stages)
+    (stages : List Summary) × (stages ≡ stages_below G c) × (lines ≡ stage_lines stages)

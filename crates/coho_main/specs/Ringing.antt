@@ -1,8 +1,7 @@
 -- The report on the ring of a presentation's group, or why there is none.
 use Rattle.std.specs.Prelude.{ℕ, ⊤}
-use Rattle.group_table.specs.Tables.{GroupTable}
 use Rattle.power_commutator.specs.Presentations.{Presentation}
-use Rattle.group_algebra.specs.PGroups.{IsPGroup}
+use Rattle.group_algebra.specs.PGroups.{PGroup}
 use Rattle.coho_report.specs.Values.{ReportValue}
 use Rattle.coho_report.specs.Reports.{IsReport, HasFewMonomials, IsFirstTooMany}
 use Rattle.coho_report.specs.declared.fault.ReportFault.{ReportFault}
@@ -14,16 +13,16 @@ use Rattle.coho_main.specs.Layers.{IsTableOf}
 
 -- the report through degree n, where no degree has more than 4096 monomials, for the group of P
 pub record IsReportOf (P : Presentation) (n : ℕ) (report : ReportValue) : Type 0 where
-  pub group : GroupTable
+  pub group : PGroup
   pub is_table : IsTableOf P group
-  pub few : (h : IsPGroup group) → HasFewMonomials group h n 4096
-  pub is : (h : IsPGroup group) → IsReport group h n report
+  pub few : HasFewMonomials group n 4096
+  pub is : IsReport group n report
 
 -- degree d is the first to n that has more than 4096 monomials, and X their number, for the group of P
 pub record HasTooMany (P : Presentation) (n d X : ℕ) : Type 0 where
-  pub group : GroupTable
+  pub group : PGroup
   pub is_table : IsTableOf P group
-  pub is_first : (h : IsPGroup group) → IsFirstTooMany group h n 4096 d X
+  pub is_first : IsFirstTooMany group n 4096 d X
 
 -- the program's stop at a fault
 abbrev pub stop_of : ReportFault → Stop

@@ -3,9 +3,9 @@ use Rattle.std.specs.Prelude.{◌≡◌, ℕ, zero, suc, ◌*◌, ◌<◌, ◌�
 use Rattle.std.specs.declared.option.Option.{Option}
 use Rattle.std.specs.declared.option.Option.TheVariants.{None, Some}
 use Rattle.std.specs.Option.{option_map}
-use Rattle.group_table.specs.Tables.{GroupTable, order}
+use Rattle.group_table.specs.Tables.{order}
 use Rattle.power_commutator.specs.Presentations.{Presentation}
-use Rattle.group_algebra.specs.PGroups.{IsPGroup}
+use Rattle.group_algebra.specs.PGroups.{PGroup}
 use Rattle.min_res.specs.Values.{StageValue}
 use Rattle.min_res.specs.Stages.{stage_rows, rank_of}
 use Rattle.coho_main.specs.Layers.{IsTableOf}
@@ -31,17 +31,17 @@ summary s = record {
 abbrev pub HasRows : StageValue → Type 0
 HasRows s = MatchOption s.boundary (s.degree ≡ 0) (λ B. (0 < s.degree) × (s.rank ≡ length B.positions))
 
-module _ (G : GroupTable) (h : IsPGroup G) where
+module _ (G : PGroup) where
   abbrev pub rows_at : ℕ → Option (List ℕ)
   rows_at zero = None
-  rows_at (suc d) = Some ((stage_rows G h).positions d)
+  rows_at (suc d) = Some ((stage_rows G).positions d)
 
   -- the stage of degree d
   abbrev pub stage_at : ℕ → Summary
   stage_at d = record {
     degree = d;
-    rank = rank_of G h d;
-    kernel = length ((stage_rows G h).kernel d);
+    rank = rank_of G d;
+    kernel = length ((stage_rows G).kernel d);
     rows = rows_at d;
   }
 
@@ -52,7 +52,7 @@ module _ (G : GroupTable) (h : IsPGroup G) where
 
   -- the dimension of the free module of degree d
   abbrev pub dimension : ℕ → ℕ
-  dimension d = order G * rank_of G h d
+  dimension d = order G.table * rank_of G d
 
   -- no dimension in the degrees 1 to n is above 4096
   abbrev pub Fit : ℕ → Type 0
@@ -68,19 +68,19 @@ module _ (G : GroupTable) (h : IsPGroup G) where
 
 -- the stages of degree 0 to n, whose dimensions all fit, for the group of P
 pub record AreStagesOf (P : Presentation) (n : ℕ) (stages : List Summary) : Type 0 where
-  pub group : GroupTable
+  pub group : PGroup
   pub is_table : IsTableOf P group
-  pub fit : (h : IsPGroup group) → Fit group h n
-  pub are : (h : IsPGroup group) → stages ≡ stages_below group h (suc n)
+  pub fit : Fit group n
+  pub are : stages ≡ stages_below group (suc n)
 
 -- the stages of degree 0 to n all fit, for the group of P
 pub record HasFitStages (P : Presentation) (n : ℕ) : Type 0 where
-  pub group : GroupTable
+  pub group : PGroup
   pub is_table : IsTableOf P group
-  pub fit : (h : IsPGroup group) → Fit group h n
+  pub fit : Fit group n
 
 -- the stage of degree d, of dimension X, is the first that does not fit, for the group of P
 pub record IsStageAbove (P : Presentation) (n d X : ℕ) : Type 0 where
-  pub group : GroupTable
+  pub group : PGroup
   pub is_table : IsTableOf P group
-  pub is_first : (h : IsPGroup group) → IsFirstAbove group h n d X
+  pub is_first : IsFirstAbove group n d X

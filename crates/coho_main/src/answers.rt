@@ -1,5 +1,4 @@
 ghost use Rattle.std.specs.Prelude.{◌≡◌, ◌+◌, ◌≤◌, ◌<◌, ◌++◌, codes, flat_map, length, IfOk, string_bytes};
-ghost use Rattle.group_algebra.specs.PGroups.{IsPGroup};
 ghost use Rattle.min_res.specs.Values.{boundary_of};
 ghost use Rattle.coho_main.specs.Outcome.{after_space, group_lines, layers_line, rows_words, stage_line};
 ghost use Rattle.coho_main.specs.Stages.{HasRows, summary};
@@ -87,7 +86,6 @@ fn stage_line(alloc: Global, stage: &Stage) -> Result<String, AllocError>
 
 // The line of the stage of degree d.
 fn line_at(alloc: Global, resolution: &Resolution, d: u32) -> Result<String, AllocError>
-    requires group { IsPGroup resolution.now.group }
     requires degree { d ≤ resolution.now.last }
     ensures { IfOk result (λ text. TellsStage resolution.now.group d (string_bytes text)) }
 {
@@ -100,7 +98,6 @@ fn line_at(alloc: Global, resolution: &Resolution, d: u32) -> Result<String, All
 /// The lines of the answer to `resolve`.
 #[tactic(auto, using(crate::proofs::StageRows::no_lines))]
 pub fn stage_lines(alloc: Global, resolution: &Resolution) -> Result<Vec<Vec<u8>>, AllocError>
-    requires group { IsPGroup resolution.now.group }
     requires few { resolution.now.last ≤ 24 }
     ensures { IfOk result (λ lines. TellsStages resolution.now.group (resolution.now.last + 1) (contents lines.items)) }
 {

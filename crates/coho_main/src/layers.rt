@@ -1,5 +1,4 @@
 ghost use Rattle.std.specs.Prelude.{◌≡◌, IfOk};
-ghost use Rattle.group_algebra.specs.PGroups.{IsPGroup};
 ghost use Rattle.group_algebra.specs.Coordinates.{sizes};
 ghost use Rattle.coho_main.specs.Layers.{IsTableOf, AreLayerSizes};
 
@@ -18,7 +17,7 @@ pub fn algebra_of(alloc: Global, consistent: &Consistent) -> Result<Algebra, Mem
 
 // The sizes of the layers of the layer basis.
 fn layer_sizes(alloc: Global, algebra: &Algebra) -> Result<Vec<usize>, AllocError>
-    ensures { IfOk result (λ found. (h : IsPGroup algebra.now) → found.items ≡ sizes algebra.now h) }
+    ensures { IfOk result (λ found. found.items ≡ sizes algebra.now) }
 {
     let mut found = Vec::new(alloc);
     for i in 0..algebra.layers() {

@@ -1,5 +1,4 @@
 ghost use Rattle.std.specs.Prelude.{◌≡◌, ◌≤◌, IfOk, IfErr, OnOk};
-ghost use Rattle.group_algebra.specs.PGroups.{IsPGroup};
 ghost use Rattle.coho_main.specs.Stages.{Fit};
 ghost use Rattle.coho_main.specs.Resolving.{IsResolutionTo, IsStageFault, IsStageStop};
 
@@ -16,9 +15,8 @@ fn extend_to(resolution: &mut Resolution, n: u32) -> Result<(), ResFault>
     requires first { resolution.old.last ≡ 0 }
     requires degree { n ≤ 24 }
     ensures extended { OnOk result (resolution.new ≡ record resolution.old { last = n }) }
-    ensures fit { OnOk result ((h : IsPGroup resolution.old.group) → Fit resolution.old.group h n) }
-    ensures refused { IfErr result
-        (λ e. (h : IsPGroup resolution.old.group) → IsStageFault resolution.old.group h n e) }
+    ensures fit { OnOk result (Fit resolution.old.group n) }
+    ensures refused { IfErr result (IsStageFault resolution.old.group n) }
 {
     for _i in 0..n {
         resolution.extend(GREATEST_DIMENSION)?;

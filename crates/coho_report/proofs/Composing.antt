@@ -1,8 +1,7 @@
 -- A ring, one degree more.
 use Rattle.std.proofs.Common.{◌≡◌, ◌∙◌, ◌⊎◌, inl, inr, ℕ, zero, suc, ◌+◌, ◌-◌, ◌≤◌, ◌<◌, min, List, [], ◌∷◌, ◌++◌, map, length, All, refl, sym, ap, subst, arith}
 use Rattle.std.specs.List.{AllByRecursion as Each}
-use Rattle.group_table.specs.Tables.{GroupTable}
-use Rattle.group_algebra.specs.PGroups.{IsPGroup, largest_residue}
+use Rattle.group_algebra.specs.PGroups.{PGroup, largest_residue}
 use Rattle.graded_polynomials.specs.Monomials.{IsMonomials}
 use Rattle.graded_polynomials.specs.Polynomials.{Polynomial, IsPolynomial}
 use Rattle.graded_algebra.specs.Algebras.{Algebra, Generator, degrees}
@@ -48,10 +47,10 @@ pub degrees_are : (q : ℕ) (gs : List GeneratorValue) → degrees (generators_o
 degrees_are q [] = refl
 degrees_are q (g ∷ gs) = ap (λ ds. g.degree ∷ ds) (degrees_are q gs)
 
-module _ (G : GroupTable) (h : IsPGroup G) where
-  pub relations_over : (n p : ℕ) (gs : List GeneratorValue) (rs : List Polynomial) → p ≡ G.p → IsPresentation G h n (generators_of (largest_residue G) gs) rs → AreOver p (map (λ g. g.degree) gs) rs
+module _ (G : PGroup) where
+  pub relations_over : (n p : ℕ) (gs : List GeneratorValue) (rs : List Polynomial) → p ≡ G.table.p → IsPresentation G n (generators_of (largest_residue G) gs) rs → AreOver p (map (λ g. g.degree) gs) rs
   relations_over n p gs rs prime made =
-      let over = each_all _ rs (all_over (largest_residue G) (cohomology G h) (generators_of (largest_residue G) gs) n rs made.relations_are) in
+      let over = each_all _ rs (all_over (largest_residue G) (cohomology G) (generators_of (largest_residue G) gs) n rs made.relations_are) in
       subst (λ p. AreOver p (map (λ g. g.degree) gs) rs) (sym prime) (subst (λ ds. All (λ (f : Polynomial). IsPolynomial (largest_residue G) ds f.degree f.terms) rs) (degrees_are (largest_residue G) gs) over)
 
   -- ---- one degree more
@@ -61,34 +60,34 @@ module _ (G : GroupTable) (h : IsPGroup G) where
   split (suc d) zero l = inr (omega arith)
   split (suc d) (suc i) l = elim (split d i (omega arith)) [ inl k ↦ inl (omega arith) | inr k ↦ inr (omega arith) ]
 
-  few_here : (k cap : ℕ) (gs : List GeneratorValue) (rs : List Polynomial) → IsPresentation G h k (generators_of (largest_residue G) gs) rs
+  few_here : (k cap : ℕ) (gs : List GeneratorValue) (rs : List Polynomial) → IsPresentation G k (generators_of (largest_residue G) gs) rs
       → ((ms : List (List ℕ)) → IsMonomials (largest_residue G) (map (λ g. g.degree) gs) (suc k) ms → min (length ms) 18446744073709551615 ≤ cap)
-      → (count : ℕ) → IsTooMany G h (suc k) cap count → ⊥
+      → (count : ℕ) → IsTooMany G (suc k) cap count → ⊥
   few_here k cap gs rs made counted count t =
       let before : suc k - 1 ≡ k = omega arith in
-      let same = span-generators-unique (largest_residue G) (cohomology G h) (dual_basis G h) k t.generators (generators_of (largest_residue G) gs)
-      (subst (λ n. IsSpanGenerators (largest_residue G) (cohomology G h) (dual_basis G h) n t.generators) before t.generators_are) made.generators_are in
+      let same = span-generators-unique (largest_residue G) (cohomology G) (dual_basis G) k t.generators (generators_of (largest_residue G) gs)
+      (subst (λ n. IsSpanGenerators (largest_residue G) (cohomology G) (dual_basis G) n t.generators) before t.generators_are) made.generators_are in
       let bound = counted t.monomials (subst (λ ds. IsMonomials (largest_residue G) ds (suc k) t.monomials) (ap degrees same ∙ degrees_are (largest_residue G) gs) t.monomials_are) in
       let is = t.count_is in
       let above = t.above in
       omega (arith, bound, is, above)
 
-  pub few_next : (k cap : ℕ) (gs : List GeneratorValue) (rs : List Polynomial) → IsPresentation G h k (generators_of (largest_residue G) gs) rs → HasFewMonomials G h k cap
+  pub few_next : (k cap : ℕ) (gs : List GeneratorValue) (rs : List Polynomial) → IsPresentation G k (generators_of (largest_residue G) gs) rs → HasFewMonomials G k cap
       → ((ms : List (List ℕ)) → IsMonomials (largest_residue G) (map (λ g. g.degree) gs) (suc k) ms → min (length ms) 18446744073709551615 ≤ cap)
-      → HasFewMonomials G h (k + 1) cap
+      → HasFewMonomials G (k + 1) cap
   few_next k cap gs rs made few counted d from to count t =
       elim (split d k (omega arith)) [
         | inl low ↦ few d from low count t
-        | inr top ↦ few_here k cap gs rs made counted count (subst (λ d. IsTooMany G h d cap count) top t)
+        | inr top ↦ few_here k cap gs rs made counted count (subst (λ d. IsTooMany G d cap count) top t)
       ]
 
-  pub refused : (k n cap : ℕ) (e : RingFault) → k < n → HasFewMonomials G h k cap → ring.IsRefusal G h (suc k) cap e → IsRefusal G h n cap (passed_up e)
+  pub refused : (k n cap : ℕ) (e : RingFault) → k < n → HasFewMonomials G k cap → ring.IsRefusal G (suc k) cap e → IsRefusal G n cap (passed_up e)
   refused k n cap (fault.TooManyMonomials d count) lt few r =
       let at = r.0 in
       record {
         from = omega arith;
         to = omega arith;
-        is = subst (λ d. IsTooMany G h d cap count) (sym at) r.1;
+        is = subst (λ d. IsTooMany G d cap count) (sym at) r.1;
         first = λ c from less other t. few c from (omega arith) other t;
       }
   refused k n cap fault.Memory lt few r = tt

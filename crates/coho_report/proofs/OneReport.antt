@@ -1,7 +1,6 @@
 -- Generators by spans are one list, and so is a report.
 use Rattle.std.proofs.Common.{◌≡◌, ◌∙◌, inl, inr, ℕ, zero, suc, ◌-◌, ◌<◌, min, List, [], ◌∷◌, ◌++◌, map, length, sym, ap, subst, arith}
-use Rattle.group_table.specs.Tables.{GroupTable}
-use Rattle.group_algebra.specs.PGroups.{IsPGroup, largest_residue}
+use Rattle.group_algebra.specs.PGroups.{PGroup, largest_residue}
 use Rattle.graded_polynomials.specs.Monomials.{IsMonomials}
 use Rattle.graded_polynomials.proofs.MonomialLists.{monomials-unique}
 use Rattle.graded_polynomials.specs.Polynomials.{Polynomial}
@@ -32,20 +31,20 @@ module _ (q : ℕ) {V : Type 0} (A : Algebra V) where
       (subst (λ ms. IsChosen q A (map (evaluate A h.0) ms) (basis (suc d)) [] g.2) monomials (subst (λ b. IsChosen q A (map (evaluate A b) g.1) (basis (suc d)) [] g.2) same g.5)) h.5 in
       g.6 ∙ ap (λ b. b ++ generators_of q A (suc d) g.2) same ∙ ap (λ c. h.0 ++ generators_of q A (suc d) c) chosen ∙ sym h.6
 
-module _ (G : GroupTable) (h : IsPGroup G) where
+module _ (G : PGroup) where
   abbrev Class : Type 0
   Class = Vector (largest_residue G)
 
-  same_generators : (n : ℕ) (gs hs : List (Generator Class)) (rs ss : List Polynomial) → IsPresentation G h n gs rs → IsPresentation G h n hs ss → gs ≡ hs
-  same_generators n gs hs rs ss g k = span-generators-unique (largest_residue G) (cohomology G h) (dual_basis G h) n gs hs g.generators_are k.generators_are
+  same_generators : (n : ℕ) (gs hs : List (Generator Class)) (rs ss : List Polynomial) → IsPresentation G n gs rs → IsPresentation G n hs ss → gs ≡ hs
+  same_generators n gs hs rs ss g k = span-generators-unique (largest_residue G) (cohomology G) (dual_basis G) n gs hs g.generators_are k.generators_are
 
-  same_relations : (n : ℕ) (gs hs : List (Generator Class)) (rs ss : List Polynomial) → IsPresentation G h n gs rs → IsPresentation G h n hs ss → rs ≡ ss
+  same_relations : (n : ℕ) (gs hs : List (Generator Class)) (rs ss : List Polynomial) → IsPresentation G n gs rs → IsPresentation G n hs ss → rs ≡ ss
   same_relations n gs hs rs ss g k =
       let same = same_generators n gs hs rs ss g k in
-      relations-unique (largest_residue G) Class (cohomology G h) (vector-space (largest_residue G) (multiply G h)) hs n rs ss
-      (subst (λ gs. IsRelations (largest_residue G) (cohomology G h) gs n rs) same g.relations_are) k.relations_are
+      relations-unique (largest_residue G) Class (cohomology G) (vector-space (largest_residue G) (multiply G)) hs n rs ss
+      (subst (λ gs. IsRelations (largest_residue G) (cohomology G) gs n rs) same g.relations_are) k.relations_are
 
-  pub one_report : (n : ℕ) (r s : ReportValue) → IsReport G h n r → IsReport G h n s → r ≡ s
+  pub one_report : (n : ℕ) (r s : ReportValue) → IsReport G n r → IsReport G n s → r ≡ s
   one_report n r s a b =
       let generators = a.degrees_are ∙ ap degrees (same_generators n a.generators b.generators r.relations s.relations a.presentation b.presentation) ∙ sym b.degrees_are in
       let relations = same_relations n a.generators b.generators r.relations s.relations a.presentation b.presentation in
@@ -55,19 +54,19 @@ module _ (G : GroupTable) (h : IsPGroup G) where
       let ranks = a.ranks ∙ sym b.ranks in
       λ i. record { prime = prime i; order = orders i; degree = degree i; ranks = ranks i; generators = generators i; relations = relations i }
 
-  one_count : (d cap x y : ℕ) → IsTooMany G h d cap x → IsTooMany G h d cap y → x ≡ y
+  one_count : (d cap x y : ℕ) → IsTooMany G d cap x → IsTooMany G d cap y → x ≡ y
   one_count d cap x y a b =
-      let same = span-generators-unique (largest_residue G) (cohomology G h) (dual_basis G h) (d - 1) a.generators b.generators a.generators_are b.generators_are in
+      let same = span-generators-unique (largest_residue G) (cohomology G) (dual_basis G) (d - 1) a.generators b.generators a.generators_are b.generators_are in
       let monomials = monomials-unique (largest_residue G) (degrees b.generators) d a.monomials b.monomials
       (subst (λ gs. IsMonomials (largest_residue G) (degrees gs) d a.monomials) same a.monomials_are) b.monomials_are in
       a.count_is ∙ ap (λ ms. min (length ms) 18446744073709551615) monomials ∙ sym b.count_is
 
-  not_less : (n cap d x e y : ℕ) → IsFirstTooMany G h n cap d x → IsFirstTooMany G h n cap e y → d < e → ⊥
+  not_less : (n cap d x e y : ℕ) → IsFirstTooMany G n cap d x → IsFirstTooMany G n cap e y → d < e → ⊥
   not_less n cap d x e y a b less = b.first d a.from less x a.is
 
-  pub one_refusal : (n cap d x e y : ℕ) → IsFirstTooMany G h n cap d x → IsFirstTooMany G h n cap e y → (d ≡ e) × (x ≡ y)
+  pub one_refusal : (n cap d x e y : ℕ) → IsFirstTooMany G n cap d x → IsFirstTooMany G n cap e y → (d ≡ e) × (x ≡ y)
   one_refusal n cap d x e y a b =
       let left = not_less n cap d x e y a b in
       let right = not_less n cap e y d x b a in
       let same : d ≡ e = grind (arith, left, right) in
-      (same, one_count e cap x y (subst (λ d. IsTooMany G h d cap x) same a.is) b.is)
+      (same, one_count e cap x y (subst (λ d. IsTooMany G d cap x) same a.is) b.is)

@@ -1,7 +1,6 @@
 -- When a report is not composed.
 use Rattle.std.specs.Prelude.{ℕ, ⊤}
-use Rattle.group_table.specs.Tables.{GroupTable}
-use Rattle.group_algebra.specs.PGroups.{IsPGroup}
+use Rattle.group_algebra.specs.PGroups.{PGroup}
 use Rattle.ring_present.specs.declared.fault.RingFault.{RingFault}
 use Rattle.ring_present.specs.declared.fault.RingFault.TheVariants as ring
 use Rattle.coho_report.specs.declared.fault.ReportFault.{ReportFault}
@@ -14,6 +13,6 @@ passed_up (ring.TooManyMonomials degree count) = report.TooManyMonomials degree 
 passed_up ring.Memory = report.Memory
 
 -- the fault names the first degree from 1 to n with more than cap monomials, and their number; or memory was wanting
-abbrev pub IsRefusal : (G : GroupTable) → IsPGroup G → ℕ → ℕ → ReportFault → Type 0
-IsRefusal G h n cap (report.TooManyMonomials degree count) = IsFirstTooMany G h n cap degree count
-IsRefusal G h n cap report.Memory = ⊤
+abbrev pub IsRefusal : PGroup → ℕ → ℕ → ReportFault → Type 0
+IsRefusal G n cap (report.TooManyMonomials degree count) = IsFirstTooMany G n cap degree count
+IsRefusal G n cap report.Memory = ⊤

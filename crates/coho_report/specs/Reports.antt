@@ -1,36 +1,36 @@
 -- The report on the cohomology ring of a p-group through a degree.
 use Rattle.std.specs.Prelude.{◌≡◌, ℕ, zero, suc, ◌<◌, ◌≤◌, List, [], ◌∷◌, ◌++◌}
-use Rattle.group_table.specs.Tables.{GroupTable, order}
-use Rattle.group_algebra.specs.PGroups.{IsPGroup, largest_residue}
+use Rattle.group_table.specs.Tables.{order}
+use Rattle.group_algebra.specs.PGroups.{PGroup, largest_residue}
 use Rattle.min_res.specs.Stages.{rank_of}
 use Rattle.graded_algebra.specs.Algebras.{Generator, degrees}
 use Rattle.graded_algebra.specs.Vectors.{Vector}
 use Rattle.ring_present.specs.Rings.{IsPresentation, IsTooMany}
 use Rattle.coho_report.specs.Values.{ReportValue}
 
-module _ (G : GroupTable) (h : IsPGroup G) where
+module _ (G : PGroup) where
   -- the ranks of the degrees below c, from 0 on
   abbrev pub ranks_below : ℕ → List ℕ
   ranks_below zero = []
-  ranks_below (suc c) = ranks_below c ++ rank_of G h c ∷ []
+  ranks_below (suc c) = ranks_below c ++ rank_of G c ∷ []
 
   -- the report has the ranks of degrees 0 to n, and the generators and relations of degrees 1 to n
   pub record IsReport (n : ℕ) (r : ReportValue) : Type 0 where
-    pub prime : r.prime ≡ G.p
-    pub order_is : r.order ≡ order G
+    pub prime : r.prime ≡ G.table.p
+    pub order_is : r.order ≡ order G.table
     pub degree : r.degree ≡ n
     pub ranks : r.ranks ≡ ranks_below (suc n)
     pub generators : List (Generator (Vector (largest_residue G)))
     pub degrees_are : r.generators ≡ degrees generators
-    pub presentation : IsPresentation G h n generators r.relations
+    pub presentation : IsPresentation G n generators r.relations
 
   -- no degree from 1 to n has more than cap monomials in generators of lower degree
   abbrev pub HasFewMonomials : ℕ → ℕ → Type 0
-  HasFewMonomials n cap = (d : ℕ) → 1 ≤ d → d ≤ n → (count : ℕ) → IsTooMany G h d cap count → ⊥
+  HasFewMonomials n cap = (d : ℕ) → 1 ≤ d → d ≤ n → (count : ℕ) → IsTooMany G d cap count → ⊥
 
   -- d is the first degree from 1 to n that has more, and count is their number, or 2^64 - 1 where there are more
   pub record IsFirstTooMany (n cap d count : ℕ) : Type 0 where
     pub from : 1 ≤ d
     pub to : d ≤ n
-    pub is : IsTooMany G h d cap count
-    pub first : (c : ℕ) → 1 ≤ c → c < d → (other : ℕ) → IsTooMany G h c cap other → ⊥
+    pub is : IsTooMany G d cap count
+    pub first : (c : ℕ) → 1 ≤ c → c < d → (other : ℕ) → IsTooMany G c cap other → ⊥

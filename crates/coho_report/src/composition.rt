@@ -1,7 +1,7 @@
 //! A report, from a resolution.
 
 ghost use Rattle.std.specs.Prelude.{◌≡◌, ◌+◌, ◌≤◌, ◌<◌, ◌^◌, map, suc, IfOk, IfErr};
-ghost use Rattle.group_algebra.specs.PGroups.{IsPGroup, largest_residue};
+ghost use Rattle.group_algebra.specs.PGroups.{largest_residue};
 ghost use Rattle.min_res.specs.Stages.{rank_of};
 ghost use Rattle.ring_present.specs.Rings.{IsPresentation};
 ghost use Rattle.ring_present.specs.Values.{generators_of};
@@ -17,12 +17,12 @@ use std::alloc::{AllocError, Global};
 fn ring_through(alloc: Global, res: &Resolution, n: u32, cap: u64) -> Result<Ring, RingFault>
     requires to { n ≤ res.now.last }
     requires high { n ≤ 24 }
-    ensures prime { IfOk result (λ ring. ring.prime ≡ res.now.group.p) }
+    ensures prime { IfOk result (λ ring. ring.prime ≡ res.now.group.table.p) }
     ensures degree { IfOk result (λ ring. ring.degree ≡ n) }
-    ensures presentation { IfOk result (λ ring. (h : IsPGroup res.now.group) → IsPresentation res.now.group h n
+    ensures presentation { IfOk result (λ ring. IsPresentation res.now.group n
         (generators_of (largest_residue res.now.group) ring.generators) ring.relations) }
-    ensures few { IfOk result (λ ring. (h : IsPGroup res.now.group) → HasFewMonomials res.now.group h n cap) }
-    ensures refused { IfErr result (λ e. (h : IsPGroup res.now.group) → IsRefusal res.now.group h n cap (passed_up e)) }
+    ensures few { IfOk result (λ ring. HasFewMonomials res.now.group n cap) }
+    ensures refused { IfErr result (λ e. IsRefusal res.now.group n cap (passed_up e)) }
 {
     let mut ring = Ring::start(alloc, res.algebra().group().prime());
     for _d in 0..n {
@@ -34,7 +34,7 @@ fn ring_through(alloc: Global, res: &Resolution, n: u32, cap: u64) -> Result<Rin
 // The rank of degree d.
 fn rank_at(res: &Resolution, d: u32) -> usize
     requires { d ≤ res.now.last }
-    ensures { (h : IsPGroup res.now.group) → result ≡ rank_of res.now.group h d }
+    ensures { result ≡ rank_of res.now.group d }
 {
     match res.stage(d) {
         Some(stage) => stage.rank(),
@@ -45,7 +45,7 @@ fn rank_at(res: &Resolution, d: u32) -> usize
 // The ranks of the degrees below c.
 fn ranks_below(alloc: Global, res: &Resolution, c: u32) -> Result<Vec<usize>, AllocError>
     requires { c ≤ res.now.last + 1 }
-    ensures { IfOk result (λ ranks. (h : IsPGroup res.now.group) → ranks.items ≡ ranks_below res.now.group h c) }
+    ensures { IfOk result (λ ranks. ranks.items ≡ ranks_below res.now.group c) }
 {
     let mut ranks = Vec::new(alloc);
     for d in 0..c {
@@ -67,9 +67,9 @@ pub fn compose(
     requires to { n ≤ res.now.last }
     requires high { n ≤ 24 }
     requires limit { _limit ≤ 2 ^ 28 }
-    ensures report { IfOk result (λ report. (h : IsPGroup res.now.group) → IsReport res.now.group h n report) }
-    ensures few { IfOk result (λ report. (h : IsPGroup res.now.group) → HasFewMonomials res.now.group h n cap) }
-    ensures refused { IfErr result (λ e. (h : IsPGroup res.now.group) → IsRefusal res.now.group h n cap e) }
+    ensures report { IfOk result (λ report. IsReport res.now.group n report) }
+    ensures few { IfOk result (λ report. HasFewMonomials res.now.group n cap) }
+    ensures refused { IfErr result (λ e. IsRefusal res.now.group n cap e) }
 {
     let ring = ring_through(alloc, res, n, cap)?;
     let ranks = ranks_below(alloc, res, n + 1)?;

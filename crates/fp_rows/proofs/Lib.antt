@@ -2,3 +2,7 @@ pub mod Primes
 pub mod ListLemmas
 pub mod ClearingLemmas
 pub mod RefLemmas
+pub mod PlaceLemmas
+pub mod BitLemmas
+pub mod SolvingLemmas
+pub mod TableLemmas

@@ -1,3 +1,11 @@
 pub mod Values
 pub mod Lists
 pub mod Refs
+pub mod Places
+pub mod Packed
+pub mod Bits
+pub mod Numbers
+pub mod Cells
+pub mod Stores
+pub mod Solving
+pub mod Eliminations

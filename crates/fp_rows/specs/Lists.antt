@@ -1,5 +1,11 @@
-use Rattle.std.specs.Prelude.{ℕ, List, map, Vec}
+use Rattle.std.specs.Prelude.{◌≡◌, ℕ, List, map}
+use Rattle.std.specs.List.{All}
+use Rattle.fp_rows.specs.Values.{RowValue}
 
--- the rows that a list of vectors holds
-abbrev pub lists : {Z : Type 0} → List (Vec ℕ Z) → List (List ℕ)
-lists vs = map (λ v. v.items) vs
+-- the lists of numbers of rows
+abbrev pub lists : List RowValue → List (List ℕ)
+lists rows = map (λ r. r.entries) rows
+
+-- each of the rows is over p
+abbrev pub AreOver : ℕ → List RowValue → Type 0
+AreOver p rows = All (λ r. r.p ≡ p) rows

@@ -15,20 +15,21 @@ use std::marker::Model;
 pub struct Echelon {
     pub(crate) prime: Prime,
     pub(crate) width: usize,
-    pub(crate) rows: Vec<Vec<u8>>,
+    pub(crate) rows: Vec<Row>,
     pub(crate) pivots: Vec<usize>,
 }
 
 impl Model for Echelon {
     ghost use Rattle.group_table.specs.Prime.{prime_value};
-    ghost use Rattle.fp_rows.specs.Values.{MatrixValue, IsEchelonStore};
+    ghost use Rattle.fp_rows.specs.Values.{MatrixValue};
     ghost use Rattle.fp_rows.specs.Lists.{lists};
+    ghost use Rattle.fp_rows.specs.Stores.{IsEchelonStore};
 
     ghost Value = { MatrixValue };
 
     ghost view = { λ a. record { p = prime_value a.prime; width = a.width; rows = lists a.rows.items } };
 
-    ghost invariant = { λ a. IsEchelonStore (prime_value a.prime) a.width (lists a.rows.items) a.pivots.items };
+    ghost invariant = { λ a. IsEchelonStore (prime_value a.prime) a.width a.rows.items a.pivots.items };
 }
 
 impl Echelon {
@@ -62,7 +63,7 @@ impl Echelon {
         ensures modulus { modulus_of result ≡ self.now.p }
         ensures is_row { IsRow self.now.p self.now.width (row self.now.rows i) }
     {
-        RowRef::over(self.prime, self.rows[i].as_slice())
+        self.rows[i].view()
     }
 
     /// The place of the first entry of row i that is not 0.
@@ -80,7 +81,7 @@ impl Echelon {
         requires same_width { length (entries_of v) ≡ self.now.width }
         ensures { IsTrue result ↔ IsInSpan self.now.p self.now.rows (entry (entries_of v.entry)) }
     {
-        is_member(self.prime, &self.rows, &self.pivots, v.bytes)
+        is_member(self.prime, &self.rows, &self.pivots, v)
     }
 
     /// Subtracts from v, which has the width, the one member of the span that makes it 0 at every pivot.
@@ -91,6 +92,6 @@ impl Echelon {
         ensures row { IsRow self.now.p self.now.width v.new.entries }
         ensures reduced { IsReduced self.now.p self.now.rows v.old.entries v.new.entries }
     {
-        reduce_by(self.prime, &self.rows, &self.pivots, &mut v.items);
+        reduce_by(&self.rows, &self.pivots, v);
     }
 }

@@ -1,20 +1,20 @@
 ghost use Rattle.std.specs.Prelude.{◌≡◌, ◌<◌, ◌^◌, length, IfOk};
 ghost use Rattle.linear_algebra.specs.Choices.{IsGreedy};
-ghost use Rattle.fp_rows.specs.Lists.{lists};
 
 use crate::basis::Echelon;
-use crate::elimination::{copy_of, insert_row};
+use crate::elimination::insert_row;
 use crate::positions::Positions;
+use crate::row::Row;
 use group_table::Memory;
 use std::alloc::Global;
 
-// Vectors with these rows.
-fn copies_of(alloc: Global, rows: &[Vec<u8>]) -> Result<Vec<Vec<u8>>, Memory>
-    ensures { IfOk result (λ v. lists v.items ≡ lists rows.now) }
+// A vector with these rows.
+fn copies_of(alloc: Global, rows: &[Row]) -> Result<Vec<Row>, Memory>
+    ensures { IfOk result (λ v. v.items ≡ rows.now) }
 {
     let mut copies = Vec::new(alloc);
     for r in rows {
-        let copy = copy_of(alloc, r)?;
+        let copy = Row::copy_of(alloc, r.view())?;
         copies.push(copy)?;
     }
     Ok(copies)
@@ -40,8 +40,8 @@ pub fn greedy(alloc: Global, s: &Echelon, t: &Echelon) -> Result<Positions, Memo
     let mut rows = copies_of(alloc, &t.rows)?;
     let mut pivots = places_of(alloc, &t.pivots)?;
     for (i, r) in s.rows.iter().enumerate() {
-        let v = copy_of(alloc, r)?;
-        if insert_row(s.prime, &mut rows, &mut pivots, v)? {
+        let v = Row::copy_of(alloc, r.view())?;
+        if insert_row(&mut rows, &mut pivots, v)? {
             positions.push(i as u32)?;
         }
     }

@@ -2,51 +2,45 @@ ghost use Rattle.std.specs.Prelude.{◌≡◌, ℕ, ◌+◌, ◌<◌, ◌≤◌,
 ghost use Rattle.group_table.specs.Prime.{prime_value};
 ghost use Rattle.linear_algebra.specs.Rows.{entry, row, pivot, IsRow, IsMatrix, IsEchelon, IsEchelonOf, IsInSpan, IsReduced};
 ghost use Rattle.linear_algebra.specs.Elimination.{IsCleared, AreCleared, IsPrepared, IsPlace};
-ghost use Rattle.fp_rows.specs.Lists.{lists};
+ghost use Rattle.fp_rows.specs.Lists.{lists, AreOver};
 
-use crate::arithmetic::{add_times, inverse, pivot_of, scale};
-use group_table::{Memory, Prime};
-use std::alloc::Global;
-
-/// A vector with these entries.
-pub fn copy_of(alloc: Global, r: &[u8]) -> Result<Vec<u8>, Memory>
-    ensures { IfOk result (λ v. v.items ≡ r.now) }
-{
-    let mut v = Vec::new(alloc);
-    v.extend_from_slice(r)?;
-    Ok(v)
-}
+use crate::arithmetic::inverse;
+use crate::row::Row;
+use group_table::Memory;
 
 /// Makes v 0 at each pivot, by a member of the span of the rows.
-pub fn reduce_by(p: Prime, rows: &[Vec<u8>], pivots: &[usize], v: &mut [u8])
-    requires matrix { IsMatrix (prime_value p) (length v.old) (lists rows.now) }
+pub fn reduce_by(rows: &[Row], pivots: &[usize], v: &mut Row)
+    requires matrix { IsMatrix v.old.p (length v.old.entries) (lists rows.now) }
     requires echelon { IsEchelon (lists rows.now) }
     requires pivots_are { pivots.now ≡ map pivot (lists rows.now) }
-    requires v_is { IsRow (prime_value p) (length v.old) v.old }
-    ensures row_is { IsRow (prime_value p) (length v.old) v.new }
-    ensures reduced { IsReduced (prime_value p) (lists rows.now) v.old v.new }
+    ensures prime { v.new.p ≡ v.old.p }
+    ensures row_is { IsRow v.old.p (length v.old.entries) v.new.entries }
+    ensures reduced { IsReduced v.old.p (lists rows.now) v.old.entries v.new.entries }
 {
-    let m = p.value();
+    let _len = v.len();
+    let m = v.prime().value();
     for (i, r) in rows.iter().enumerate() {
-        let c = v[pivots[i]];
+        let c = v.get(pivots[i]);
         if c != 0 {
-            add_times(p, m - c, v, r);
+            v.add_row(m - c, r);
         }
     }
 }
 
 // Makes each row 0 at place t, where v is 1, by a multiple of v.
-fn clear_column(p: Prime, rows: &mut [Vec<u8>], t: usize, v: &[u8])
-    requires rows_are { IsMatrix (prime_value p) (length v.now) (lists rows.old) }
-    requires v_is { IsRow (prime_value p) (length v.now) v.now }
-    requires inside { t < length v.now }
-    ensures { AreCleared (prime_value p) (length v.now) t v.now (lists rows.old) (lists rows.new) }
+fn clear_column(rows: &mut [Row], t: usize, v: &Row)
+    requires rows_are { IsMatrix v.now.p (length v.now.entries) (lists rows.old) }
+    requires over { AreOver v.now.p rows.old }
+    requires inside { t < length v.now.entries }
+    ensures cleared { AreCleared v.now.p (length v.now.entries) t v.now.entries (lists rows.old) (lists rows.new) }
+    ensures over { AreOver v.now.p rows.new }
 {
-    let m = p.value();
+    let _len = v.len();
+    let m = v.prime().value();
     for r in rows.iter_mut() {
-        let c = r[t];
+        let c = r.get(t);
         if c != 0 {
-            add_times(p, m - c, r, v);
+            r.add_row(m - c, v);
         }
     }
 }
@@ -66,71 +60,70 @@ pub fn place_of(pivots: &[usize], t: usize) -> usize
 }
 
 // Makes v 0 at the pivots of the rows and its first entry that is not 0 1, and returns the place of that entry.
-#[tactic(auto, using(linear_algebra::proofs::AddedRow::prepared_zero, crate::proofs::Primes::prime_above_one))]
-fn prepare(p: Prime, rows: &[Vec<u8>], pivots: &[usize], v: &mut [u8]) -> usize
-    requires matrix { IsMatrix (prime_value p) (length v.old) (lists rows.now) }
+fn prepare(rows: &[Row], pivots: &[usize], v: &mut Row) -> usize
+    requires matrix { IsMatrix v.old.p (length v.old.entries) (lists rows.now) }
     requires echelon { IsEchelon (lists rows.now) }
     requires pivots_are { pivots.now ≡ map pivot (lists rows.now) }
-    requires v_is { IsRow (prime_value p) (length v.old) v.old }
-    ensures place { result ≡ pivot v.new }
-    ensures prepared { IsPrepared (prime_value p) (length v.old) (lists rows.now) v.old v.new }
+    ensures prime { v.new.p ≡ v.old.p }
+    ensures place { result ≡ pivot v.new.entries }
+    ensures prepared { IsPrepared v.old.p (length v.old.entries) (lists rows.now) v.old.entries v.new.entries }
 {
-    reduce_by(p, rows, pivots, v);
-    let t = pivot_of(v);
+    let _len = v.len();
+    let _prime = v.prime();
+    reduce_by(rows, pivots, v);
+    let t = v.first();
     if t < v.len() {
-        let c = inverse(p, v[t]);
-        scale(p, c, v);
+        let c = inverse(v.prime(), v.get(t));
+        v.scale(c);
     }
     t
 }
 
-// `prepare` of a vector's entries.
-fn prepare_vec(p: Prime, rows: &Vec<Vec<u8>>, pivots: &Vec<usize>, v: &mut Vec<u8>) -> usize
-    requires matrix { IsMatrix (prime_value p) (length v.old.items) (lists rows.now.items) }
+// `prepare` by the rows of a vector.
+fn prepare_vec(rows: &Vec<Row>, pivots: &Vec<usize>, v: &mut Row) -> usize
+    requires matrix { IsMatrix v.old.p (length v.old.entries) (lists rows.now.items) }
     requires echelon { IsEchelon (lists rows.now.items) }
     requires pivots_are { pivots.now.items ≡ map pivot (lists rows.now.items) }
-    requires v_is { IsRow (prime_value p) (length v.old.items) v.old.items }
-    ensures place { result ≡ pivot v.new.items }
-    ensures prepared { IsPrepared (prime_value p) (length v.old.items) (lists rows.now.items) v.old.items v.new.items }
+    ensures prime { v.new.p ≡ v.old.p }
+    ensures place { result ≡ pivot v.new.entries }
+    ensures prepared { IsPrepared v.old.p (length v.old.entries) (lists rows.now.items) v.old.entries v.new.entries }
 {
-    prepare(p, rows, pivots, v)
+    prepare(rows, pivots, v)
 }
 
 // Clears column t of the rows, and returns the place at which v belongs.
-fn clear_vec(p: Prime, rows: &mut Vec<Vec<u8>>, pivots: &Vec<usize>, t: usize, v: &Vec<u8>) -> usize
-    requires matrix { IsMatrix (prime_value p) (length v.now.items) (lists rows.old.items) }
+fn clear_vec(rows: &mut Vec<Row>, pivots: &Vec<usize>, t: usize, v: &Row) -> usize
+    requires matrix { IsMatrix v.now.p (length v.now.entries) (lists rows.old.items) }
+    requires over { AreOver v.now.p rows.old.items }
     requires echelon { IsEchelon (lists rows.old.items) }
     requires pivots_are { pivots.now.items ≡ map pivot (lists rows.old.items) }
-    requires v_is { IsRow (prime_value p) (length v.now.items) v.now.items }
-    requires zero_at_pivots { (i : ℕ) → i < length (lists rows.old.items) → entry v.now.items (pivot (row (lists rows.old.items) i)) ≡ 0 }
-    requires monic { entry v.now.items t ≡ 1 }
-    requires inside { t < length v.now.items }
-    ensures cleared { AreCleared (prime_value p) (length v.now.items) t v.now.items (lists rows.old.items) (lists rows.new.items) }
+    requires zero_at_pivots { (i : ℕ) → i < length (lists rows.old.items) → entry v.now.entries (pivot (row (lists rows.old.items) i)) ≡ 0 }
+    requires monic { entry v.now.entries t ≡ 1 }
+    requires inside { t < length v.now.entries }
+    ensures cleared { AreCleared v.now.p (length v.now.entries) t v.now.entries (lists rows.old.items) (lists rows.new.items) }
+    ensures over { AreOver v.now.p rows.new.items }
     ensures place { IsPlace t result (lists rows.old.items) }
 {
-    clear_column(p, rows, t, v);
+    clear_column(rows, t, v);
     place_of(pivots, t)
 }
 
 /// Puts one more row into a reduced echelon list, and says whether the row was outside the span.
-pub fn insert_row(
-    p: Prime,
-    rows: &mut Vec<Vec<u8>>,
-    pivots: &mut Vec<usize>,
-    mut v: Vec<u8>,
-) -> Result<bool, Memory>
-    requires matrix { IsMatrix (prime_value p) (length v.items) (lists rows.old.items) }
+pub fn insert_row(rows: &mut Vec<Row>, pivots: &mut Vec<usize>, mut v: Row) -> Result<bool, Memory>
+    requires matrix { IsMatrix v.p (length v.entries) (lists rows.old.items) }
+    requires over { AreOver v.p rows.old.items }
     requires echelon { IsEchelon (lists rows.old.items) }
     requires pivots_are { pivots.old.items ≡ map pivot (lists rows.old.items) }
-    requires v_is { IsRow (prime_value p) (length v.items) v.items }
-    ensures rows_are { OnOk result (IsEchelonOf (prime_value p) (length v.items) (lists rows.old.items ++ v.items ∷ []) (lists rows.new.items)) }
+    ensures rows_are { OnOk result (IsEchelonOf v.p (length v.entries) (lists rows.old.items ++ v.entries ∷ []) (lists rows.new.items)) }
+    ensures over { OnOk result (AreOver v.p rows.new.items) }
     ensures pivots_are { OnOk result (pivots.new.items ≡ map pivot (lists rows.new.items)) }
-    ensures outside { IfOk result (λ added. IsTrue added → ¬ (IsInSpan (prime_value p) (lists rows.old.items) (entry v.items))) }
-    ensures inside { IfOk result (λ added. added ≡ false → IsInSpan (prime_value p) (lists rows.old.items) (entry v.items)) }
+    ensures outside { IfOk result (λ added. IsTrue added → ¬ (IsInSpan v.p (lists rows.old.items) (entry v.entries))) }
+    ensures inside { IfOk result (λ added. added ≡ false → IsInSpan v.p (lists rows.old.items) (entry v.entries)) }
 {
-    let t = prepare_vec(p, rows, pivots, &mut v);
+    let _prime = v.prime();
+    let t = prepare_vec(rows, pivots, &mut v);
     if t < v.len() {
-        let at = clear_vec(p, rows, pivots, t, &v);
+        let at = clear_vec(rows, pivots, t, &v);
         pivots.insert(at, t)?;
         rows.insert(at, v)?;
         Ok(true)

@@ -3,11 +3,15 @@
 
 mod arithmetic;
 mod basis;
+mod bits;
+mod bits_ref;
+mod cells;
 mod complement;
 mod elimination;
 mod kernels;
 mod matrix;
 mod membership;
+mod numbers;
 mod positions;
 mod row;
 mod row_ref;
@@ -15,10 +19,11 @@ mod solutions;
 mod spans;
 #[cfg(test)]
 mod tests;
+mod words;
 
 pub use basis::Echelon;
 pub use complement::greedy;
-pub use kernels::kernel;
+pub use kernels::{Solution, kernel, solve};
 pub use matrix::Matrix;
 pub use positions::Positions;
 pub use row::Row;

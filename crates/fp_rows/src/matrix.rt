@@ -3,7 +3,7 @@ ghost use Rattle.group_table.specs.Prime.{prime_value};
 ghost use Rattle.linear_algebra.specs.Rows.{row, IsRow, IsMatrix};
 ghost use Rattle.fp_rows.specs.Refs.{entries_of, modulus_of};
 
-use crate::elimination::copy_of;
+use crate::row::Row;
 use crate::row_ref::RowRef;
 use group_table::{Memory, Prime};
 use std::alloc::Global;
@@ -15,20 +15,20 @@ pub struct Matrix {
     pub(crate) alloc: Global,
     pub(crate) prime: Prime,
     pub(crate) width: usize,
-    pub(crate) rows: Vec<Vec<u8>>,
+    pub(crate) rows: Vec<Row>,
 }
 
 impl Model for Matrix {
     ghost use Rattle.group_table.specs.Prime.{prime_value};
-    ghost use Rattle.linear_algebra.specs.Rows.{IsMatrix};
     ghost use Rattle.fp_rows.specs.Values.{MatrixValue};
     ghost use Rattle.fp_rows.specs.Lists.{lists};
+    ghost use Rattle.fp_rows.specs.Stores.{IsMatrixStore};
 
     ghost Value = { MatrixValue };
 
     ghost view = { λ a. record { p = prime_value a.prime; width = a.width; rows = lists a.rows.items } };
 
-    ghost invariant = { λ a. IsMatrix (prime_value a.prime) a.width (lists a.rows.items) };
+    ghost invariant = { λ a. IsMatrixStore (prime_value a.prime) a.width a.rows.items };
 }
 
 impl Matrix {
@@ -51,7 +51,7 @@ impl Matrix {
         ensures pushed { OnOk result (self.new ≡ record self.old { rows = self.old.rows ++ entries_of r.entry ∷ [] }) }
         ensures kept { OnErr result (self.new ≡ self.old) }
     {
-        let copy = copy_of(self.alloc, r.bytes)?;
+        let copy = Row::copy_of(self.alloc, r)?;
         self.rows.push(copy)?;
         Ok(())
     }
@@ -85,7 +85,7 @@ impl Matrix {
         ensures modulus { modulus_of result ≡ self.now.p }
         ensures is_row { IsRow self.now.p self.now.width (row self.now.rows i) }
     {
-        RowRef::over(self.prime, self.rows[i].as_slice())
+        self.rows[i].view()
     }
 
     /// The `len` numbers of row i from place `from` on, which are a part of the row.

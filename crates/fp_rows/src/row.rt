@@ -1,32 +1,33 @@
-ghost use Rattle.std.specs.Prelude.{◌≡◌, ℕ, ◌+◌, ◌*◌, ◌%◌, ◌<◌, ◌≤◌, length, IfOk, slice_index, replicate, slice_set};
+ghost use Rattle.std.specs.Prelude.{◌≡◌, ◌≢◌, ℕ, ◌+◌, ◌-◌, ◌*◌, ◌%◌, ◌<◌, ◌≤◌, length, map, IfOk, replicate, slice_set};
 ghost use Rattle.group_table.specs.Prime.{prime_value};
-ghost use Rattle.linear_algebra.specs.Rows.{entry, add_multiple, IsRow};
+ghost use Rattle.linear_algebra.specs.Rows.{entry, add_multiple, pivot, IsRow};
 ghost use Rattle.fp_rows.specs.Refs.{entries_of, modulus_of};
+ghost use Rattle.std.specs.Int.{bit_at};
 
-use crate::arithmetic::add_times;
+use crate::cells::Cells;
 use crate::row_ref::RowRef;
 use group_table::{Memory, Prime};
 use std::alloc::Global;
 use std::marker::Model;
 
-/// An owned list of numbers below p.
+/// An owned list of numbers below p. For p = 2 it is packed.
 #[derive(Drop)]
 pub struct Row {
-    pub(crate) prime: Prime,
-    pub(crate) items: Vec<u8>,
+    prime: Prime,
+    cells: Cells,
 }
 
 impl Model for Row {
     ghost use Rattle.std.specs.Prelude.{length};
     ghost use Rattle.group_table.specs.Prime.{prime_value};
-    ghost use Rattle.linear_algebra.specs.Rows.{IsRow};
-    ghost use Rattle.fp_rows.specs.Values.{RowValue};
+    ghost use Rattle.fp_rows.specs.Values.{RowValue, IsStored};
+    ghost use Rattle.fp_rows.specs.Cells.{cells_of};
 
     ghost Value = { RowValue };
 
-    ghost view = { λ a. record { p = prime_value a.prime; entries = a.items.items } };
+    ghost view = { λ a. record { p = prime_value a.prime; entries = cells_of a.cells } };
 
-    ghost invariant = { λ a. IsRow (prime_value a.prime) (length a.items.items) a.items.items };
+    ghost invariant = { λ a. IsStored (prime_value a.prime) a.cells };
 }
 
 impl Row {
@@ -34,8 +35,20 @@ impl Row {
     pub fn zero(alloc: Global, p: Prime, len: usize) -> Result<Row, Memory>
         ensures { IfOk result (λ r. r ≡ record { p = prime_value p; entries = replicate len 0 }) }
     {
-        let items = vec![in alloc; 0u8; len]?;
-        Ok(Row { prime: p, items })
+        let cells = Cells::zero(alloc, p, len)?;
+        Ok(Row { prime: p, cells })
+    }
+
+    /// The row with these numbers.
+    pub(crate) fn copy_of(alloc: Global, r: RowRef<'_>) -> Result<Row, Memory>
+        ensures { IfOk result (λ v. v ≡ record { p = modulus_of r.entry; entries = entries_of r.entry }) }
+    {
+        let _len = r.len();
+        let cells = Cells::copy_of(alloc, r.prime, r.numbers)?;
+        Ok(Row {
+            prime: r.prime,
+            cells,
+        })
     }
 
     /// How many numbers it has.
@@ -43,7 +56,14 @@ impl Row {
         ensures count { result ≡ length self.now.entries }
         ensures row { IsRow self.now.p (length self.now.entries) self.now.entries }
     {
-        self.items.len()
+        self.cells.len()
+    }
+
+    /// The prime.
+    pub(crate) fn prime(&self) -> Prime
+        ensures { prime_value result ≡ self.now.p }
+    {
+        self.prime
     }
 
     /// The number at place i, which is below the length.
@@ -52,7 +72,7 @@ impl Row {
         ensures value { result ≡ entry self.now.entries i }
         ensures below { result < self.now.p }
     {
-        self.items[i]
+        self.cells.get(i)
     }
 
     /// Writes a number below p at place i, which is below the length.
@@ -61,14 +81,14 @@ impl Row {
         requires below { v < self.old.p }
         ensures { self.new ≡ record self.old { entries = slice_set self.old.entries i v } }
     {
-        self.items[i] = v;
+        self.cells.set(self.prime, i, v);
     }
 
     /// Writes 0 everywhere.
     pub fn clear(&mut self)
         ensures { self.new ≡ record self.old { entries = replicate (length self.old.entries) 0 } }
     {
-        self.items.fill(0);
+        self.cells.clear(self.prime);
     }
 
     /// The row, borrowed.
@@ -76,7 +96,7 @@ impl Row {
         ensures entries { entries_of result ≡ self.now.entries }
         ensures modulus { modulus_of result ≡ self.now.p }
     {
-        RowRef::over(self.prime, self.items.as_slice())
+        RowRef::over(self.prime, self.cells.view())
     }
 
     /// Adds c times a row of the same length over the same prime, where c is below p.
@@ -86,6 +106,45 @@ impl Row {
         requires same_length { length (entries_of r) ≡ length self.old.entries }
         ensures { self.new ≡ record self.old { entries = add_multiple self.old.p c self.old.entries (entries_of r.entry) } }
     {
-        add_times(self.prime, c, &mut self.items, r.bytes);
+        self.cells.add(self.prime, c, r.numbers);
+    }
+
+    /// Adds c times a whole row, whose numbers are below p.
+    pub(crate) fn add_row(&mut self, c: u8, r: &Row)
+        requires factor { c < self.old.p }
+        requires row { IsRow self.old.p (length self.old.entries) r.now.entries }
+        ensures { self.new ≡ record self.old { entries = add_multiple self.old.p c self.old.entries r.now.entries } }
+    {
+        self.cells.add_cells(self.prime, c, &r.cells);
+    }
+
+    /// The place of the first number that is not 0, and the length where each is 0.
+    pub(crate) fn first(&self) -> usize
+        ensures { result ≡ pivot self.now.entries }
+    {
+        self.cells.first()
+    }
+
+    /// Multiplies each number by c, which is not 0.
+    pub(crate) fn scale(&mut self, c: u8)
+        requires factor { c < self.old.p }
+        requires not_zero { c ≢ 0 }
+        ensures { self.new ≡ record self.old { entries = map (λ x. c * x % self.old.p) self.old.entries } }
+    {
+        self.cells.scale(self.prime, c);
+    }
+
+    /// Adds the first `len` bits of a word, modulo 2, at the places from `at` on. For p = 2.
+    pub fn add_word(&mut self, at: usize, len: usize, x: u64)
+        requires prime { self.old.p ≡ 2 }
+        requires within { at + len ≤ length self.old.entries }
+        requires count { len ≤ 64 }
+        ensures prime { self.new.p ≡ self.old.p }
+        ensures same_length { length self.new.entries ≡ length self.old.entries }
+        ensures inside { (j : ℕ) → at ≤ j → j < at + len → entry self.new.entries j ≡ (entry self.old.entries j + bit_at x (j - at)) % 2 }
+        ensures before { (j : ℕ) → j < at → entry self.new.entries j ≡ entry self.old.entries j }
+        ensures after { (j : ℕ) → at + len ≤ j → entry self.new.entries j ≡ entry self.old.entries j }
+    {
+        self.cells.add_word(at, len, x);
     }
 }

@@ -2,8 +2,9 @@ ghost use Rattle.std.specs.Prelude.{◌≡◌, IfOk};
 ghost use Rattle.linear_algebra.specs.Rows.{IsEchelonOf};
 
 use crate::basis::Echelon;
-use crate::elimination::{copy_of, insert_row};
+use crate::elimination::insert_row;
 use crate::matrix::Matrix;
+use crate::row::Row;
 use group_table::Memory;
 use std::alloc::Global;
 
@@ -16,8 +17,8 @@ pub fn echelon(alloc: Global, m: &Matrix) -> Result<Echelon, Memory>
     let mut rows = Vec::new(alloc);
     let mut pivots = Vec::new(alloc);
     for r in &m.rows {
-        let v = copy_of(alloc, r)?;
-        insert_row(m.prime, &mut rows, &mut pivots, v)?;
+        let v = Row::copy_of(alloc, r.view())?;
+        insert_row(&mut rows, &mut pivots, v)?;
     }
     Ok(Echelon {
         prime: m.prime,

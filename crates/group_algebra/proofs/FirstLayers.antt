@@ -3,7 +3,7 @@ use Rattle.std.proofs.Common.{◌≡◌, ℕ, zero, suc, ◌+◌, ◌<◌, ◌�
 use Rattle.std.proofs.lemmas.Bool.{cases_eq, cases_lt}
 use Rattle.std.proofs.lemmas.List.{get_or_push, get_or_append_left, get_or_past, length_push, append-nil}
 use mathlib.Core.Path.{subst}
-use Rattle.group_table.specs.Tables.{GroupTable, order}
+use Rattle.group_table.specs.Tables.{order}
 use Rattle.linear_algebra.specs.Rows.{IsMatrix, IsEchelon}
 use Rattle.linear_algebra.specs.Choices.{rows_at, IsGreedy}
 use Rattle.radical_layers.specs.Layers.{IsPowerList}
@@ -12,7 +12,7 @@ use Rattle.radical_layers.proofs.LayerForm.{size-at-most}
 use Rattle.radical_layers.proofs.SameDimension.{echelon-independent}
 use Rattle.radical_layers.proofs.LayerLaws.{layer-claims}
 use Rattle.radical_layers.proofs.LayersExist.{layers-one, layers-of-lists}
-use Rattle.group_algebra.specs.PGroups.{IsPGroup, largest_residue, group}
+use Rattle.group_algebra.specs.PGroups.{PGroup, largest_residue, group}
 use Rattle.group_algebra.specs.Coordinates.{residues, field, prime_power, sum_coordinates, layers, layers_are}
 
 -- the member before the last one and the last one
@@ -69,9 +69,9 @@ module _ (Es : List (List (List ℕ))) (xs : List (List ℕ)) (E : List (List �
       ∙ ap₂ ◌++◌ (sizes-same (λ i. get_or (xs ++ x ∷ []) i []) (λ i. get_or xs i []) 0 (length Es) (λ j l. (kept j l).1))
       (ap (λ y. length y ∷ []) (get_or_push xs x [] (0 + length Es) (omega (arith, same))))
 
-module _ (G : GroupTable) (h : IsPGroup G) where
+module _ (G : PGroup) where
   abbrev IsPower : ℕ → List (List ℕ) → Type 0
-  IsPower i E = IsPowerList (largest_residue G) (group G h) (sum_coordinates G h) i E
+  IsPower i E = IsPowerList (largest_residue G) (group G) (sum_coordinates G) i E
 
   -- Es are the lists of the first powers, none of them empty, xs the positions of their layers, and E is the next power
   pub record AreFirstLayers (Es : List (List (List ℕ))) (xs : List (List ℕ)) (E : List (List ℕ)) : Type 0 where
@@ -85,7 +85,7 @@ module _ (G : GroupTable) (h : IsPGroup G) where
   first-start E P = record { powers_are = λ i l. absurd (omega (arith, l)); next_is = P; not_empty = λ i l. absurd (omega (arith, l)); positions_are = λ i l. absurd (omega (arith, l)); same_count = refl }
 
   module _ (Es : List (List (List ℕ))) (xs : List (List ℕ)) (E : List (List ℕ)) (A : AreFirstLayers Es xs E) where
-    pub first-next : (E' : List (List ℕ)) (x : List ℕ) → 0 < length E → IsPower (suc (length Es)) E' → IsGreedy G.p E E' x → AreFirstLayers (Es ++ E ∷ []) (xs ++ x ∷ []) E'
+    pub first-next : (E' : List (List ℕ)) (x : List ℕ) → 0 < length E → IsPower (suc (length Es)) E' → IsGreedy G.table.p E E' x → AreFirstLayers (Es ++ E ∷ []) (xs ++ x ∷ []) E'
     first-next E' x some P g = record {
       powers_are = λ i l. power i (before i l);
       next_is = subst (λ k. IsPower k E') (sym (length_push Es E ∙ (let z : length Es + 1 ≡ suc (length Es) = omega arith in z))) P;
@@ -122,14 +122,14 @@ module _ (G : GroupTable) (h : IsPGroup G) where
               get_or_push Es E [] i e,
               get_or_push (Es ++ E ∷ []) E' [] (suc i) (length_push Es E ∙ (let z : length Es + 1 ≡ suc i = omega (arith, e) in z)),
               get_or_push xs x [] i (A.same_count ∙ e),
-              residues G h,
+              residues G,
             ) g
 
-    pub first-end : length E ≡ 0 → layers G h ≡ layers_of Es xs
-    first-end none = layers-one (largest_residue G) (field G h) (group G h) (sum_coordinates G h) (layers G h) (layers_of Es xs) (layers_are G h)
-        (layers-of-lists (largest_residue G) (field G h) (group G h) (sum_coordinates G h) Es xs (at E none A))
+    pub first-end : length E ≡ 0 → layers G ≡ layers_of Es xs
+    first-end none = layers-one (largest_residue G) (field G) (group G) (sum_coordinates G) (layers G) (layers_of Es xs) (layers_are G)
+        (layers-of-lists (largest_residue G) (field G) (group G) (sum_coordinates G) Es xs (at E none A))
       where
-        at : (E : List (List ℕ)) → length E ≡ 0 → AreFirstLayers Es xs E → AreLayerLists (largest_residue G) (group G h) (sum_coordinates G h) Es xs
+        at : (E : List (List ℕ)) → length E ≡ 0 → AreFirstLayers Es xs E → AreLayerLists (largest_residue G) (group G) (sum_coordinates G) Es xs
         at [] e A = record {
           powers_are = A.powers_are;
           last_is = A.next_is;
@@ -141,8 +141,8 @@ module _ (G : GroupTable) (h : IsPGroup G) where
 
     -- the next power is shorter
     pub first-shorter : (E' : List (List ℕ)) → 0 < length E → IsPower (suc (length Es)) E' → length E' < length E
-    first-shorter E' some P = (layer-claims (largest_residue G) (group G h) (sum_coordinates G h) (field G h) (prime_power G h)).shorter (length Es) E E' A.next_is P some
+    first-shorter E' some P = (layer-claims (largest_residue G) (group G) (sum_coordinates G) (field G) (prime_power G)).shorter (length Es) E E' A.next_is P some
 
   -- a reduced echelon list has no more rows than places
-  pub few-rows : (E : List (List ℕ)) → IsMatrix G.p (order G) E → IsEchelon E → length E ≤ order G
-  few-rows E M e = size-at-most (field G h) (order G) E (subst (λ p. IsMatrix p (order G) E) (sym (residues G h)) M) (echelon-independent (suc (largest_residue G)) E e)
+  pub few-rows : (E : List (List ℕ)) → IsMatrix G.table.p (order G.table) E → IsEchelon E → length E ≤ order G.table
+  few-rows E M e = size-at-most (field G) (order G.table) E (subst (λ p. IsMatrix p (order G.table) E) (sym (residues G)) M) (echelon-independent (suc (largest_residue G)) E e)

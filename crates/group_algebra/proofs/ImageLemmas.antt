@@ -4,7 +4,7 @@ use Rattle.std.proofs.lemmas.Grind.{same_number_lists}
 use Rattle.std.proofs.lemmas.List.{length-replicate, get_or-replicate}
 use Rattle.std.proofs.Math.Nat.{mul-le-mul_right}
 use mathlib.Core.Path.{subst, fun_ext}
-use Rattle.group_table.specs.Tables.{GroupTable, order}
+use Rattle.group_table.specs.Tables.{order}
 use Rattle.linear_algebra.specs.Modular.{IsCongruent, sum_below}
 use Rattle.linear_algebra.specs.Rows.{entry, IsRow}
 use Rattle.linear_algebra.proofs.Congruences.{same_below}
@@ -15,7 +15,7 @@ use Rattle.group_modules.specs.Sums.{below, up, total, total-map, map-total}
 use Rattle.group_modules.specs.Tables.{monoid, terms, terms-add}
 use Rattle.radical_layers.specs.Placing.{place_of, size_of}
 use Rattle.radical_layers.proofs.Bridge.{at-zero}
-use Rattle.group_algebra.specs.PGroups.{IsPGroup, largest_residue, group}
+use Rattle.group_algebra.specs.PGroups.{PGroup, largest_residue, group}
 use Rattle.group_algebra.specs.Coordinates.{residues, layer_coordinates, free_module, row_of, table_of, member, product_with, sizes}
 use Rattle.group_algebra.specs.Gains.{stepped, GainsImage}
 use Rattle.group_algebra.specs.Tables.{IsTranslateRow, IsProductRow, EachRow}
@@ -39,99 +39,99 @@ pub inside-blocks : (n k j s L : ℕ) → k < n → j < n → s ≡ n → L ≡ 
 inside-blocks n k j s L l m e f = let z : (k + 1) * n ≤ n * n = mul-le-mul_right n (let y : k + 1 ≤ n = omega (arith, l) in y) in
     let d : k * s ≡ k * n = ap (λ x. k * x) e in omega (arith, z, m, f, d)
 
-module _ (G : GroupTable) (h : IsPGroup G) where
+module _ (G : PGroup) where
   abbrev q : ℕ
   q = largest_residue G
 
   abbrev n : ℕ
-  n = order G
+  n = order G.table
 
-  abbrev M : (b : ℕ) → Module (suc q) (monoid (group G h))
-  M b = free_module G h b
+  abbrev M : (b : ℕ) → Module (suc q) (monoid (group G))
+  M b = free_module G b
 
   -- a row is the row of its table
-  pub row-back : (b : ℕ) (x : List ℕ) (v : (M b).of) → IsRow G.p (n * b) x → table_of G h b x ≡ v → x ≡ row_of G h b v
-  row-back b x v r e = sym ((layer_coordinates G h b).row-table x (residue-row G h r)) ∙ ap (row_of G h b) e
+  pub row-back : (b : ℕ) (x : List ℕ) (v : (M b).of) → IsRow G.table.p (n * b) x → table_of G b x ≡ v → x ≡ row_of G b v
+  row-back b x v r e = sym ((layer_coordinates G b).row-table x (residue-row G r)) ∙ ap (row_of G b) e
 
-  pub zero-table : (b : ℕ) → table_of G h b (replicate (n * b) 0) ≡ (M b).zero
-  zero-table b = ap (table_of G h b) (sym zero-row) ∙ (layer_coordinates G h b).table-row (M b).zero
+  pub zero-table : (b : ℕ) → table_of G b (replicate (n * b) 0) ≡ (M b).zero
+  zero-table b = ap (table_of G b) (sym zero-row) ∙ (layer_coordinates G b).table-row (M b).zero
     where
-      zero-row : row_of G h b (M b).zero ≡ replicate (n * b) 0
-      zero-row = same_number_lists (row_of G h b (M b).zero) (replicate (n * b) 0) (((layer_coordinates G h b).row-is (M b).zero).length_is ∙ sym (length-replicate (n * b) 0))
-          (λ j l. let m : j < n * b = (let e : length (row_of G h b (M b).zero) ≡ n * b = ((layer_coordinates G h b).row-is (M b).zero).length_is in omega (arith, e, l)) in
-          same_below (at-zero q (group G h) (n * b) (M b) (layer_coordinates G h b) j) (((layer_coordinates G h b).row-is (M b).zero).below j m) (let z : 0 < suc q = omega arith in z)
+      zero-row : row_of G b (M b).zero ≡ replicate (n * b) 0
+      zero-row = same_number_lists (row_of G b (M b).zero) (replicate (n * b) 0) (((layer_coordinates G b).row-is (M b).zero).length_is ∙ sym (length-replicate (n * b) 0))
+          (λ j l. let m : j < n * b = (let e : length (row_of G b (M b).zero) ≡ n * b = ((layer_coordinates G b).row-is (M b).zero).length_is in omega (arith, e, l)) in
+          same_below (at-zero q (group G) (n * b) (M b) (layer_coordinates G b) j) (((layer_coordinates G b).row-is (M b).zero).below j m) (let z : 0 < suc q = omega arith in z)
           ∙ sym (get_or-replicate (n * b) j 0 0 m))
 
   -- a row that gained the images of the blocks
-  pub image-gained : (f : (M 1).of → (M 1).of) → IsAdditive (M 1) (M 1) f → (R : ℕ → List ℕ) → ((k : ℕ) → k < n → R k ≡ row_of G h 1 (f (member G h k)))
-      → (b c : ℕ) (ss v old new : List ℕ) → ss ≡ sizes G h → IsRow G.p (n * b) v → IsRow G.p (n * b) old → GainsImage G.p ss b R c v old new
-      → table_of G h b new ≡ (M b).add (table_of G h b old) (times (M b).add (M b).zero c (each_block G h b f (table_of G h b v)))
-  image-gained f a R e b c ss v old new s rv ro C = image-added G h f a R e b c v old new (residue-row G h rv) (residue-row G h ro)
-      (residue-row G h (subst (λ m. IsRow G.p (m * b) new) (ap size_of s ∙ size-is G h) C.is_row))
-      (λ i j l m. subst (λ p. At p (sizes G h) n i j) (sym (residues G h)) (subst (λ k. At G.p (sizes G h) k i j) (ap size_of s ∙ size-is G h)
-      (subst (λ ss'. At G.p ss' (size_of ss) i j) s (C.each i j l (subst (λ k. j < k) (sym (ap size_of s ∙ size-is G h)) m)))))
+  pub image-gained : (f : (M 1).of → (M 1).of) → IsAdditive (M 1) (M 1) f → (R : ℕ → List ℕ) → ((k : ℕ) → k < n → R k ≡ row_of G 1 (f (member G k)))
+      → (b c : ℕ) (ss v old new : List ℕ) → ss ≡ sizes G → IsRow G.table.p (n * b) v → IsRow G.table.p (n * b) old → GainsImage G.table.p ss b R c v old new
+      → table_of G b new ≡ (M b).add (table_of G b old) (times (M b).add (M b).zero c (each_block G b f (table_of G b v)))
+  image-gained f a R e b c ss v old new s rv ro C = image-added G f a R e b c v old new (residue-row G rv) (residue-row G ro)
+      (residue-row G (subst (λ m. IsRow G.table.p (m * b) new) (ap size_of s ∙ size-is G) C.is_row))
+      (λ i j l m. subst (λ p. At p (sizes G) n i j) (sym (residues G)) (subst (λ k. At G.table.p (sizes G) k i j) (ap size_of s ∙ size-is G)
+      (subst (λ ss'. At G.table.p ss' (size_of ss) i j) s (C.each i j l (subst (λ k. j < k) (sym (ap size_of s ∙ size-is G)) m)))))
     where
       At : ℕ → List ℕ → ℕ → ℕ → ℕ → Type 0
       At p ss m i j = IsCongruent p (entry new (place_of ss b i j)) (entry old (place_of ss b i j) + c * sum_below m (λ k. entry v (place_of ss b i k) * entry (R k) j))
 
   -- the translates by g, and g times a table
-  pub acted : (T : List (List ℕ)) → length T ≡ n * n → EachRow (IsTranslateRow G) T → (b : ℕ) (g : Below n) (ss v new : List ℕ) → ss ≡ sizes G h
-      → IsRow G.p (n * b) v → GainsImage G.p ss b (stepped T g.0 n) 1 v (replicate (n * b) 0) new
-      → new ≡ row_of G h b ((M b).act g (table_of G h b v))
-  acted T len H b g ss v new s rv C = row-back b new ((M b).act g (table_of G h b v)) (subst (λ m. IsRow G.p (m * b) new) (ap size_of s ∙ size-is G h) C.is_row)
-      (image-gained ((M 1).act g) ((M 1).act-add g) (stepped T g.0 n) (λ k l. H (g.0 + k * n) (inside k l) h k g l (let z : g.0 + k * n ≡ k * n + g.0 = omega arith in z))
-      b 1 ss v (replicate (n * b) 0) new s rv (zeros-are-row G.p (n * b) (let z : suc q ≡ G.p = residues G h in omega (arith, z))) C
-      ∙ ap (λ z. (M b).add z (times (M b).add (M b).zero 1 ((M b).act g (table_of G h b v)))) (zero-table b)
-      ∙ zero-add (M b) (times (M b).add (M b).zero 1 ((M b).act g (table_of G h b v)))
-      ∙ (M b).add-zero ((M b).act g (table_of G h b v)))
+  pub acted : (T : List (List ℕ)) → length T ≡ n * n → EachRow (IsTranslateRow G) T → (b : ℕ) (g : Below n) (ss v new : List ℕ) → ss ≡ sizes G
+      → IsRow G.table.p (n * b) v → GainsImage G.table.p ss b (stepped T g.0 n) 1 v (replicate (n * b) 0) new
+      → new ≡ row_of G b ((M b).act g (table_of G b v))
+  acted T len H b g ss v new s rv C = row-back b new ((M b).act g (table_of G b v)) (subst (λ m. IsRow G.table.p (m * b) new) (ap size_of s ∙ size-is G) C.is_row)
+      (image-gained ((M 1).act g) ((M 1).act-add g) (stepped T g.0 n) (λ k l. H (g.0 + k * n) (inside k l) k g l (let z : g.0 + k * n ≡ k * n + g.0 = omega arith in z))
+      b 1 ss v (replicate (n * b) 0) new s rv (zeros-are-row G.table.p (n * b) (let z : suc q ≡ G.table.p = residues G in omega (arith, z))) C
+      ∙ ap (λ z. (M b).add z (times (M b).add (M b).zero 1 ((M b).act g (table_of G b v)))) (zero-table b)
+      ∙ zero-add (M b) (times (M b).add (M b).zero 1 ((M b).act g (table_of G b v)))
+      ∙ (M b).add-zero ((M b).act g (table_of G b v)))
     where
       inside : (k : ℕ) → k < n → g.0 + k * n < length T
       inside k l = let z : (k + 1) * n ≤ n * n = mul-le-mul_right n (let y : k + 1 ≤ n = omega (arith, l) in y) in let c : g.0 < n = g.1 in omega (arith, z, c, len)
 
   -- a block of a product
-  pub block-product : (b : ℕ) (a : (M 1).of) (w : (M b).of) → each_block G h b (product_with G h 1 a) w ≡ product_with G h b a w
+  pub block-product : (b : ℕ) (a : (M 1).of) (w : (M b).of) → each_block G b (product_with G 1 a) w ≡ product_with G b a w
   block-product b a w = fun_ext (λ i. fun_ext (λ g. ap (λ (y : (M 1).of). y (residue 0 0) g)
-      (product-expand G h 1 a (block G h b w i)
-      ∙ sym (map-total (M b) (M 1) (λ u. block G h b u i) (λ u u'. refl) (below n) (λ g. times (M b).add (M b).zero (a (residue 0 0) g).0 ((M b).act g w))
-      ∙ ap (total (M 1) (below n)) (fun_ext (λ g. map-times (M b) (M 1) (λ u. block G h b u i) (λ u u'. refl) (a (residue 0 0) g).0 ((M b).act g w))))
-      ∙ ap (λ u. block G h b u i) (sym (product-expand G h b a w)))))
+      (product-expand G 1 a (block G b w i)
+      ∙ sym (map-total (M b) (M 1) (λ u. block G b u i) (λ u u'. refl) (below n) (λ g. times (M b).add (M b).zero (a (residue 0 0) g).0 ((M b).act g w))
+      ∙ ap (total (M 1) (below n)) (fun_ext (λ g. map-times (M b) (M 1) (λ u. block G b u i) (λ u u'. refl) (a (residue 0 0) g).0 ((M b).act g w))))
+      ∙ ap (λ u. block G b u i) (sym (product-expand G b a w)))))
 
-  product-additive : (b : ℕ) (a : (M 1).of) → IsAdditive (M b) (M b) (product_with G h b a)
-  product-additive b a x y = lin-add (M b) (λ i. x) (λ i. y) (terms q (group G h) 1 a)
+  product-additive : (b : ℕ) (a : (M 1).of) → IsAdditive (M b) (M b) (product_with G b a)
+  product-additive b a x y = lin-add (M b) (λ i. x) (λ i. y) (terms q (group G) 1 a)
 
   -- the sum of the first products
   abbrev pub first_products : (b : ℕ) → List ℕ → (M b).of → ℕ → (M b).of
-  first_products b a w k = total (M b) (below k) (λ l. times (M b).add (M b).zero (entry a l.0) (product_with G h b (member G h l.0) w))
+  first_products b a w k = total (M b) (below k) (λ l. times (M b).add (M b).zero (entry a l.0) (product_with G b (member G l.0) w))
 
   pub products-next : (b : ℕ) (a : List ℕ) (w : (M b).of) (k : ℕ)
-      → first_products b a w (k + 1) ≡ (M b).add (times (M b).add (M b).zero (entry a k) (product_with G h b (member G h k) w)) (first_products b a w k)
+      → first_products b a w (k + 1) ≡ (M b).add (times (M b).add (M b).zero (entry a k) (product_with G b (member G k) w)) (first_products b a w k)
   products-next b a w k = ap (first_products b a w) (let z : k + 1 ≡ suc k = omega arith in z)
-      ∙ ap ((M b).add (times (M b).add (M b).zero (entry a k) (product_with G h b (member G h k) w)))
-      (total-map (M b) (λ i. up i) (below k) (λ l. times (M b).add (M b).zero (entry a l.0) (product_with G h b (member G h l.0) w)))
+      ∙ ap ((M b).add (times (M b).add (M b).zero (entry a k) (product_with G b (member G k) w)))
+      (total-map (M b) (λ i. up i) (below k) (λ l. times (M b).add (M b).zero (entry a l.0) (product_with G b (member G l.0) w)))
 
   -- all of them are the product
-  pub products-all : (b : ℕ) (a : List ℕ) (w : (M b).of) → IsRow G.p n a → first_products b a w n ≡ product_with G h b (table_of G h 1 a) w
-  products-all b a w r = ap (total (M b) (below n)) (fun_ext (λ l. sym (map-times (M 1) (M b) (λ y. product_with G h b y w) (terms-add q (group G h) (M b) 1 (λ i. w)) (entry a l.0) (member G h l.0))))
-      ∙ sym (map-total (M 1) (M b) (λ y. product_with G h b y w) (terms-add q (group G h) (M b) 1 (λ i. w)) (below n) (λ l. times (M 1).add (M 1).zero (entry a l.0) (member G h l.0)))
-      ∙ ap (λ y. product_with G h b y w) (sym (expand-one G h (table_of G h 1 a)
-      ∙ ap (λ y. total (M 1) (below n) (λ k. times (M 1).add (M 1).zero (entry y k.0) (member G h k.0))) ((layer_coordinates G h 1).row-table a (subst (λ m. IsRow (suc q) m a) (let z : n ≡ n * 1 = omega arith in z) (residue-row G h r)))))
+  pub products-all : (b : ℕ) (a : List ℕ) (w : (M b).of) → IsRow G.table.p n a → first_products b a w n ≡ product_with G b (table_of G 1 a) w
+  products-all b a w r = ap (total (M b) (below n)) (fun_ext (λ l. sym (map-times (M 1) (M b) (λ y. product_with G b y w) (terms-add q (group G) (M b) 1 (λ i. w)) (entry a l.0) (member G l.0))))
+      ∙ sym (map-total (M 1) (M b) (λ y. product_with G b y w) (terms-add q (group G) (M b) 1 (λ i. w)) (below n) (λ l. times (M 1).add (M 1).zero (entry a l.0) (member G l.0)))
+      ∙ ap (λ y. product_with G b y w) (sym (expand-one G (table_of G 1 a)
+      ∙ ap (λ y. total (M 1) (below n) (λ k. times (M 1).add (M 1).zero (entry y k.0) (member G k.0))) ((layer_coordinates G 1).row-table a (subst (λ m. IsRow (suc q) m a) (let z : n ≡ n * 1 = omega arith in z) (residue-row G r)))))
 
   -- one more product
-  pub product-gained : (T : List (List ℕ)) → length T ≡ n * n → EachRow (IsProductRow G) T → (b k : ℕ) (ss a v first old new : List ℕ) → ss ≡ sizes G h → k < n
-      → IsRow G.p (n * b) v → IsRow G.p (n * b) old → GainsImage G.p ss b (stepped T (k * n) 1) (entry a k) v old new
-      → table_of G h b old ≡ (M b).add (table_of G h b first) (first_products b a (table_of G h b v) k)
-      → table_of G h b new ≡ (M b).add (table_of G h b first) (first_products b a (table_of G h b v) (k + 1))
+  pub product-gained : (T : List (List ℕ)) → length T ≡ n * n → EachRow (IsProductRow G) T → (b k : ℕ) (ss a v first old new : List ℕ) → ss ≡ sizes G → k < n
+      → IsRow G.table.p (n * b) v → IsRow G.table.p (n * b) old → GainsImage G.table.p ss b (stepped T (k * n) 1) (entry a k) v old new
+      → table_of G b old ≡ (M b).add (table_of G b first) (first_products b a (table_of G b v) k)
+      → table_of G b new ≡ (M b).add (table_of G b first) (first_products b a (table_of G b v) (k + 1))
   product-gained T len H b k ss a v first old new s l rv ro C e =
-      image-gained (product_with G h 1 (member G h k)) (product-additive 1 (member G h k)) (stepped T (k * n) 1)
-      (λ j m. H (k * n + j * 1) (inside j m) h k j l m (let z : k * n + j * 1 ≡ k * n + j = omega arith in z))
+      image-gained (product_with G 1 (member G k)) (product-additive 1 (member G k)) (stepped T (k * n) 1)
+      (λ j m. H (k * n + j * 1) (inside j m) k j l m (let z : k * n + j * 1 ≡ k * n + j = omega arith in z))
       b (entry a k) ss v old new s rv ro C
-      ∙ ap (λ z. (M b).add (table_of G h b old) (times (M b).add (M b).zero (entry a k) z)) (block-product b (member G h k) (table_of G h b v))
+      ∙ ap (λ z. (M b).add (table_of G b old) (times (M b).add (M b).zero (entry a k) z)) (block-product b (member G k) (table_of G b v))
       ∙ ap (λ z. (M b).add z term) e
-      ∙ (M b).add-assoc (table_of G h b first) (first_products b a (table_of G h b v) k) term
-      ∙ ap ((M b).add (table_of G h b first)) ((M b).add-comm (first_products b a (table_of G h b v) k) term ∙ sym (products-next b a (table_of G h b v) k))
+      ∙ (M b).add-assoc (table_of G b first) (first_products b a (table_of G b v) k) term
+      ∙ ap ((M b).add (table_of G b first)) ((M b).add-comm (first_products b a (table_of G b v) k) term ∙ sym (products-next b a (table_of G b v) k))
     where
       term : (M b).of
-      term = times (M b).add (M b).zero (entry a k) (product_with G h b (member G h k) (table_of G h b v))
+      term = times (M b).add (M b).zero (entry a k) (product_with G b (member G k) (table_of G b v))
 
       inside : (j : ℕ) → j < n → k * n + j * 1 < length T
       inside j m = let z : (k + 1) * n ≤ n * n = mul-le-mul_right n (let y : k + 1 ≤ n = omega (arith, l) in y) in omega (arith, z, m, len)

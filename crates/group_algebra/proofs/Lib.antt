@@ -3,7 +3,6 @@ pub mod Members
 pub mod Descending
 pub mod ListLemmas
 pub mod PowerLemmas
-pub mod SmallPrimes
 pub mod FirstLayers
 pub mod PlaceLemmas
 pub mod LayerRows

@@ -3,7 +3,7 @@ use Rattle.std.proofs.Common.{◌≡◌, ◌≢◌, ℕ, suc, ◌*◌, ◌<◌, 
 use Rattle.std.proofs.lemmas.Bool.{cases_lt}
 use Rattle.std.proofs.lemmas.List.{get_or_past}
 use mathlib.Core.Path.{subst}
-use Rattle.group_table.specs.Tables.{GroupTable, order}
+use Rattle.group_table.specs.Tables.{order}
 use Rattle.linear_algebra.specs.Modular.{IsCongruent, sum_below}
 use Rattle.linear_algebra.specs.Rows.{entry, row, pivot, IsRow, IsMatrix, IsEchelon, IsCombination, IsInSpan, IsEchelonOf}
 use Rattle.linear_algebra.specs.Kernels.{unit_row}
@@ -17,7 +17,7 @@ use Rattle.linear_algebra.proofs.Sums.{sum_below-one, sum_below-vanishes}
 use Rattle.radical_layers.specs.Layers.{IsPowerList}
 use Rattle.radical_layers.specs.Moves.{move_row, moves_by, moves}
 use Rattle.radical_layers.proofs.LayerLaws.{next-layer}
-use Rattle.group_algebra.specs.PGroups.{IsPGroup, largest_residue, group}
+use Rattle.group_algebra.specs.PGroups.{PGroup, largest_residue, group}
 use Rattle.group_algebra.proofs.Descending.{down, below-is-down, same-down, down-next}
 use Rattle.group_algebra.specs.Coordinates.{residues, sum_coordinates, free_module}
 
@@ -61,46 +61,46 @@ module _ (p n : ℕ) (M : List (List ℕ)) (len : length M ≡ n) (units : (k : 
     pub units-one : (E : List (List ℕ)) → IsEchelonOf p n M E → E ≡ M
     units-one E e = same_echelon above E M e.matrix units-matrix e.echelon units-echelon e.spans e.spanned
 
-module _ (G : GroupTable) (h : IsPGroup G) where
+module _ (G : PGroup) where
   abbrev IsPower : ℕ → List (List ℕ) → Type 0
-  IsPower i E = IsPowerList (largest_residue G) (group G h) (sum_coordinates G h) i E
+  IsPower i E = IsPowerList (largest_residue G) (group G) (sum_coordinates G) i E
 
-  pub whole-is : (M E : List (List ℕ)) → length M ≡ order G → ((k : ℕ) → k < order G → row M k ≡ unit_row (order G) k) → IsEchelonOf G.p (order G) M E → IsPower 0 E
-  whole-is M E len units e = go (subst (λ p. IsEchelonOf p (order G) M E) (sym (residues G h)) e)
+  pub whole-is : (M E : List (List ℕ)) → length M ≡ order G.table → ((k : ℕ) → k < order G.table → row M k ≡ unit_row (order G.table) k) → IsEchelonOf G.table.p (order G.table) M E → IsPower 0 E
+  whole-is M E len units e = go (subst (λ p. IsEchelonOf p (order G.table) M E) (sym (residues G)) e)
     where
-      go : IsEchelonOf (suc (largest_residue G)) (order G) M E → IsPower 0 E
+      go : IsEchelonOf (suc (largest_residue G)) (order G.table) M E → IsPower 0 E
       go e = record {
         matrix = e.matrix;
         echelon = e.echelon;
         members = λ i l. (e.matrix i l, tt);
-        spans = λ x r. in_span_trans e.spans (in-units (suc (largest_residue G)) (order G) M len units x r.0);
+        spans = λ x r. in_span_trans e.spans (in-units (suc (largest_residue G)) (order G.table) M len units x r.0);
       }
 
-  pub next-is : (i : ℕ) (E M E' : List (List ℕ)) → IsPower i E → M ≡ moves (group G h) (free_module G h 1) (sum_coordinates G h) E → IsEchelonOf G.p (order G) M E' → IsPower (suc i) E'
-  next-is i E M E' P m e = next-layer (largest_residue G) (group G h) (order G) (free_module G h 1) (sum_coordinates G h) i E P E'
-      (subst (λ N. IsEchelonOf (suc (largest_residue G)) (order G) N E') m (subst (λ p. IsEchelonOf p (order G) M E') (sym (residues G h)) e))
+  pub next-is : (i : ℕ) (E M E' : List (List ℕ)) → IsPower i E → M ≡ moves (group G) (free_module G 1) (sum_coordinates G) E → IsEchelonOf G.table.p (order G.table) M E' → IsPower (suc i) E'
+  next-is i E M E' P m e = next-layer (largest_residue G) (group G) (order G.table) (free_module G 1) (sum_coordinates G) i E P E'
+      (subst (λ N. IsEchelonOf (suc (largest_residue G)) (order G.table) N E') m (subst (λ p. IsEchelonOf p (order G.table) M E') (sym (residues G)) e))
 
   -- the rows of the moves by the elements below g
-  abbrev rest : (g : ℕ) → g ≤ order G → List (List ℕ) → List (List ℕ)
-  rest g l E = moves_by (group G h) (free_module G h 1) (sum_coordinates G h) (down g l) E
+  abbrev rest : (g : ℕ) → g ≤ order G.table → List (List ℕ) → List (List ℕ)
+  rest g l E = moves_by (group G) (free_module G 1) (sum_coordinates G) (down g l) E
 
   abbrev all : List (List ℕ) → List (List ℕ)
-  all E = moves (group G h) (free_module G h 1) (sum_coordinates G h) E
+  all E = moves (group G) (free_module G 1) (sum_coordinates G) E
 
-  pub moves-start : (E : List (List ℕ)) (g : ℕ) (l : g ≤ order G) → g ≡ order G → [] ++ rest g l E ≡ all E
+  pub moves-start : (E : List (List ℕ)) (g : ℕ) (l : g ≤ order G.table) → g ≡ order G.table → [] ++ rest g l E ≡ all E
   moves-start E g l e = go g e l
     where
-      go : (g : ℕ) → g ≡ order G → (l : g ≤ order G) → rest g l E ≡ all E
-      go g e l = ap (λ gs. moves_by (group G h) (free_module G h 1) (sum_coordinates G h) gs E)
-          (same-down e l (let z : order G ≤ order G = omega arith in z) ∙ sym (below-is-down (order G) (let z : order G ≤ order G = omega arith in z)))
+      go : (g : ℕ) → g ≡ order G.table → (l : g ≤ order G.table) → rest g l E ≡ all E
+      go g e l = ap (λ gs. moves_by (group G) (free_module G 1) (sum_coordinates G) gs E)
+          (same-down e l (let z : order G.table ≤ order G.table = omega arith in z) ∙ sym (below-is-down (order G.table) (let z : order G.table ≤ order G.table = omega arith in z)))
 
   -- the moves by one more element
-  pub moves-step : (E before after : List (List ℕ)) (g k : ℕ) (l : g < order G) (b : g ≤ order G) (m : k ≤ order G) → k ≡ suc g
-      → after ≡ before ++ map (move_row (group G h) (free_module G h 1) (sum_coordinates G h) (g, l)) E
+  pub moves-step : (E before after : List (List ℕ)) (g k : ℕ) (l : g < order G.table) (b : g ≤ order G.table) (m : k ≤ order G.table) → k ≡ suc g
+      → after ≡ before ++ map (move_row (group G) (free_module G 1) (sum_coordinates G) (g, l)) E
       → before ++ rest k m E ≡ all E → after ++ rest g b E ≡ all E
-  moves-step E before after g k l b m e a r = ap (λ rows. rows ++ rest g b E) a ∙ append_assoc before (map (move_row (group G h) (free_module G h 1) (sum_coordinates G h) (g, l)) E) (rest g b E)
-      ∙ ap (λ rows. before ++ rows) (ap (λ gs. moves_by (group G h) (free_module G h 1) (sum_coordinates G h) gs E) (down-next e l b m)) ∙ r
+  moves-step E before after g k l b m e a r = ap (λ rows. rows ++ rest g b E) a ∙ append_assoc before (map (move_row (group G) (free_module G 1) (sum_coordinates G) (g, l)) E) (rest g b E)
+      ∙ ap (λ rows. before ++ rows) (ap (λ gs. moves_by (group G) (free_module G 1) (sum_coordinates G) gs E) (down-next e l b m)) ∙ r
 
-  pub moves-end : (E before : List (List ℕ)) (g : ℕ) (l : g ≤ order G) → g ≡ 0 → before ++ rest g l E ≡ all E → before ≡ all E
-  moves-end E before g l e r = sym (append-nil before) ∙ ap (λ gs. before ++ moves_by (group G h) (free_module G h 1) (sum_coordinates G h) gs E)
-      (sym (same-down {n = order G} e l (let z : 0 ≤ order G = omega arith in z))) ∙ r
+  pub moves-end : (E before : List (List ℕ)) (g : ℕ) (l : g ≤ order G.table) → g ≡ 0 → before ++ rest g l E ≡ all E → before ≡ all E
+  moves-end E before g l e r = sym (append-nil before) ∙ ap (λ gs. before ++ moves_by (group G) (free_module G 1) (sum_coordinates G) gs E)
+      (sym (same-down {n = order G.table} e l (let z : 0 ≤ order G.table = omega arith in z))) ∙ r

@@ -4,7 +4,7 @@ use Rattle.std.proofs.lemmas.Bool.{cases_lt}
 use Rattle.std.proofs.lemmas.List.{get_or_push, length_push}
 use Rattle.std.proofs.Math.Nat.{mul-le-mul_left, mul-le-mul_right, div-add-mod, mod-lt}
 use mathlib.Core.Path.{subst}
-use Rattle.group_table.specs.Tables.{GroupTable, order}
+use Rattle.group_table.specs.Tables.{order}
 use Rattle.linear_algebra.specs.Rows.{row, entry, IsInSpan, AreInSpan}
 use Rattle.linear_algebra.specs.Choices.{IsPreimage, ArePreimages}
 use Rattle.linear_algebra.specs.Kernels.{unit_row}
@@ -14,7 +14,7 @@ use Rattle.fp_rows.specs.Values.{MatrixValue}
 use Rattle.radical_layers.specs.LayerBasis.{layer_basis}
 use Rattle.radical_layers.proofs.LayerForm.{basis-spans}
 use Rattle.radical_layers.proofs.UnitRow.{unit-is-row}
-use Rattle.group_algebra.specs.PGroups.{IsPGroup, largest_residue, group}
+use Rattle.group_algebra.specs.PGroups.{PGroup, largest_residue, group}
 use Rattle.group_algebra.specs.Coordinates.{residues, field, sum_coordinates, layers, layers_are, free_module, row_of, member, AreCoefficients}
 use Rattle.group_algebra.specs.Coefficients.{AreSumCoordinates, IsTranslate}
 use Rattle.group_algebra.specs.Gains.{stepped, GainsCombination}
@@ -30,7 +30,7 @@ each-pushed P rows x h p i l = go (cases_lt i (length rows))
     go (inr m) = let e : length rows ≡ i = (let c : length (rows ++ x ∷ []) ≡ length rows + 1 = length_push rows x in omega (arith, c, l, m)) in
         subst (P i) (sym (get_or_push rows x [] i e)) (subst (λ k. P k x) e p)
 
-pub shape-pushed : (G : GroupTable) (k : ℕ) (m m' : MatrixValue) (x : List ℕ) → HasShape G k m → m' ≡ record m { rows = m.rows ++ x ∷ [] } → HasShape G (k + 1) m'
+pub shape-pushed : (G : PGroup) (k : ℕ) (m m' : MatrixValue) (x : List ℕ) → HasShape G k m → m' ≡ record m { rows = m.rows ++ x ∷ [] } → HasShape G (k + 1) m'
 shape-pushed G k m m' x H e = record {
   prime = ap (λ y. y.p) e ∙ H.prime;
   width = ap (λ y. y.width) e ∙ H.width;
@@ -60,56 +60,56 @@ split n i some l =
     below (inl b) e = b
     below (inr b) e = absurd (let z : n * n ≤ n * (i / n) = mul-le-mul_left n b in omega (arith, z, e, l))
 
-module _ (G : GroupTable) where
+module _ (G : PGroup) where
   abbrev n : ℕ
-  n = order G
+  n = order G.table
 
   -- the members of the layer basis span the unit rows
-  pub units-in-span : (h : IsPGroup G) (B W : List (List ℕ)) → B ≡ layer_basis (layers G h) → length W ≡ n → ((k : ℕ) → k < n → row W k ≡ unit_row n k) → AreInSpan G.p B W
-  units-in-span h B W e len units i l =
+  pub units-in-span : (B W : List (List ℕ)) → B ≡ layer_basis (layers G) → length W ≡ n → ((k : ℕ) → k < n → row W k ≡ unit_row n k) → AreInSpan G.table.p B W
+  units-in-span B W e len units i l =
       let m : i < n = omega (arith, l, len) in
-      subst (λ E. IsInSpan G.p E (entry (row W i))) (sym e)
-      (subst (λ p. IsInSpan p (layer_basis (layers G h)) (entry (row W i))) (residues G h)
-      (subst (λ x. IsInSpan (suc (largest_residue G)) (layer_basis (layers G h)) (entry x)) (sym (units i m))
-      (basis-spans (largest_residue G) (field G h) (group G h) (sum_coordinates G h) (layers G h) (layers_are G h) (unit_row n i)
-      (unit-is-row (suc (largest_residue G)) n i (field G h).above_one m))))
+      subst (λ E. IsInSpan G.table.p E (entry (row W i))) (sym e)
+      (subst (λ p. IsInSpan p (layer_basis (layers G)) (entry (row W i))) (residues G)
+      (subst (λ x. IsInSpan (suc (largest_residue G)) (layer_basis (layers G)) (entry x)) (sym (units i m))
+      (basis-spans (largest_residue G) (field G) (group G) (sum_coordinates G) (layers G) (layers_are G) (unit_row n i)
+      (unit-is-row (suc (largest_residue G)) n i (field G).above_one m))))
 
-  pub sums-to-layers : (B W U none : List (List ℕ)) → ((h : IsPGroup G) → B ≡ layer_basis (layers G h)) → length W ≡ n → ((k : ℕ) → k < n → row W k ≡ unit_row n k)
-      → ArePreimages G.p B none W U → TakesSumsToLayers G U
-  sums-to-layers B W U none e len units P h v a s r A S C = layers-of-sums G h U W none a s r v len units
-      (λ i l. subst (λ E. IsPreimage G.p E none (row W i) (row U i)) (e h) (P.each i (let z : i < length W = omega (arith, l, len) in z))) A S C
+  pub sums-to-layers : (B W U none : List (List ℕ)) → B ≡ layer_basis (layers G) → length W ≡ n → ((k : ℕ) → k < n → row W k ≡ unit_row n k)
+      → ArePreimages G.table.p B none W U → TakesSumsToLayers G U
+  sums-to-layers B W U none e len units P v a s r A S C = layers-of-sums G U W none a s r v len units
+      (λ i l. subst (λ E. IsPreimage G.table.p E none (row W i) (row U i)) e (P.each i (let z : i < length W = omega (arith, l, len) in z))) A S C
 
-  pub element-row : (U : List (List ℕ)) (g : ℕ) (s r : List ℕ) → TakesSumsToLayers G U → AreSumCoordinates G.p n (unit_row n g) s
-      → GainsCombination G.p s (stepped U 0 1) (replicate n 0) r → IsElementRow G g r
-  element-row U g s r T S C h b e = T h (element G h b) (unit_row n g) s r
-      (subst (λ k. AreCoefficients G h (unit_row n k) (element G h b)) (sym e) (element-coefficients G h b)) S C
+  pub element-row : (U : List (List ℕ)) (g : ℕ) (s r : List ℕ) → TakesSumsToLayers G U → AreSumCoordinates G.table.p n (unit_row n g) s
+      → GainsCombination G.table.p s (stepped U 0 1) (replicate n 0) r → IsElementRow G g r
+  element-row U g s r T S C b e = T (element G b) (unit_row n g) s r
+      (subst (λ k. AreCoefficients G (unit_row n k) (element G b)) (sym e) (element-coefficients G b)) S C
 
-  pub elements-at : (E : List (List ℕ)) → length E ≡ n → EachRow (IsElementRow G) E → (h : IsPGroup G) (g : Below n) → stepped E 0 1 g.0 ≡ row_of G h 1 ((free_module G h 1).act g (one G h))
-  elements-at E len H h g = ap (row E) (let z : 0 + g.0 * 1 ≡ g.0 = omega arith in z) ∙ H g.0 (let l : g.0 < n = g.1 in omega (arith, l, len)) h g refl
+  pub elements-at : (E : List (List ℕ)) → length E ≡ n → EachRow (IsElementRow G) E → (g : Below n) → stepped E 0 1 g.0 ≡ row_of G 1 ((free_module G 1).act g (one G))
+  elements-at E len H g = ap (row E) (let z : 0 + g.0 * 1 ≡ g.0 = omega arith in z) ∙ H g.0 (let l : g.0 < n = g.1 in omega (arith, l, len)) g refl
 
-  pub members-at : (rows : List (List ℕ)) → AreMembers G rows → (h : IsPGroup G) (k : ℕ) → k < n → AreCoefficients G h (stepped rows 0 1 k) (member G h k)
-  members-at rows A h k l = subst (λ i. AreCoefficients G h (row rows i) (member G h k)) (let z : k ≡ 0 + k * 1 = omega arith in z) (A h k l)
+  pub members-at : (rows : List (List ℕ)) → AreMembers G rows → (k : ℕ) → k < n → AreCoefficients G (stepped rows 0 1 k) (member G k)
+  members-at rows A k l = subst (λ i. AreCoefficients G (row rows i) (member G k)) (let z : k ≡ 0 + k * 1 = omega arith in z) (A k l)
 
   pub translate-row : (members E : List (List ℕ)) (i k g : ℕ) (t r : List ℕ) → AreMembers G members → length E ≡ n → EachRow (IsElementRow G) E
-      → i ≡ k * n + g → g < n → IsTranslate G g (row members k) t → GainsCombination G.p t (stepped E 0 1) (replicate n 0) r → IsTranslateRow G i r
-  translate-row members E i k g t r A len H e l T C h k' g' m d =
+      → i ≡ k * n + g → g < n → IsTranslate G.table g (row members k) t → GainsCombination G.table.p t (stepped E 0 1) (replicate n 0) r → IsTranslateRow G i r
+  translate-row members E i k g t r A len H e l T C k' g' m d =
       let b : g'.0 < n = g'.1 in
       let s : (k ≡ k') × (g ≡ g'.0) = parts n k g k' g'.0 l b (sym e ∙ d) in
-      product-row G h t ((free_module G h 1).act g' (member G h k')) (one G h) (stepped E 0 1) r
-      (translate-is G h g' (row members k') t (member G h k')
-      (subst (λ x. IsTranslate G g'.0 (row members x) t) s.0 (subst (λ x. IsTranslate G x (row members k) t) s.1 T)) (A h k' m))
-      (elements-at E len H h) C
-      ∙ ap (row_of G h 1) (times-one-is G h ((free_module G h 1).act g' (member G h k')))
+      product-row G t ((free_module G 1).act g' (member G k')) (one G) (stepped E 0 1) r
+      (translate-is G g' (row members k') t (member G k')
+      (subst (λ x. IsTranslate G.table g'.0 (row members x) t) s.0 (subst (λ x. IsTranslate G.table x (row members k) t) s.1 T)) (A k' m))
+      (elements-at E len H) C
+      ∙ ap (row_of G 1) (times-one-is G ((free_module G 1).act g' (member G k')))
 
   pub product-of-members : (members T : List (List ℕ)) (i k l : ℕ) (r : List ℕ) → AreMembers G members → length T ≡ n * n → EachRow (IsTranslateRow G) T
-      → i ≡ k * n + l → l < n → GainsCombination G.p (row members k) (stepped T (l * n) 1) (replicate n 0) r → IsProductRow G i r
-  product-of-members members T i k l r A len H e b C h k' l' m o d =
+      → i ≡ k * n + l → l < n → GainsCombination G.table.p (row members k) (stepped T (l * n) 1) (replicate n 0) r → IsProductRow G i r
+  product-of-members members T i k l r A len H e b C k' l' m o d =
       let s : (k ≡ k') × (l ≡ l') = parts n k l k' l' b o (sym e ∙ d) in
-      product-row G h (row members k') (member G h k') (member G h l') (stepped T (l' * n) 1) r (A h k' m) (λ g. at g)
-      (subst (λ x. GainsCombination G.p (row members k') (stepped T (x * n) 1) (replicate n 0) r) s.1
-      (subst (λ x. GainsCombination G.p (row members x) (stepped T (l * n) 1) (replicate n 0) r) s.0 C))
+      product-row G (row members k') (member G k') (member G l') (stepped T (l' * n) 1) r (A k' m) (λ g. at g)
+      (subst (λ x. GainsCombination G.table.p (row members k') (stepped T (x * n) 1) (replicate n 0) r) s.1
+      (subst (λ x. GainsCombination G.table.p (row members x) (stepped T (l * n) 1) (replicate n 0) r) s.0 C))
     where
-      at : (g : Below n) → stepped T (l' * n) 1 g.0 ≡ row_of G h 1 ((free_module G h 1).act g (member G h l'))
+      at : (g : Below n) → stepped T (l' * n) 1 g.0 ≡ row_of G 1 ((free_module G 1).act g (member G l'))
       at g = H (l' * n + g.0 * 1)
           (let z : (l' + 1) * n ≤ n * n = mul-le-mul_right n (let y : l' + 1 ≤ n = omega (arith, o) in y) in let c : g.0 < n = g.1 in omega (arith, z, c, len))
-          h l' g o (let z : l' * n + g.0 * 1 ≡ l' * n + g.0 = omega arith in z)
+          l' g o (let z : l' * n + g.0 * 1 ≡ l' * n + g.0 = omega arith in z)

@@ -2,7 +2,7 @@
 use Rattle.std.specs.Prelude.{◌≡◌, ℕ, suc, ◌<◌, ◌^◌, List}
 use Rattle.std.proofs.Common.{arith, sym, ◌∙◌, ap}
 use mathlib.Core.Path.{subst}
-use Rattle.group_table.specs.Tables.{GroupTable, order, order_is}
+use Rattle.group_table.specs.Tables.{order, order_is}
 use Rattle.linear_algebra.specs.Modular.{IsFieldModulo}
 use Rattle.linear_algebra.specs.Rows.{entry, row, IsRow}
 use Rattle.linear_algebra.proofs.Fields.{field_of_prime}
@@ -16,46 +16,46 @@ use Rattle.radical_layers.proofs.SmallPrimes.{prime-of-field}
 use Rattle.radical_layers.proofs.SumForm.{sum-form, sum-first, sum-others}
 use Rattle.radical_layers.proofs.LayersExist.{layers-exist}
 use Rattle.radical_layers.proofs.FirstLayer.{layer-basis-claims}
-use Rattle.group_algebra.specs.PGroups.{IsPGroup, largest_residue, group}
+use Rattle.group_algebra.specs.PGroups.{PGroup, largest_residue, group}
 
-module _ (G : GroupTable) (h : IsPGroup G) where
-  pub residues : suc (largest_residue G) ≡ G.p
-  residues = let a : 1 < G.p = (field_of_prime G.p h.prime).above_one in omega (arith, a)
+module _ (G : PGroup) where
+  pub residues : suc (largest_residue G) ≡ G.table.p
+  residues = let a : 1 < G.table.p = (field_of_prime G.table.p G.law.prime).above_one in omega (arith, a)
 
   pub field : IsFieldModulo (suc (largest_residue G))
-  field = subst IsFieldModulo (sym residues) (field_of_prime G.p h.prime)
+  field = subst IsFieldModulo (sym residues) (field_of_prime G.table.p G.law.prime)
 
-  pub prime_power : IsPrimePower (largest_residue G) (order G)
-  prime_power = record { prime = prime-of-field field; exponent = G.n; power = order_is G ∙ ap (λ p. p ^ G.n) (sym residues) }
+  pub prime_power : IsPrimePower (largest_residue G) (order G.table)
+  prime_power = record { prime = prime-of-field field; exponent = G.table.n; power = order_is G.table ∙ ap (λ p. p ^ G.table.n) (sym residues) }
 
   -- the free module kG^b, of tables of numbers below p
-  abbrev pub free_module : (b : ℕ) → Module (suc (largest_residue G)) (monoid (group G h))
-  free_module b = Table (largest_residue G) (group G h) b
+  abbrev pub free_module : (b : ℕ) → Module (suc (largest_residue G)) (monoid (group G))
+  free_module b = Table (largest_residue G) (group G) b
 
   -- the sum coordinates of a member of kG: the sum of its coefficients, and then the coefficients of the elements 1, 2 and so on
-  pub sum_coordinates : RowForm (order G) (free_module 1)
-  sum_coordinates = sum-form (largest_residue G) (group G h) h.law.some
+  pub sum_coordinates : RowForm (order G.table) (free_module 1)
+  sum_coordinates = sum-form (largest_residue G) (group G) G.law.law.some
 
-  pub sum_coordinates_are : IsSumForm (largest_residue G) (group G h) sum_coordinates
+  pub sum_coordinates_are : IsSumForm (largest_residue G) (group G) sum_coordinates
   unfolding sum_coordinates
   sum_coordinates_are = record {
-    first = sum-first (largest_residue G) (group G h) h.law.some;
-    others = sum-others (largest_residue G) (group G h) h.law.some;
+    first = sum-first (largest_residue G) (group G) G.law.law.some;
+    others = sum-others (largest_residue G) (group G) G.law.law.some;
   }
 
   -- the radical layers of kG, in sum coordinates
   pub layers : Layers
-  layers = (layers-exist (largest_residue G) field (group G h) sum_coordinates prime_power).0
+  layers = (layers-exist (largest_residue G) field (group G) sum_coordinates prime_power).0
 
-  pub layers_are : AreLayers (largest_residue G) (group G h) sum_coordinates layers
+  pub layers_are : AreLayers (largest_residue G) (group G) sum_coordinates layers
   unfolding layers
-  layers_are = (layers-exist (largest_residue G) field (group G h) sum_coordinates prime_power).1
+  layers_are = (layers-exist (largest_residue G) field (group G) sum_coordinates prime_power).1
 
-  pub layer_claims : LayerBasisClaims (largest_residue G) (group G h) sum_coordinates layers
-  layer_claims = layer-basis-claims (largest_residue G) field (group G h) sum_coordinates layers layers_are
+  pub layer_claims : LayerBasisClaims (largest_residue G) (group G) sum_coordinates layers
+  layer_claims = layer-basis-claims (largest_residue G) field (group G) sum_coordinates layers layers_are
 
   -- the layer coordinates of the members of kG^b, for each b
-  abbrev pub layer_coordinates : Coordinates (largest_residue G) (group G h)
+  abbrev pub layer_coordinates : Coordinates (largest_residue G) (group G)
   layer_coordinates b = layer_claims.coordinates b
 
   -- the layer coordinates of the table v of kG^b, and the table with the layer coordinates x
@@ -75,9 +75,9 @@ module _ (G : GroupTable) (h : IsPGroup G) where
 
   -- the product of a member of kG and one of kG^b: the value at a of the linear map that takes 1 to v
   abbrev pub product_with : (b : ℕ) → (free_module 1).of → (free_module b).of → (free_module b).of
-  product_with b a v = lin (free_module b) (λ i. v) (terms (largest_residue G) (group G h) 1 a)
+  product_with b a v = lin (free_module b) (λ i. v) (terms (largest_residue G) (group G) 1 a)
 
   -- the numbers a are the coefficients of v, by element number
   pub record AreCoefficients (a : List ℕ) (v : (free_module 1).of) : Type 0 where
-    pub is_row : IsRow G.p (order G) a
-    pub each : (g : Below (order G)) → entry a g.0 ≡ (v (residue 0 0) g).0
+    pub is_row : IsRow G.table.p (order G.table) a
+    pub each : (g : Below (order G.table)) → entry a g.0 ≡ (v (residue 0 0) g).0

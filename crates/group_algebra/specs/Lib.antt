@@ -1,4 +1,5 @@
 pub mod PGroups
+pub mod SameTables
 pub mod Coordinates
 pub mod Inverse
 pub mod Coefficients

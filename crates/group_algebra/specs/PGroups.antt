@@ -10,10 +10,15 @@ pub record IsPGroup (G : GroupTable) : Type 0 where
   pub law : IsGroupTable G
   pub prime : IsSmallPrime G.p
 
+-- a finite p-group by its multiplication table
+pub record PGroup : Type 0 where
+  pub table : GroupTable
+  pub law : IsPGroup table
+
 -- p - 1
-abbrev pub largest_residue : GroupTable → ℕ
-largest_residue G = G.p - 1
+abbrev pub largest_residue : PGroup → ℕ
+largest_residue G = G.table.p - 1
 
 -- the group on the numbers below p^n
-abbrev pub group : (G : GroupTable) → IsPGroup G → Group (order G)
-group G h = group_of (product G) h.law
+abbrev pub group : (G : PGroup) → Group (order G.table)
+group G = group_of (product G.table) G.law.law

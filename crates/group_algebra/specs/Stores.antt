@@ -1,21 +1,20 @@
 -- What an algebra keeps.
 use Rattle.std.specs.Prelude.{◌≡◌, ℕ, List, ◌*◌, ◌≤◌}
-use Rattle.group_table.specs.Tables.{GroupTable, order}
+use Rattle.group_table.specs.Tables.{order}
 use Rattle.fp_rows.specs.Values.{MatrixValue}
-use Rattle.group_algebra.specs.PGroups.{IsPGroup}
+use Rattle.group_algebra.specs.PGroups.{PGroup}
 use Rattle.group_algebra.specs.Coordinates.{sizes}
 use Rattle.group_algebra.specs.Tables.{HasShape, AreMembers, IsElementRow, IsTranslateRow, IsProductRow, EachRow}
 
 -- the table of a p-group of at most 256 elements, the sizes of its layers, and the rows of members, elements, translates and products
-pub record IsStore (G : GroupTable) (layer_sizes : List ℕ) (members elements translates products : MatrixValue) : Type 0 where
-  pub group : IsPGroup G
-  pub small : order G ≤ 256
-  pub sizes_are : (h : IsPGroup G) → layer_sizes ≡ sizes G h
-  pub member_shape : HasShape G (order G) members
+pub record IsStore (G : PGroup) (layer_sizes : List ℕ) (members elements translates products : MatrixValue) : Type 0 where
+  pub small : order G.table ≤ 256
+  pub sizes_are : layer_sizes ≡ sizes G
+  pub member_shape : HasShape G (order G.table) members
   pub members_are : AreMembers G members.rows
-  pub element_shape : HasShape G (order G) elements
+  pub element_shape : HasShape G (order G.table) elements
   pub elements_are : EachRow (IsElementRow G) elements.rows
-  pub translate_shape : HasShape G (order G * order G) translates
+  pub translate_shape : HasShape G (order G.table * order G.table) translates
   pub translates_are : EachRow (IsTranslateRow G) translates.rows
-  pub product_shape : HasShape G (order G * order G) products
+  pub product_shape : HasShape G (order G.table * order G.table) products
   pub products_are : EachRow (IsProductRow G) products.rows

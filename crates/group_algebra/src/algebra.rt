@@ -5,11 +5,12 @@ ghost use Rattle.group_table.specs.Tables.{order};
 ghost use Rattle.group_modules.specs.Maps.{block-sum};
 ghost use Rattle.radical_layers.specs.Placing.{place_of};
 ghost use Rattle.fp_rows.specs.Refs.{entries_of, modulus_of};
-ghost use Rattle.group_algebra.specs.PGroups.{IsPGroup, largest_residue, group as group_of};
+ghost use Rattle.group_algebra.specs.PGroups.{largest_residue, group as group_of};
 ghost use Rattle.group_algebra.specs.Coordinates.{free_module, layers, sizes, row_of, table_of, product_with, AreCoefficients};
 
 use crate::combinations::{Images, add_image};
 use crate::layers::layer_basis;
+use crate::p_group::PGroup;
 use crate::places::Places;
 use crate::tables::{
     element_rows, member_rows, product_rows, translate_rows, unit_preimages, write_combination,
@@ -19,12 +20,12 @@ use group_table::{Group, Memory};
 use std::alloc::Global;
 use std::marker::Model;
 
-/// The group algebra kG of a p-group G over the field of p elements, seen as the table of G.
+/// The group algebra kG of a p-group G over the field of p elements, seen as G.
 /// Its elements and those of the free modules kG^rank are rows in layer coordinates: the coefficients in the layer basis,
 /// at the places given by `place`.
 #[derive(Drop)]
 pub struct Algebra {
-    group: Group,
+    group: PGroup,
     places: Places,
     // The coefficients of the members of the layer basis, and the layer coordinates of the elements of the group.
     members: Matrix,
@@ -35,10 +36,13 @@ pub struct Algebra {
 }
 
 impl Model for Algebra {
-    ghost use Rattle.group_table.specs.Tables.{GroupTable};
+    ghost use Rattle.group_algebra.specs.PGroups.{PGroup};
+    ghost use Rattle.group_algebra.specs.SameTables.{coded_p_group};
     ghost use Rattle.group_algebra.specs.Stores.{IsStore};
 
-    ghost Value = { GroupTable };
+    ghost Value = { PGroup };
+
+    ghost coded = { coded_p_group };
 
     ghost view = { λ a. a.group };
 
@@ -48,17 +52,18 @@ impl Model for Algebra {
 impl Algebra {
     /// The algebra of a group, with its layer basis.
     pub fn build(alloc: Global, g: &Group) -> Result<Algebra, Memory>
-        ensures { IfOk result (λ a. a ≡ g.now) }
+        ensures { IfOk result (λ a. a.table ≡ g.now) }
     {
-        let basis = layer_basis(alloc, g)?;
-        let units = unit_preimages(alloc, g, &basis.rows)?;
-        let members = member_rows(alloc, g, &basis.rows)?;
-        let elements = element_rows(alloc, g, &units)?;
-        let translates = translate_rows(alloc, g, &members, &elements)?;
-        let products = product_rows(alloc, g, &members, &translates)?;
-        let places = Places::new(alloc, basis.sizes, g.order() as usize)?;
+        let group = PGroup::new(g.try_clone(alloc)?);
+        let basis = layer_basis(alloc, &group)?;
+        let units = unit_preimages(alloc, &group, &basis.rows)?;
+        let members = member_rows(alloc, &group, &basis.rows)?;
+        let elements = element_rows(alloc, &group, &units)?;
+        let translates = translate_rows(alloc, &group, &members, &elements)?;
+        let products = product_rows(alloc, &group, &members, &translates)?;
+        let places = Places::new(alloc, basis.sizes, group.order() as usize)?;
         Ok(Algebra {
-            group: g.try_clone(alloc)?,
+            group,
             places,
             members,
             elements,
@@ -68,24 +73,23 @@ impl Algebra {
     }
 
     /// The group.
-    pub fn group(&self) -> &Group
-        ensures value { result.now ≡ self.now }
-        ensures law { IsPGroup self.now }
+    pub fn group(&self) -> &PGroup
+        ensures { result.now ≡ self.now }
     {
         &self.group
     }
 
     /// How many radical layers there are: the least number of factors of the augmentation ideal with the product 0.
     pub fn layers(&self) -> usize
-        ensures { (h : IsPGroup self.now) → result ≡ (layers self.now h).count }
+        ensures { result ≡ (layers self.now).count }
     {
         self.places.layers()
     }
 
     /// The dimension of layer i.
     pub fn layer_dim(&self, i: usize) -> usize
-        requires { (h : IsPGroup self.now) → i < (layers self.now h).count }
-        ensures { (h : IsPGroup self.now) → result ≡ length ((layers self.now h).positions i) }
+        requires { i < (layers self.now).count }
+        ensures { result ≡ length ((layers self.now).positions i) }
     {
         self.places.size(i)
     }
@@ -94,10 +98,10 @@ impl Algebra {
     /// in a block by position. Blocks and members count from 0.
     pub fn place(&self, rank: usize, block: usize, member: usize) -> usize
         requires block { block < rank }
-        requires member { member < order self.now }
-        requires small { order self.now * rank < 2 ^ 64 }
-        ensures value { (h : IsPGroup self.now) → result ≡ place_of (sizes self.now h) rank block member }
-        ensures inside { result < order self.now * rank }
+        requires member { member < order self.now.table }
+        requires small { order self.now.table * rank < 2 ^ 64 }
+        ensures value { result ≡ place_of (sizes self.now) rank block member }
+        ensures inside { result < order self.now.table * rank }
     {
         self.places.place(rank, block, member)
     }
@@ -105,54 +109,54 @@ impl Algebra {
     /// The sum of the coefficients of a block, which is its entry in layer 0.
     pub fn aug(&self, rank: usize, block: usize, v: RowRef<'_>) -> u8
         requires block { block < rank }
-        requires modulus { modulus_of v ≡ self.now.p }
-        requires length { length (entries_of v) ≡ order self.now * rank }
-        ensures value { (h : IsPGroup self.now) (b : block < rank)
+        requires modulus { modulus_of v ≡ self.now.table.p }
+        requires length { length (entries_of v) ≡ order self.now.table * rank }
+        ensures value { (b : block < rank)
             → result
-            ≡ (block-sum (largest_residue self.now) (group_of self.now h) rank (table_of self.now h rank (entries_of v.entry)) (block, b)).0 }
-        ensures below { result < self.now.p }
+            ≡ (block-sum (largest_residue self.now) (group_of self.now) rank (table_of self.now rank (entries_of v.entry)) (block, b)).0 }
+        ensures below { result < self.now.table.p }
     {
-        let _ = &self.group;
         v.get(block)
     }
 
     /// Writes the layer coordinates of the member of kG with the coefficients a, by element number.
     pub fn to_layers(&self, a: RowRef<'_>, out: &mut Row)
-        requires modulus { modulus_of a ≡ self.now.p }
-        requires prime { out.old.p ≡ self.now.p }
-        requires length { length (entries_of a) ≡ order self.now }
-        requires out_length { length out.old.entries ≡ order self.now }
+        requires modulus { modulus_of a ≡ self.now.table.p }
+        requires prime { out.old.p ≡ self.now.table.p }
+        requires length { length (entries_of a) ≡ order self.now.table }
+        requires out_length { length out.old.entries ≡ order self.now.table }
         ensures prime { out.new.p ≡ out.old.p }
-        ensures layers { (h : IsPGroup self.now) (v : (free_module self.now h 1).of) → AreCoefficients self.now h (entries_of a.entry) v
-            → out.new.entries ≡ row_of self.now h 1 v }
+        ensures layers { (v : (free_module self.now 1).of) → AreCoefficients self.now (entries_of a.entry) v
+            → out.new.entries ≡ row_of self.now 1 v }
     {
         write_combination(a, &self.elements, 0, out);
     }
 
     /// Writes the coefficients, by element number, of the member of kG with the layer coordinates v.
     pub fn from_layers(&self, v: RowRef<'_>, out: &mut Row)
-        requires modulus { modulus_of v ≡ self.now.p }
-        requires prime { out.old.p ≡ self.now.p }
-        requires length { length (entries_of v) ≡ order self.now }
-        requires out_length { length out.old.entries ≡ order self.now }
+        requires modulus { modulus_of v ≡ self.now.table.p }
+        requires prime { out.old.p ≡ self.now.table.p }
+        requires length { length (entries_of v) ≡ order self.now.table }
+        requires out_length { length out.old.entries ≡ order self.now.table }
         ensures prime { out.new.p ≡ out.old.p }
-        ensures coefficients { (h : IsPGroup self.now) → AreCoefficients self.now h out.new.entries (table_of self.now h 1 (entries_of v.entry)) }
+        ensures coefficients { AreCoefficients self.now out.new.entries (table_of self.now 1 (entries_of v.entry)) }
     {
         write_combination(v, &self.members, 0, out);
     }
 
     /// Writes g v: the left action of an element of the group on a member of kG^rank.
     pub fn act(&self, rank: usize, g: u16, v: RowRef<'_>, out: &mut Row)
-        requires element { g < order self.now }
-        requires modulus { modulus_of v ≡ self.now.p }
-        requires prime { out.old.p ≡ self.now.p }
-        requires length { length (entries_of v) ≡ order self.now * rank }
-        requires out_length { length out.old.entries ≡ order self.now * rank }
+        requires element { g < order self.now.table }
+        requires modulus { modulus_of v ≡ self.now.table.p }
+        requires prime { out.old.p ≡ self.now.table.p }
+        requires length { length (entries_of v) ≡ order self.now.table * rank }
+        requires out_length { length out.old.entries ≡ order self.now.table * rank }
         ensures prime { out.new.p ≡ out.old.p }
-        ensures moved { (h : IsPGroup self.now) (b : g < order self.now)
+        ensures moved { (b : g < order self.now.table)
             → out.new.entries
-            ≡ row_of self.now h rank ((free_module self.now h rank).act (g, b) (table_of self.now h rank (entries_of v.entry))) }
+            ≡ row_of self.now rank ((free_module self.now rank).act (g, b) (table_of self.now rank (entries_of v.entry))) }
     {
+        let _length = v.len();
         let images = Images {
             rows: &self.translates,
             first: g as usize,
@@ -164,18 +168,18 @@ impl Algebra {
 
     /// Adds a v: the product of a member of kG and one of kG^rank.
     pub fn scale_add(&self, rank: usize, a: RowRef<'_>, v: RowRef<'_>, out: &mut Row)
-        requires moduli { (modulus_of a ≡ self.now.p) × (modulus_of v ≡ self.now.p) }
-        requires prime { out.old.p ≡ self.now.p }
-        requires factor_length { length (entries_of a) ≡ order self.now }
-        requires length { length (entries_of v) ≡ order self.now * rank }
-        requires out_length { length out.old.entries ≡ order self.now * rank }
+        requires moduli { (modulus_of a ≡ self.now.table.p) × (modulus_of v ≡ self.now.table.p) }
+        requires prime { out.old.p ≡ self.now.table.p }
+        requires factor_length { length (entries_of a) ≡ order self.now.table }
+        requires length { length (entries_of v) ≡ order self.now.table * rank }
+        requires out_length { length out.old.entries ≡ order self.now.table * rank }
         ensures prime { out.new.p ≡ out.old.p }
-        ensures gained { (h : IsPGroup self.now)
-            → out.new.entries
-            ≡ row_of self.now h rank
-            ((free_module self.now h rank).add (table_of self.now h rank out.old.entries)
-            (product_with self.now h rank (table_of self.now h 1 (entries_of a.entry)) (table_of self.now h rank (entries_of v.entry)))) }
+        ensures gained { out.new.entries
+            ≡ row_of self.now rank
+            ((free_module self.now rank).add (table_of self.now rank out.old.entries)
+            (product_with self.now rank (table_of self.now 1 (entries_of a.entry)) (table_of self.now rank (entries_of v.entry)))) }
     {
+        let _length = v.len();
         prove!(out.len() == v.len());
         let n = self.group.order() as usize;
         for k in 0..n {

@@ -4,12 +4,12 @@ ghost use Rattle.std.specs.Prelude.{◌≡◌, ◌<◌, ◌++◌, ℕ, length, s
 ghost use Rattle.group_table.specs.Tables.{order};
 ghost use Rattle.linear_algebra.specs.Choices.{rows_at};
 ghost use Rattle.radical_layers.specs.LayerBasis.{layer_basis as basis_rows};
-ghost use Rattle.group_algebra.specs.PGroups.{IsPGroup};
 ghost use Rattle.group_algebra.specs.Coordinates.{layers, sizes};
 
+use crate::p_group::PGroup;
 use crate::powers::{next_power, whole_list};
 use fp_rows::{Echelon, Matrix, Positions, greedy};
-use group_table::{Group, Memory};
+use group_table::Memory;
 use std::alloc::Global;
 
 /// The layer basis: the sizes of its layers, and its members in sum coordinates.
@@ -33,12 +33,11 @@ fn push_layer(list: &Echelon, taken: &Positions, rows: &mut Matrix) -> Result<()
 }
 
 /// The layer basis: layer i is the greedy complement of J^(i+1) in J^i.
-pub(crate) fn layer_basis(alloc: Global, group: &Group) -> Result<LayerBasis, Memory>
-    ensures group { IfOk result (λ b. IsPGroup group.now) }
-    ensures prime { IfOk result (λ b. b.rows.p ≡ group.now.p) }
-    ensures width { IfOk result (λ b. b.rows.width ≡ order group.now) }
-    ensures sizes { IfOk result (λ b. (h : IsPGroup group.now) → b.sizes.items ≡ sizes group.now h) }
-    ensures rows { IfOk result (λ b. (h : IsPGroup group.now) → b.rows.rows ≡ basis_rows (layers group.now h)) }
+pub(crate) fn layer_basis(alloc: Global, group: &PGroup) -> Result<LayerBasis, Memory>
+    ensures prime { IfOk result (λ b. b.rows.p ≡ group.now.table.p) }
+    ensures width { IfOk result (λ b. b.rows.width ≡ order group.now.table) }
+    ensures sizes { IfOk result (λ b. b.sizes.items ≡ sizes group.now) }
+    ensures rows { IfOk result (λ b. b.rows.rows ≡ basis_rows (layers group.now)) }
 {
     let mut sizes = Vec::new(alloc);
     let mut rows = Matrix::new(alloc, group.prime(), group.order() as usize);

@@ -6,12 +6,14 @@ mod coefficients;
 mod combinations;
 mod laws;
 mod layers;
+mod p_group;
 mod places;
 mod powers;
 mod tables;
 
 pub use algebra::Algebra;
 pub use laws::inverse_law;
+pub use p_group::PGroup;
 
 #[cfg(test)]
 mod tests;

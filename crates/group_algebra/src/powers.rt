@@ -8,30 +8,31 @@ ghost use Rattle.group_modules.specs.Module.{sub};
 ghost use Rattle.radical_layers.specs.Layers.{IsPowerList};
 ghost use Rattle.radical_layers.specs.Moves.{move_row, moves};
 ghost use Rattle.fp_rows.specs.Refs.{entries_of, modulus_of};
-ghost use Rattle.group_algebra.specs.PGroups.{IsPGroup, largest_residue, group as group_of};
+ghost use Rattle.group_algebra.specs.PGroups.{largest_residue, group as group_of};
 ghost use Rattle.group_algebra.specs.Coordinates.{free_module, sum_coordinates, AreCoefficients};
 
 use crate::coefficients::{write_coefficients, write_sum_coordinates, write_translate};
+use crate::p_group::PGroup;
 use fp_rows::{Echelon, Matrix, Row, RowRef, echelon};
-use group_table::{Group, Memory};
+use group_table::Memory;
 use std::alloc::Global;
 
 /// Writes the sum coordinates of (g - 1) v, where v has the coefficients a; `moved` is overwritten.
-fn write_move(group: &Group, g: u16, a: RowRef<'_>, moved: &mut Row, out: &mut Row)
-    requires element { g < order group.now }
-    requires modulus { modulus_of a ≡ group.now.p }
-    requires same_prime { (moved.old.p ≡ group.now.p) × (out.old.p ≡ group.now.p) }
-    requires length { length (entries_of a) ≡ order group.now }
-    requires same_length { (length moved.old.entries ≡ order group.now) × (length out.old.entries ≡ order group.now) }
+fn write_move(group: &PGroup, g: u16, a: RowRef<'_>, moved: &mut Row, out: &mut Row)
+    requires element { g < order group.now.table }
+    requires modulus { modulus_of a ≡ group.now.table.p }
+    requires same_prime { (moved.old.p ≡ group.now.table.p) × (out.old.p ≡ group.now.table.p) }
+    requires length { length (entries_of a) ≡ order group.now.table }
+    requires same_length { (length moved.old.entries ≡ order group.now.table) × (length out.old.entries ≡ order group.now.table) }
     ensures primes { (moved.new.p ≡ moved.old.p) × (out.new.p ≡ out.old.p) }
-    ensures lengths { (length moved.new.entries ≡ order group.now) × (length out.new.entries ≡ order group.now) }
-    ensures difference { (h : IsPGroup group.now) (l : g < order group.now) (v : (free_module group.now h 1).of)
-        → AreCoefficients group.now h (entries_of a.entry) v
+    ensures lengths { (length moved.new.entries ≡ order group.now.table) × (length out.new.entries ≡ order group.now.table) }
+    ensures difference { (l : g < order group.now.table) (v : (free_module group.now 1).of)
+        → AreCoefficients group.now (entries_of a.entry) v
         → out.new.entries
-        ≡ (sum_coordinates group.now h).row (sub (free_module group.now h 1) ((free_module group.now h 1).act (g, l) v) v) }
+        ≡ (sum_coordinates group.now).row (sub (free_module group.now 1) ((free_module group.now 1).act (g, l) v) v) }
 {
     let p = group.prime();
-    write_translate(group, g, a, moved);
+    write_translate(group.as_group(), g, a, moved);
     moved.add(p.value() - 1, a);
     write_sum_coordinates(p, moved.view(), out);
 }
@@ -39,20 +40,20 @@ fn write_move(group: &Group, g: u16, a: RowRef<'_>, moved: &mut Row, out: &mut R
 /// Appends the rows of (g - 1) v for the rows v of the list.
 fn push_moves(
     alloc: Global,
-    group: &Group,
+    group: &PGroup,
     g: u16,
     list: &Echelon,
     m: &mut Matrix,
 ) -> Result<(), Memory>
-    requires element { g < order group.now }
-    requires same_prime { (list.now.p ≡ group.now.p) × (m.old.p ≡ group.now.p) }
-    requires same_width { (list.now.width ≡ order group.now) × (m.old.width ≡ order group.now) }
+    requires element { g < order group.now.table }
+    requires same_prime { (list.now.p ≡ group.now.table.p) × (m.old.p ≡ group.now.table.p) }
+    requires same_width { (list.now.width ≡ order group.now.table) × (m.old.width ≡ order group.now.table) }
     ensures kept { OnOk result ((m.new.p ≡ m.old.p) × (m.new.width ≡ m.old.width)) }
     ensures moves { OnOk result (
-        (h : IsPGroup group.now) (l : g < order group.now)
+        (l : g < order group.now.table)
         → m.new.rows
         ≡ m.old.rows
-        ++ map (move_row (group_of group.now h) (free_module group.now h 1) (sum_coordinates group.now h) (g, l)) list.now.rows) }
+        ++ map (move_row (group_of group.now) (free_module group.now 1) (sum_coordinates group.now) (g, l)) list.now.rows) }
 {
     let p = group.prime();
     let n = group.order() as usize;
@@ -68,13 +69,12 @@ fn push_moves(
 }
 
 /// The rows of all (g - 1) v, with v among the rows of the list.
-fn all_moves(alloc: Global, group: &Group, list: &Echelon) -> Result<Matrix, Memory>
-    requires same_prime { list.now.p ≡ group.now.p }
-    requires same_width { list.now.width ≡ order group.now }
-    ensures kept { IfOk result (λ m. (m.p ≡ group.now.p) × (m.width ≡ order group.now)) }
+fn all_moves(alloc: Global, group: &PGroup, list: &Echelon) -> Result<Matrix, Memory>
+    requires same_prime { list.now.p ≡ group.now.table.p }
+    requires same_width { list.now.width ≡ order group.now.table }
+    ensures kept { IfOk result (λ m. (m.p ≡ group.now.table.p) × (m.width ≡ order group.now.table)) }
     ensures moves { IfOk result (λ m.
-        (h : IsPGroup group.now)
-        → m.rows ≡ moves (group_of group.now h) (free_module group.now h 1) (sum_coordinates group.now h) list.now.rows) }
+        m.rows ≡ moves (group_of group.now) (free_module group.now 1) (sum_coordinates group.now) list.now.rows) }
 {
     let mut m = Matrix::new(alloc, group.prime(), list.width());
     let mut g = group.order();
@@ -86,27 +86,26 @@ fn all_moves(alloc: Global, group: &Group, list: &Echelon) -> Result<Matrix, Mem
 }
 
 /// The list of J^(i+1) from that of J^i, for each i.
-pub(crate) fn next_power(alloc: Global, group: &Group, list: &Echelon) -> Result<Echelon, Memory>
-    requires same_prime { list.now.p ≡ group.now.p }
-    requires same_width { list.now.width ≡ order group.now }
-    ensures kept { IfOk result (λ e. (e.p ≡ group.now.p) × (e.width ≡ order group.now)) }
+pub(crate) fn next_power(alloc: Global, group: &PGroup, list: &Echelon) -> Result<Echelon, Memory>
+    requires same_prime { list.now.p ≡ group.now.table.p }
+    requires same_width { list.now.width ≡ order group.now.table }
+    ensures kept { IfOk result (λ e. (e.p ≡ group.now.table.p) × (e.width ≡ order group.now.table)) }
     ensures power { IfOk result (λ e.
-        (h : IsPGroup group.now) (i : ℕ)
-        → IsPowerList (largest_residue group.now) (group_of group.now h) (sum_coordinates group.now h) i list.now.rows
-        → IsPowerList (largest_residue group.now) (group_of group.now h) (sum_coordinates group.now h) (suc i) e.rows) }
+        (i : ℕ)
+        → IsPowerList (largest_residue group.now) (group_of group.now) (sum_coordinates group.now) i list.now.rows
+        → IsPowerList (largest_residue group.now) (group_of group.now) (sum_coordinates group.now) (suc i) e.rows) }
 {
     let m = all_moves(alloc, group, list)?;
     echelon(alloc, &m)
 }
 
 /// The list of the whole group algebra: the unit rows.
-pub(crate) fn whole_list(alloc: Global, group: &Group) -> Result<Echelon, Memory>
+pub(crate) fn whole_list(alloc: Global, group: &PGroup) -> Result<Echelon, Memory>
     ensures units { IfOk result (λ e.
-        (length e.rows ≡ order group.now) × ((k : ℕ) → k < order group.now → row e.rows k ≡ unit_row (order group.now) k)) }
-    ensures kept { IfOk result (λ e. (e.p ≡ group.now.p) × (e.width ≡ order group.now)) }
+        (length e.rows ≡ order group.now.table) × ((k : ℕ) → k < order group.now.table → row e.rows k ≡ unit_row (order group.now.table) k)) }
+    ensures kept { IfOk result (λ e. (e.p ≡ group.now.table.p) × (e.width ≡ order group.now.table)) }
     ensures power { IfOk result (λ e.
-        (h : IsPGroup group.now)
-        → IsPowerList (largest_residue group.now) (group_of group.now h) (sum_coordinates group.now h) 0 e.rows) }
+        IsPowerList (largest_residue group.now) (group_of group.now) (sum_coordinates group.now) 0 e.rows) }
 {
     let p = group.prime();
     let n = group.order() as usize;

@@ -4,16 +4,16 @@ ghost use Rattle.std.specs.Prelude.{◌≡◌, ◌+◌, ◌*◌, ◌<◌, ◌≤
 ghost use Rattle.group_table.specs.Tables.{order};
 ghost use Rattle.radical_layers.specs.LayerBasis.{layer_basis as basis_rows};
 ghost use Rattle.fp_rows.specs.Refs.{entries_of, modulus_of};
-ghost use Rattle.group_algebra.specs.PGroups.{IsPGroup};
 ghost use Rattle.group_algebra.specs.Coordinates.{layers};
 ghost use Rattle.group_algebra.specs.Gains.{stepped, GainsCombination};
 ghost use Rattle.group_algebra.specs.Tables.{HasShape, AreMembers, TakesSumsToLayers, IsElementRow, IsTranslateRow, IsProductRow, EachRow};
 
 use crate::coefficients::{write_coefficients, write_sum_coordinates, write_translate};
 use crate::combinations::add_combination;
+use crate::p_group::PGroup;
 use crate::powers::whole_list;
 use fp_rows::{Matrix, Row, RowRef, kernel, preimages};
-use group_table::{Group, Memory};
+use group_table::Memory;
 use std::alloc::Global;
 
 /// Writes the combination of the rows with the coefficients c.
@@ -30,10 +30,10 @@ pub(crate) fn write_combination(c: RowRef<'_>, rows: &Matrix, first: usize, out:
 }
 
 /// The coefficients of the members of the layer basis, from their sum coordinates.
-pub(crate) fn member_rows(alloc: Global, group: &Group, basis: &Matrix) -> Result<Matrix, Memory>
-    requires basis { HasShape group.now (order group.now) basis.now }
-    requires rows { (h : IsPGroup group.now) → basis.now.rows ≡ basis_rows (layers group.now h) }
-    ensures shape { IfOk result (λ m. HasShape group.now (order group.now) m) }
+pub(crate) fn member_rows(alloc: Global, group: &PGroup, basis: &Matrix) -> Result<Matrix, Memory>
+    requires basis { HasShape group.now (order group.now.table) basis.now }
+    requires rows { basis.now.rows ≡ basis_rows (layers group.now) }
+    ensures shape { IfOk result (λ m. HasShape group.now (order group.now.table) m) }
     ensures members { IfOk result (λ m. AreMembers group.now m.rows) }
 {
     let p = group.prime();
@@ -48,11 +48,14 @@ pub(crate) fn member_rows(alloc: Global, group: &Group, basis: &Matrix) -> Resul
 }
 
 /// The rows that take sum coordinates to layer coordinates: the combinations of the members that give the unit rows.
-pub(crate) fn unit_preimages(alloc: Global, group: &Group, basis: &Matrix) -> Result<Matrix, Memory>
-    requires basis { HasShape group.now (order group.now) basis.now }
-    requires rows { (h : IsPGroup group.now) → basis.now.rows ≡ basis_rows (layers group.now h) }
-    requires group { IsPGroup group.now }
-    ensures shape { IfOk result (λ m. HasShape group.now (order group.now) m) }
+pub(crate) fn unit_preimages(
+    alloc: Global,
+    group: &PGroup,
+    basis: &Matrix,
+) -> Result<Matrix, Memory>
+    requires basis { HasShape group.now (order group.now.table) basis.now }
+    requires rows { basis.now.rows ≡ basis_rows (layers group.now) }
+    ensures shape { IfOk result (λ m. HasShape group.now (order group.now.table) m) }
     ensures rows { IfOk result (λ m. TakesSumsToLayers group.now m.rows) }
 {
     let whole = whole_list(alloc, group)?;
@@ -61,10 +64,10 @@ pub(crate) fn unit_preimages(alloc: Global, group: &Group, basis: &Matrix) -> Re
 }
 
 /// The layer coordinates of the elements of the group.
-pub(crate) fn element_rows(alloc: Global, group: &Group, units: &Matrix) -> Result<Matrix, Memory>
-    requires units { HasShape group.now (order group.now) units.now }
+pub(crate) fn element_rows(alloc: Global, group: &PGroup, units: &Matrix) -> Result<Matrix, Memory>
+    requires units { HasShape group.now (order group.now.table) units.now }
     requires rows { TakesSumsToLayers group.now units.now.rows }
-    ensures shape { IfOk result (λ m. HasShape group.now (order group.now) m) }
+    ensures shape { IfOk result (λ m. HasShape group.now (order group.now.table) m) }
     ensures rows { IfOk result (λ m. EachRow (IsElementRow group.now) m.rows) }
 {
     let p = group.prime();
@@ -86,15 +89,15 @@ pub(crate) fn element_rows(alloc: Global, group: &Group, units: &Matrix) -> Resu
 /// The layer coordinates of g times member k of the layer basis, at the position k n + g.
 pub(crate) fn translate_rows(
     alloc: Global,
-    group: &Group,
+    group: &PGroup,
     members: &Matrix,
     elements: &Matrix,
 ) -> Result<Matrix, Memory>
-    requires members { HasShape group.now (order group.now) members.now }
+    requires members { HasShape group.now (order group.now.table) members.now }
     requires member_rows { AreMembers group.now members.now.rows }
-    requires elements { HasShape group.now (order group.now) elements.now }
+    requires elements { HasShape group.now (order group.now.table) elements.now }
     requires element_rows { EachRow (IsElementRow group.now) elements.now.rows }
-    ensures shape { IfOk result (λ m. HasShape group.now (order group.now * order group.now) m) }
+    ensures shape { IfOk result (λ m. HasShape group.now (order group.now.table * order group.now.table) m) }
     ensures rows { IfOk result (λ m. EachRow (IsTranslateRow group.now) m.rows) }
 {
     let p = group.prime();
@@ -103,7 +106,12 @@ pub(crate) fn translate_rows(
     let mut moved = Row::zero(alloc, p, n)?;
     let mut out = Row::zero(alloc, p, n)?;
     for i in 0..n * n {
-        write_translate(group, (i % n) as u16, members.row(i / n), &mut moved);
+        write_translate(
+            group.as_group(),
+            (i % n) as u16,
+            members.row(i / n),
+            &mut moved,
+        );
         write_combination(moved.view(), elements, 0, &mut out);
         m.push(out.view())?;
     }
@@ -113,15 +121,15 @@ pub(crate) fn translate_rows(
 /// The layer coordinates of member k times member l of the layer basis, at the position k n + l.
 pub(crate) fn product_rows(
     alloc: Global,
-    group: &Group,
+    group: &PGroup,
     members: &Matrix,
     translates: &Matrix,
 ) -> Result<Matrix, Memory>
-    requires members { HasShape group.now (order group.now) members.now }
+    requires members { HasShape group.now (order group.now.table) members.now }
     requires member_rows { AreMembers group.now members.now.rows }
-    requires translates { HasShape group.now (order group.now * order group.now) translates.now }
+    requires translates { HasShape group.now (order group.now.table * order group.now.table) translates.now }
     requires translate_rows { EachRow (IsTranslateRow group.now) translates.now.rows }
-    ensures shape { IfOk result (λ m. HasShape group.now (order group.now * order group.now) m) }
+    ensures shape { IfOk result (λ m. HasShape group.now (order group.now.table * order group.now.table) m) }
     ensures rows { IfOk result (λ m. EachRow (IsProductRow group.now) m.rows) }
 {
     let p = group.prime();

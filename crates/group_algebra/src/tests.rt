@@ -162,7 +162,7 @@ fn layers_of(
     algebra: &Algebra,
     coefficients: &[u8],
 ) -> Result<Row, Fail>
-    ensures { IfOk result (λ r. (r.p ≡ algebra.now.p) × (length r.entries ≡ order_of algebra.now)) }
+    ensures { IfOk result (λ r. (r.p ≡ algebra.now.table.p) × (length r.entries ≡ order_of algebra.now.table)) }
 {
     let p = algebra.group().prime();
     let n = algebra.group().order() as usize;
@@ -176,7 +176,7 @@ fn layers_of(
 
 // The coefficients of the member with these layer coordinates.
 fn coefficients_of(alloc: Global, algebra: &Algebra, layers: &Row) -> Result<Row, Fail>
-    requires { (layers.now.p ≡ algebra.now.p) × (length layers.now.entries ≡ order_of algebra.now) }
+    requires { (layers.now.p ≡ algebra.now.table.p) × (length layers.now.entries ≡ order_of algebra.now.table) }
 {
     let mut out = Row::zero(
         alloc,

@@ -4,7 +4,7 @@ use Rattle.std.specs.Prelude.{Some, slice_index}
 use Rattle.std.proofs.lemmas.List.{length_push}
 use Rattle.std.proofs.lemmas.Nat.{mul-le}
 use mathlib.Core.Path.{subst}
-use Rattle.group_table.specs.Tables.{GroupTable, order}
+use Rattle.group_table.specs.Tables.{order}
 use Rattle.group_modules.specs.Field.{Below}
 use Rattle.linear_algebra.specs.Rows.{row, pivot, IsMatrix, IsEchelon, IsEchelonOf, AreInSpan}
 use Rattle.linear_algebra.specs.Choices.{IsGreedyBelow, IsGreedy, ArePreimages}
@@ -14,7 +14,7 @@ use Rattle.resolution_stages.specs.Definitions.{StageRows}
 use Rattle.resolution_stages.specs.Checks.{StageParts}
 use Rattle.resolution_stages.specs.Computed.{IsMatrixOf}
 use Rattle.fp_rows.specs.Values.{MatrixValue}
-use Rattle.group_algebra.specs.PGroups.{IsPGroup, largest_residue}
+use Rattle.group_algebra.specs.PGroups.{PGroup, largest_residue}
 use Rattle.group_algebra.specs.Coordinates.{layer_coordinates}
 use Rattle.min_res.specs.Products.{AreGenerators, numbers}
 use Rattle.min_res.specs.RowMaps.{linear_map, moves_of}
@@ -46,23 +46,23 @@ echelon-count {p} {width} E m e = at (length E) refl
     at (suc n) c = let l : n < length E = omega (arith, c) in let a : n ≤ pivot (row E n) = above n l in
         let b : pivot (row E n) < length (row E n) = e.not_zero n l in let w : length (row E n) ≡ width = (m n l).length_is in omega (arith, a, b, w, c)
 
-module _ (G : GroupTable) (h : IsPGroup G) where
+module _ (G : PGroup) where
   abbrev S : StageRows
-  S = stage_rows G h
+  S = stage_rows G
 
   -- positions of the defined stage, from a list and a rank that are its
-  pub positions-found : (d b : ℕ) (E : List (List ℕ)) → b ≡ rank_of G h d → E ≡ S.kernel d → (gens : List ℕ) → AreGenerators G gens → (R t : List (List ℕ)) (xs : List ℕ)
-      → ((gs : List (Below (order G))) → numbers gs ≡ gens → R ≡ moves_of G h b gs E) → IsEchelonOf G.p (order G * b) R t → IsGreedy G.p E t xs → xs ≡ S.positions d
-  positions-found d b E eb eE gens A R t xs = subst (λ b. P b E) (sym eb) (subst (λ E. P (rank_of G h d) E) (sym eE) (positions-one G h d gens A R t xs))
+  pub positions-found : (d b : ℕ) (E : List (List ℕ)) → b ≡ rank_of G d → E ≡ S.kernel d → (gens : List ℕ) → AreGenerators G.table gens → (R t : List (List ℕ)) (xs : List ℕ)
+      → ((gs : List (Below (order G.table))) → numbers gs ≡ gens → R ≡ moves_of G b gs E) → IsEchelonOf G.table.p (order G.table * b) R t → IsGreedy G.table.p E t xs → xs ≡ S.positions d
+  positions-found d b E eb eE gens A R t xs = subst (λ b. P b E) (sym eb) (subst (λ E. P (rank_of G d) E) (sym eE) (positions-one G d gens A R t xs))
     where
       P : ℕ → List (List ℕ) → Type 0
-      P b E = ((gs : List (Below (order G))) → numbers gs ≡ gens → R ≡ moves_of G h b gs E) → IsEchelonOf G.p (order G * b) R t → IsGreedy G.p E t xs → xs ≡ S.positions d
+      P b E = ((gs : List (Below (order G.table))) → numbers gs ≡ gens → R ≡ moves_of G b gs E) → IsEchelonOf G.table.p (order G.table * b) R t → IsGreedy G.table.p E t xs → xs ≡ S.positions d
 
   pub positions-inside : (d : ℕ) (i : ℕ) → i < length (S.positions d) → slice_index (S.positions d) i < length (S.kernel d)
-  positions-inside d i l = (greedy-below (suc (largest_residue G)) (S.kernel d) _ (length (S.kernel d)) (S.positions d) ((stage_rows_are G h).rows_are d) i l).1
+  positions-inside d i l = (greedy-below (suc (largest_residue G)) (S.kernel d) _ (length (S.kernel d)) (S.positions d) ((stage_rows_are G).rows_are d) i l).1
 
   pub positions-count : (d : ℕ) → length (S.positions d) ≤ length (S.kernel d)
-  positions-count d = greedy-count (suc (largest_residue G)) (S.kernel d) _ (length (S.kernel d)) (S.positions d) ((stage_rows_are G h).rows_are d)
+  positions-count d = greedy-count (suc (largest_residue G)) (S.kernel d) _ (length (S.kernel d)) (S.positions d) ((stage_rows_are G).rows_are d)
 
   -- of any lists that are the stage's
   pub inside-of : (d : ℕ) (xs : List ℕ) (E : List (List ℕ)) → xs ≡ S.positions d → E ≡ S.kernel d → (i : ℕ) → i < length xs → slice_index xs i < length E
@@ -70,62 +70,62 @@ module _ (G : GroupTable) (h : IsPGroup G) where
       (subst (λ E. (i : ℕ) → i < length (S.positions d) → slice_index (S.positions d) i < length E) (sym eE) (positions-inside d))
 
   -- the dimension of the next free module is small where the list of K_d is
-  pub small-dimension : (d w n b : ℕ) → w ≡ order G * rank_of G h d → w ≤ 2 ^ 28 → n ≤ 256 → b ≡ length (S.positions d) → n * b < 2 ^ 64
+  pub small-dimension : (d w n b : ℕ) → w ≡ order G.table * rank_of G d → w ≤ 2 ^ 28 → n ≤ 256 → b ≡ length (S.positions d) → n * b < 2 ^ 64
   small-dimension d w n b e s m f =
       let a : length (S.positions d) ≤ length (S.kernel d) = positions-count d in
-      let k : length (S.kernel d) ≤ order G * rank_of G h d = echelon-count (S.kernel d) ((stage_rows_are G h).kernel_is d).matrix ((stage_rows_are G h).kernel_is d).echelon in
+      let k : length (S.kernel d) ≤ order G.table * rank_of G d = echelon-count (S.kernel d) ((stage_rows_are G).kernel_is d).matrix ((stage_rows_are G).kernel_is d).echelon in
       let l : b ≤ 268435456 = omega (arith, a, k, e, s, f) in
       let p : n * b ≤ 256 * 268435456 = mul-le n b 256 268435456 m l in omega (arith, p)
 
-  module _ (d b : ℕ) (E : List (List ℕ)) (xs : List ℕ) (M : List (List ℕ)) (eb : b ≡ rank_of G h d) (eE : E ≡ S.kernel d) (ex : xs ≡ S.positions d)
-      (matrix : IsMatrixOf (layer_coordinates G h (length xs)) (layer_coordinates G h b) (linear_map G h b E xs) M) where
-    pub defined-matrix : IsMatrixOf (layer_coordinates G h (rank_of G h (suc d))) (layer_coordinates G h (rank_of G h d)) (∂ G h d) M
-    defined-matrix = subst (λ xs. P (rank_of G h d) (S.kernel d) xs) ex (subst (λ E. P (rank_of G h d) E xs) eE (subst (λ b. P b E xs) eb matrix))
+  module _ (d b : ℕ) (E : List (List ℕ)) (xs : List ℕ) (M : List (List ℕ)) (eb : b ≡ rank_of G d) (eE : E ≡ S.kernel d) (ex : xs ≡ S.positions d)
+      (matrix : IsMatrixOf (layer_coordinates G (length xs)) (layer_coordinates G b) (linear_map G b E xs) M) where
+    pub defined-matrix : IsMatrixOf (layer_coordinates G (rank_of G (suc d))) (layer_coordinates G (rank_of G d)) (∂ G d) M
+    defined-matrix = subst (λ xs. P (rank_of G d) (S.kernel d) xs) ex (subst (λ E. P (rank_of G d) E xs) eE (subst (λ b. P b E xs) eb matrix))
       where
         P : ℕ → List (List ℕ) → List ℕ → Type 0
-        P b E xs = IsMatrixOf (layer_coordinates G h (length xs)) (layer_coordinates G h b) (linear_map G h b E xs) M
+        P b E xs = IsMatrixOf (layer_coordinates G (length xs)) (layer_coordinates G b) (linear_map G b E xs) M
 
-    pub targets-in : AreInSpan G.p M E
-    targets-in = subst (λ E. AreInSpan G.p M E) (sym eE) (targets G h d M defined-matrix)
+    pub targets-in : AreInSpan G.table.p M E
+    targets-in = subst (λ E. AreInSpan G.table.p M E) (sym eE) (targets G d M defined-matrix)
 
-  pub stage-above : (d : ℕ) (last s : StageValue) (B : BoundaryValue) → IsStageAt G h d last → s.degree ≡ d + 1 → s.boundary ≡ Some B → s.rank ≡ length B.positions
+  pub stage-above : (d : ℕ) (last s : StageValue) (B : BoundaryValue) → IsStageAt G d last → s.degree ≡ d + 1 → s.boundary ≡ Some B → s.rank ≡ length B.positions
       → B.source ≡ last.kernel → B.positions ≡ S.positions d → B.matrix.p ≡ last.kernel.p → B.matrix.width ≡ last.kernel.width
-      → IsMatrixOf (layer_coordinates G h (length B.positions)) (layer_coordinates G h last.rank) (linear_map G h last.rank last.kernel.rows B.positions) B.matrix.rows
+      → IsMatrixOf (layer_coordinates G (length B.positions)) (layer_coordinates G last.rank) (linear_map G last.rank last.kernel.rows B.positions) B.matrix.rows
       → s.kernel.p ≡ B.matrix.p → s.kernel.width ≡ length B.matrix.rows → IsKernelOf B.matrix.p B.matrix.rows s.kernel.rows
       → B.sections.p ≡ B.matrix.p → B.sections.width ≡ length B.matrix.rows → ArePreimages B.matrix.p B.matrix.rows s.kernel.rows last.kernel.rows B.sections.rows
-      → IsStageAt G h (suc d) s
+      → IsStageAt G (suc d) s
   stage-above d last s B L degree boundary rank source positions mp mw matrix kp kw kernel sp sw sections = record {
     degree_is = degree ∙ (let z : d + 1 ≡ suc d = omega arith in z);
     rank_is = rank ∙ ap (λ (x : List ℕ). length x) positions;
-    kernel_is = matrix-value s.kernel (kernel_value G h (suc d)) (kp ∙ prime) (kw ∙ count) (ap (λ (x : StageParts). x.kernel) found);
+    kernel_is = matrix-value s.kernel (kernel_value G (suc d)) (kp ∙ prime) (kw ∙ count) (ap (λ (x : StageParts). x.kernel) found);
     none_at_zero = λ e. absurd (omega (arith, e));
-    boundary_is = λ c e. (B, boundary, subst (λ k. IsBoundaryAt G h k B) (let z : d ≡ c = omega (arith, e) in z) boundary-at);
+    boundary_is = λ c e. (B, boundary, subst (λ k. IsBoundaryAt G k B) (let z : d ≡ c = omega (arith, e) in z) boundary-at);
   }
     where
       rows-are : last.kernel.rows ≡ S.kernel d
       rows-are = ap (λ (x : MatrixValue). x.rows) L.kernel_is
 
-      prime : B.matrix.p ≡ G.p
+      prime : B.matrix.p ≡ G.table.p
       prime = mp ∙ ap (λ (x : MatrixValue). x.p) L.kernel_is
 
-      matrix' : IsMatrixOf (layer_coordinates G h (rank_of G h (suc d))) (layer_coordinates G h (rank_of G h d)) (∂ G h d) B.matrix.rows
+      matrix' : IsMatrixOf (layer_coordinates G (rank_of G (suc d))) (layer_coordinates G (rank_of G d)) (∂ G d) B.matrix.rows
       matrix' = defined-matrix d last.rank last.kernel.rows B.positions B.matrix.rows L.rank_is rows-are positions matrix
 
-      count : length B.matrix.rows ≡ order G * rank_of G h (suc d)
+      count : length B.matrix.rows ≡ order G.table * rank_of G (suc d)
       count = matrix'.count
 
-      preimages : ArePreimages G.p B.matrix.rows s.kernel.rows (S.kernel d) B.sections.rows
-      preimages = subst (λ E. ArePreimages G.p B.matrix.rows s.kernel.rows E B.sections.rows) rows-are (subst (λ p. ArePreimages p B.matrix.rows s.kernel.rows last.kernel.rows B.sections.rows) prime sections)
+      preimages : ArePreimages G.table.p B.matrix.rows s.kernel.rows (S.kernel d) B.sections.rows
+      preimages = subst (λ E. ArePreimages G.table.p B.matrix.rows s.kernel.rows E B.sections.rows) rows-are (subst (λ p. ArePreimages p B.matrix.rows s.kernel.rows last.kernel.rows B.sections.rows) prime sections)
 
       found : record { positions = S.positions d; kernel = s.kernel.rows; sections = B.sections.rows } ≡ Rattle.resolution_stages.specs.Chain.parts_of S d
-      found = parts-found G h d B.matrix.rows matrix' s.kernel.rows B.sections.rows (subst (λ p. IsKernelOf p B.matrix.rows s.kernel.rows) prime kernel) preimages.count preimages.each
+      found = parts-found G d B.matrix.rows matrix' s.kernel.rows B.sections.rows (subst (λ p. IsKernelOf p B.matrix.rows s.kernel.rows) prime kernel) preimages.count preimages.each
 
-      boundary-at : IsBoundaryAt G h d B
+      boundary-at : IsBoundaryAt G d B
       boundary-at = record {
         source_is = source ∙ L.kernel_is;
         positions_are = positions;
         matrix_prime = prime;
         matrix_width = mw ∙ ap (λ (x : MatrixValue). x.width) L.kernel_is;
         matrix_is = matrix';
-        sections_are = matrix-value B.sections (record { p = G.p; width = order G * rank_of G h (suc d); rows = map (σ G h d) (S.kernel d) }) (sp ∙ prime) (sw ∙ count) (ap (λ (x : StageParts). x.sections) found);
+        sections_are = matrix-value B.sections (record { p = G.table.p; width = order G.table * rank_of G (suc d); rows = map (σ G d) (S.kernel d) }) (sp ∙ prime) (sw ∙ count) (ap (λ (x : StageParts). x.sections) found);
       }

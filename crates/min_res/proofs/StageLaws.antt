@@ -1,7 +1,7 @@
 -- The laws of the defined stages.
 use Rattle.std.proofs.Common.{◌≡◌, ℕ, suc, ◌*◌, List, [], ◌∷◌, ap, ap₂, sym, ◌∙◌}
 use mathlib.Core.Path.{subst}
-use Rattle.group_table.specs.Tables.{GroupTable, order}
+use Rattle.group_table.specs.Tables.{order}
 use Rattle.group_modules.specs.Module.{Module, sub, times, lin}
 use Rattle.group_modules.specs.Laws.{times-mod, sub-zero}
 use Rattle.group_modules.specs.Field.{Below, residue}
@@ -19,7 +19,7 @@ use Rattle.resolution_stages.proofs.NextList.{list-of-submodule}
 use Rattle.resolution_stages.proofs.ChainLaws.{next-of, stage-claims}
 use Rattle.resolution_stages.proofs.Unique.{next-is-one}
 use Rattle.resolution_stages.proofs.FromDefinitions.{kernel-is-submodule, stage-basis, onto, fewest-rows, rows}
-use Rattle.group_algebra.specs.PGroups.{IsPGroup, largest_residue, group}
+use Rattle.group_algebra.specs.PGroups.{PGroup, largest_residue, group}
 use Rattle.group_algebra.specs.Coordinates.{field, prime_power, layer_coordinates}
 use Rattle.min_res.specs.Stages.{stage_rows, stage_rows_are, rank_of}
 use Rattle.min_res.specs.Defined.{free, K, IsExactMinimal, IsSectionOf}
@@ -50,46 +50,46 @@ module _ {n : ℕ} (q : ℕ) (Γ : Group n) where
         (total-in (below b) (λ i. total M (below n) (part q Γ M b u v i))
         (λ i. total-in (below n) (part q Γ M b u v i) (λ g. times-in M L U (v i g).0 (M.act g (u i)) (U.act-in g (u i) (h i)))))
 
-module _ (G : GroupTable) (h : IsPGroup G) where
+module _ (G : PGroup) where
   abbrev q : ℕ
   q = largest_residue G
 
-  abbrev Γ : Group (order G)
-  Γ = group G h
+  abbrev Γ : Group (order G.table)
+  Γ = group G
 
   abbrev S : StageRows
-  S = stage_rows G h
+  S = stage_rows G
 
-  abbrev C : (b : ℕ) → Rattle.radical_layers.specs.Coordinates.RowForm (order G * b) (Table q Γ b)
-  C b = layer_coordinates G h b
+  abbrev C : (b : ℕ) → Rattle.radical_layers.specs.Coordinates.RowForm (order G.table * b) (Table q Γ b)
+  C b = layer_coordinates G b
 
-  pub kernel-submodule-at : (d : ℕ) → IsSubmodule (free G h d) (K G h d)
-  kernel-submodule-at d = kernel-is-submodule q (field G h) Γ (layer_coordinates G h) S (stage_rows_are G h) d
+  pub kernel-submodule-at : (d : ℕ) → IsSubmodule (free G d) (K G d)
+  kernel-submodule-at d = kernel-is-submodule q (field G) Γ (layer_coordinates G) S (stage_rows_are G) d
 
   -- the list of K_d is that of a submodule
-  pub submodule-list : (d : ℕ) → IsSubmoduleList q Γ (layer_coordinates G h) (rank_of G h d) (S.kernel d)
-  submodule-list d = list-of-submodule q Γ (layer_coordinates G h) (rank_of G h d) (K G h d) (kernel-submodule-at d) (S.kernel d) ((stage_rows_are G h).kernel_is d)
+  pub submodule-list : (d : ℕ) → IsSubmoduleList q Γ (layer_coordinates G) (rank_of G d) (S.kernel d)
+  submodule-list d = list-of-submodule q Γ (layer_coordinates G) (rank_of G d) (K G d) (kernel-submodule-at d) (S.kernel d) ((stage_rows_are G).kernel_is d)
 
   -- the parts of the defined stage
-  pub parts-are : (d : ℕ) → IsNextStage q Γ (layer_coordinates G h) (rank_of G h d) (S.kernel d) (parts_of S d)
-  parts-are d = next-of q (field G h) Γ (layer_coordinates G h) S (stage_rows_are G h) d
+  pub parts-are : (d : ℕ) → IsNextStage q Γ (layer_coordinates G) (rank_of G d) (S.kernel d) (parts_of S d)
+  parts-are d = next-of q (field G) Γ (layer_coordinates G) S (stage_rows_are G) d
 
   -- what is the next stage is the defined one
-  pub parts-one : (d : ℕ) (Q : StageParts) → IsNextStage q Γ (layer_coordinates G h) (rank_of G h d) (S.kernel d) Q → Q ≡ parts_of S d
-  parts-one d Q N = next-is-one q (field G h) Γ (layer_coordinates G h) (rank_of G h d) (S.kernel d) Q (parts_of S d) N (parts-are d)
+  pub parts-one : (d : ℕ) (Q : StageParts) → IsNextStage q Γ (layer_coordinates G) (rank_of G d) (S.kernel d) Q → Q ≡ parts_of S d
+  parts-one d Q N = next-is-one q (field G) Γ (layer_coordinates G) (rank_of G d) (S.kernel d) Q (parts_of S d) N (parts-are d)
 
-  pub exact-minimal : (d : ℕ) → IsExactMinimal G h d
+  pub exact-minimal : (d : ℕ) → IsExactMinimal G d
   exact-minimal d = record {
-    image_in = λ u. lin-in q Γ (free G h d) (K G h d) (kernel-submodule-at d) (rank_of G h (suc d)) (rows q (field G h) Γ (layer_coordinates G h) S (stage_rows_are G h) d)
-        (stage-basis q (field G h) Γ (layer_coordinates G h) S (stage_rows_are G h) d).members u;
-    in_image = λ v k. onto q (field G h) Γ (layer_coordinates G h) S (stage_rows_are G h) (prime_power G h) d v k;
-    minimal = λ u k. blocks-radical q Γ (rank_of G h (suc d)) u (λ i. kernel-minimal q Γ (free G h d) (K G h d) (rank_of G h (suc d))
-        (rows q (field G h) Γ (layer_coordinates G h) S (stage_rows_are G h) d) (stage-basis q (field G h) Γ (layer_coordinates G h) S (stage_rows_are G h) d) u k i);
-    fewest = λ l s m g. fewest-rows q (field G h) Γ (layer_coordinates G h) S (stage_rows_are G h) (prime_power G h) d l s m g;
+    image_in = λ u. lin-in q Γ (free G d) (K G d) (kernel-submodule-at d) (rank_of G (suc d)) (rows q (field G) Γ (layer_coordinates G) S (stage_rows_are G) d)
+        (stage-basis q (field G) Γ (layer_coordinates G) S (stage_rows_are G) d).members u;
+    in_image = λ v k. onto q (field G) Γ (layer_coordinates G) S (stage_rows_are G) (prime_power G) d v k;
+    minimal = λ u k. blocks-radical q Γ (rank_of G (suc d)) u (λ i. kernel-minimal q Γ (free G d) (K G d) (rank_of G (suc d))
+        (rows q (field G) Γ (layer_coordinates G) S (stage_rows_are G) d) (stage-basis q (field G) Γ (layer_coordinates G) S (stage_rows_are G) d) u k i);
+    fewest = λ l s m g. fewest-rows q (field G) Γ (layer_coordinates G) S (stage_rows_are G) (prime_power G) d l s m g;
   }
 
-  pub section-is : (d : ℕ) → IsSectionOf G h d
+  pub section-is : (d : ℕ) → IsSectionOf G d
   section-is d = record {
-    boundary_is = λ x k. ((stage_rows_are G h).section_is d x k).boundary_is;
-    by_table = λ x k. (stage-claims q (field G h) Γ (layer_coordinates G h) S (stage_rows_are G h)).by_table d x k;
+    boundary_is = λ x k. ((stage_rows_are G).section_is d x k).boundary_is;
+    by_table = λ x k. (stage-claims q (field G) Γ (layer_coordinates G) S (stage_rows_are G)).by_table d x k;
   }

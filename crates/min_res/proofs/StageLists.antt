@@ -4,8 +4,8 @@ use Rattle.std.proofs.lemmas.Bool.{cases_lt}
 use Rattle.std.proofs.lemmas.List.{get_or_append_left, get_or_push, length_push, length-map, get_or-map, map-append}
 use Rattle.std.specs.declared.rc.Rc.{Rc}
 use mathlib.Core.Path.{subst}
+use Rattle.group_algebra.specs.PGroups.{PGroup}
 use Rattle.group_table.specs.Tables.{GroupTable}
-use Rattle.group_algebra.specs.PGroups.{IsPGroup}
 use Rattle.min_res.specs.Products.{AreGenerators}
 use Rattle.min_res.specs.Values.{StageValue}
 use Rattle.min_res.specs.Defined.{IsStageAt}
@@ -21,14 +21,14 @@ length-values {Z} items = length-map items (λ (r : Rc StageValue Z). r.value)
 pub values-push : {Z : Type 0} (items : List (Rc StageValue Z)) (x : Rc StageValue Z) → stage_values (items ++ x ∷ []) ≡ stage_values items ++ x.value ∷ []
 values-push {Z} items x = map-append (λ (r : Rc StageValue Z). r.value) items (x ∷ [])
 
-module _ (G : GroupTable) (generators : List ℕ) where
+module _ (G : PGroup) (generators : List ℕ) where
   pub store-push : (stages : List StageValue) (s : StageValue) → IsResolutionStore G generators stages → length stages < 2 ^ 32
-      → ((h : IsPGroup G) → IsStageAt G h (length stages) s) → s.kernel.width ≤ 2 ^ 28 → IsResolutionStore G generators (stages ++ s ∷ [])
+      → IsStageAt G (length stages) s → s.kernel.width ≤ 2 ^ 28 → IsResolutionStore G generators (stages ++ s ∷ [])
   store-push stages s R few new small = record {
     generate = R.generate;
     some = omega (arith, count);
     few = omega (arith, count, few);
-    each = λ h d t l. every h d t l;
+    each = λ d t l. every d t l;
     small = λ d t l. narrow d t l;
   }
     where
@@ -41,13 +41,13 @@ module _ (G : GroupTable) (generators : List ℕ) where
       here : (d : ℕ) (t : StageValue) → d ≡ length stages → get_or (stages ++ s ∷ []) d t ≡ s
       here d t e = get_or_push stages s t d (sym e)
 
-      every : (h : IsPGroup G) (d : ℕ) (t : StageValue) → d < length (stages ++ s ∷ []) → IsStageAt G h d (get_or (stages ++ s ∷ []) d t)
-      every h d t l = go (cases_lt d (length stages))
+      every : (d : ℕ) (t : StageValue) → d < length (stages ++ s ∷ []) → IsStageAt G d (get_or (stages ++ s ∷ []) d t)
+      every d t l = go (cases_lt d (length stages))
         where
-          go : (d < length stages) ⊎ (length stages ≤ d) → IsStageAt G h d (get_or (stages ++ s ∷ []) d t)
-          go (inl m) = subst (λ x. IsStageAt G h d x) (sym (before d t m)) (R.each h d t m)
+          go : (d < length stages) ⊎ (length stages ≤ d) → IsStageAt G d (get_or (stages ++ s ∷ []) d t)
+          go (inl m) = subst (λ x. IsStageAt G d x) (sym (before d t m)) (R.each d t m)
           go (inr m) = let e : d ≡ length stages = omega (arith, m, l, count) in
-              subst (λ x. IsStageAt G h d x) (sym (here d t e)) (subst (λ k. IsStageAt G h k s) (sym e) (new h))
+              subst (λ x. IsStageAt G d x) (sym (here d t e)) (subst (λ k. IsStageAt G k s) (sym e) new)
 
       narrow : (d : ℕ) (t : StageValue) → d < length (stages ++ s ∷ []) → (get_or (stages ++ s ∷ []) d t).kernel.width ≤ 2 ^ 28
       narrow d t l = go (cases_lt d (length stages))
@@ -56,7 +56,7 @@ module _ (G : GroupTable) (generators : List ℕ) where
           go (inl m) = subst (λ (x : StageValue). x.kernel.width ≤ 2 ^ 28) (sym (before d t m)) (R.small d t m)
           go (inr m) = subst (λ (x : StageValue). x.kernel.width ≤ 2 ^ 28) (sym (here d t (let e : d ≡ length stages = omega (arith, m, l, count) in e))) small
 
-  pub store-start : (s : StageValue) → AreGenerators G generators → ((h : IsPGroup G) → IsStageAt G h 0 s) → s.kernel.width ≤ 2 ^ 28 → IsResolutionStore G generators (s ∷ [])
+  pub store-start : (s : StageValue) → AreGenerators G.table generators → IsStageAt G 0 s → s.kernel.width ≤ 2 ^ 28 → IsResolutionStore G generators (s ∷ [])
   store-start s A first small = record {
     generate = A;
     some = omega arith;
@@ -65,19 +65,19 @@ module _ (G : GroupTable) (generators : List ℕ) where
     small = narrow;
   }
     where
-      stages : (h : IsPGroup G) (d : ℕ) (t : StageValue) → d < length (s ∷ []) → IsStageAt G h d (get_or (s ∷ []) d t)
-      stages h zero t l = first h
-      stages h (suc d) t l = absurd (omega (arith, l))
+      stages : (d : ℕ) (t : StageValue) → d < length (s ∷ []) → IsStageAt G d (get_or (s ∷ []) d t)
+      stages zero t l = first
+      stages (suc d) t l = absurd (omega (arith, l))
 
       narrow : (d : ℕ) (t : StageValue) → d < length (s ∷ []) → (get_or (s ∷ []) d t).kernel.width ≤ 2 ^ 28
       narrow zero t l = small
       narrow (suc d) t l = absurd (omega (arith, l))
 
 -- the stage at a place is the one of that degree
-pub kept-at : {Z : Type 0} (G G' : GroupTable) (generators : List ℕ) (items : List (Rc StageValue Z)) (d last : ℕ) (x : Rc StageValue Z) → IsResolutionStore G generators (stage_values items) → G ≡ G'
-    → length items - 1 ≡ last → d ≤ last → x ≡ get_or items d x → ((h : IsPGroup G') → IsStageAt G' h d x.value) × (x.value.kernel.width ≤ 2 ^ 28)
+pub kept-at : {Z : Type 0} (G G' : PGroup) (generators : List ℕ) (items : List (Rc StageValue Z)) (d last : ℕ) (x : Rc StageValue Z) → IsResolutionStore G generators (stage_values items) → G ≡ G'
+    → length items - 1 ≡ last → d ≤ last → x ≡ get_or items d x → (IsStageAt G' d x.value) × (x.value.kernel.width ≤ 2 ^ 28)
 kept-at {Z} G G' generators items d last x R g e l i = (
-  let P : GroupTable → Type 0 = λ H. (h : IsPGroup H) → IsStageAt H h d x.value in subst P g (λ h. subst (λ s. IsStageAt G h d s) same (R.each h d x.value inside)),
+  let P : PGroup → Type 0 = λ H. IsStageAt H d x.value in subst P g (subst (λ s. IsStageAt G d s) same (R.each d x.value inside)),
   subst (λ (s : StageValue). s.kernel.width ≤ 2 ^ 28) same (R.small d x.value inside),
 )
   where
@@ -88,23 +88,23 @@ kept-at {Z} G G' generators items d last x R g e l i = (
     same = value-at items d x x.value (let k : length (stage_values items) ≡ length items = length-values items in let z : d < length (stage_values items) = inside in omega (arith, k, z)) i
 
 -- one more stage
-pub grown : {Z : Type 0} (G G' : GroupTable) (generators : List ℕ) (items new : List (Rc StageValue Z)) (last limit : ℕ) (x : Rc StageValue Z) (s : StageValue)
-    → IsResolutionStore G generators (stage_values items) → G ≡ G' → length items - 1 ≡ last → last + 1 < 2 ^ 32 → ((h : IsPGroup G') → IsStageAt G' h (suc last) s)
+pub grown : {Z : Type 0} (G G' : PGroup) (generators : List ℕ) (items new : List (Rc StageValue Z)) (last limit : ℕ) (x : Rc StageValue Z) (s : StageValue)
+    → IsResolutionStore G generators (stage_values items) → G ≡ G' → length items - 1 ≡ last → last + 1 < 2 ^ 32 → IsStageAt G' (suc last) s
     → s.kernel.width ≤ limit → limit ≤ 2 ^ 28 → x.value ≡ s → new ≡ items ++ x ∷ [] → IsResolutionStore G generators (stage_values new)
 grown {Z} G G' generators items new last limit x s R g e few stage narrow l v n =
     subst (λ t. IsResolutionStore G generators t) (sym (ap (λ (t : List (Rc StageValue Z)). stage_values t) n ∙ values-push items x))
     (store-push G generators (stage_values items) x.value R (omega (arith, count, few))
-    (let P : GroupTable → Type 0 = λ H. (h : IsPGroup H) → IsStageAt H h (length (stage_values items)) x.value in
-    subst P (sym g) (λ h. subst (λ t. IsStageAt G' h (length (stage_values items)) t) (sym v) (subst (λ k. IsStageAt G' h k s) (sym count) (stage h))))
+    (let P : PGroup → Type 0 = λ H. IsStageAt H (length (stage_values items)) x.value in
+    subst P (sym g) (subst (λ t. IsStageAt G' (length (stage_values items)) t) (sym v) (subst (λ k. IsStageAt G' k s) (sym count) stage)))
     (subst (λ (t : StageValue). t.kernel.width ≤ 2 ^ 28) (sym v) (omega (arith, narrow, l))))
   where
     count : length (stage_values items) ≡ suc last
     count = let a : length (stage_values items) ≡ length items = length-values items in let b : 0 < length (stage_values items) = R.some in omega (arith, a, b, e)
 
 -- the stage of degree 0 alone
-pub started : {Z : Type 0} (G G' : GroupTable) (generators : List ℕ) (old items : List (Rc StageValue Z)) (x : Rc StageValue Z) (s : StageValue) → G' ≡ G → AreGenerators G' generators
-    → ((h : IsPGroup G) → IsStageAt G h 0 s) → s.kernel.width ≤ 256 → x.value ≡ s → old ≡ [] → items ≡ old ++ x ∷ [] → IsResolutionStore G generators (stage_values items)
-started {Z} G G' generators old items x s g A first narrow v o n =
+pub started : {Z : Type 0} (G : PGroup) (T : GroupTable) (generators : List ℕ) (old items : List (Rc StageValue Z)) (x : Rc StageValue Z) (s : StageValue) → T ≡ G.table → AreGenerators T generators
+    → IsStageAt G 0 s → s.kernel.width ≤ 256 → x.value ≡ s → old ≡ [] → items ≡ old ++ x ∷ [] → IsResolutionStore G generators (stage_values items)
+started {Z} G T generators old items x s g A first narrow v o n =
     subst (λ t. IsResolutionStore G generators t) (sym (ap (λ (t : List (Rc StageValue Z)). stage_values t) (n ∙ ap (λ (t : List (Rc StageValue Z)). t ++ x ∷ []) o)))
     (store-start G generators x.value (subst (λ H. AreGenerators H generators) g A)
-    (λ h. subst (λ t. IsStageAt G h 0 t) (sym v) (first h)) (subst (λ (t : StageValue). t.kernel.width ≤ 2 ^ 28) (sym v) (let z : s.kernel.width ≤ 268435456 = omega (arith, narrow) in z)))
+    (subst (λ t. IsStageAt G 0 t) (sym v) first) (subst (λ (t : StageValue). t.kernel.width ≤ 2 ^ 28) (sym v) (let z : s.kernel.width ≤ 268435456 = omega (arith, narrow) in z)))

@@ -1,8 +1,7 @@
 -- What a resolution keeps of its stages.
 use Rattle.std.specs.Prelude.{ℕ, ◌<◌, ◌≤◌, ◌^◌, List, length, map, slice_index_or}
 use Rattle.std.specs.declared.rc.Rc.{Rc}
-use Rattle.group_table.specs.Tables.{GroupTable}
-use Rattle.group_algebra.specs.PGroups.{IsPGroup}
+use Rattle.group_algebra.specs.PGroups.{PGroup}
 use Rattle.min_res.specs.Products.{AreGenerators}
 use Rattle.min_res.specs.Values.{StageValue}
 use Rattle.min_res.specs.Defined.{IsStageAt}
@@ -12,9 +11,9 @@ abbrev pub stage_values : {Z : Type 0} → List (Rc StageValue Z) → List Stage
 stage_values stages = map (λ s. s.value) stages
 
 -- generators of the group, and its stages from degree 0 on, of which there is one at least
-pub record IsResolutionStore (G : GroupTable) (generators : List ℕ) (stages : List StageValue) : Type 0 where
-  pub generate : AreGenerators G generators
+pub record IsResolutionStore (G : PGroup) (generators : List ℕ) (stages : List StageValue) : Type 0 where
+  pub generate : AreGenerators G.table generators
   pub some : 0 < length stages
   pub few : length stages ≤ 2 ^ 32
-  pub each : (h : IsPGroup G) (d : ℕ) (s : StageValue) → d < length stages → IsStageAt G h d (slice_index_or stages d s)
+  pub each : (d : ℕ) (s : StageValue) → d < length stages → IsStageAt G d (slice_index_or stages d s)
   pub small : (d : ℕ) (s : StageValue) → d < length stages → (slice_index_or stages d s).kernel.width ≤ 2 ^ 28

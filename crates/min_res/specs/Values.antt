@@ -1,7 +1,9 @@
 -- What contracts see of a stage and of a resolution.
-use Rattle.std.specs.Prelude.{ℕ, List, [], Option, unwrap_or}
-use Rattle.group_table.specs.Tables.{GroupTable}
+use Rattle.std.specs.Prelude.{ℕ, List, [], Option, unwrap_or, refl}
+use Rattle.std.specs.Coded.{Coded, code_by, coded×, coded_ℕ}
 use Rattle.fp_rows.specs.Values.{MatrixValue}
+use Rattle.group_algebra.specs.PGroups.{PGroup}
+use Rattle.group_algebra.specs.SameTables.{coded_p_group}
 
 -- a boundary map and its section
 pub record BoundaryValue : Type 0 where
@@ -31,5 +33,9 @@ boundary_of s = unwrap_or s.boundary (record { source = no_rows; positions = [];
 
 -- the stages 0 to last of a group: that of a degree is IsStageAt of specs/Defined, so these two say all
 pub record ResolutionValue : Type 0 where
-  pub group : GroupTable
+  pub group : PGroup
   pub last : ℕ
+
+-- how it is stored
+abbrev pub coded_resolution : Coded ResolutionValue
+coded_resolution = code_by (PGroup × ℕ) (coded× coded_p_group coded_ℕ) (λ r. (r.group, r.last)) (λ p. record { group = p.0; last = p.1 }) (λ _. refl)

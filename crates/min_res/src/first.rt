@@ -1,6 +1,5 @@
 //! The stage of degree 0: the group algebra, with the augmentation ideal as its kernel.
 
-ghost use Rattle.group_algebra.specs.PGroups.{IsPGroup};
 ghost use Rattle.group_table.specs.Prime.{prime_value};
 ghost use Rattle.linear_algebra.specs.Kernels.{unit_row};
 ghost use Rattle.linear_algebra.specs.Rows.{row};
@@ -34,7 +33,7 @@ fn later_units(alloc: Global, p: Prime, n: usize) -> Result<Matrix, Memory>
 
 /// The stage of degree 0. In layer coordinates the first place holds the sum of the coefficients.
 pub(crate) fn first_stage(alloc: Global, algebra: &Algebra) -> Result<Stage, Memory>
-    ensures stage { IfOk result (λ s. (h : IsPGroup algebra.now) → IsStageAt algebra.now h 0 s) }
+    ensures stage { IfOk result (λ s. IsStageAt algebra.now 0 s) }
     ensures small { IfOk result (λ s. s.kernel.width ≤ 256) }
 {
     let group = algebra.group();

@@ -2,7 +2,6 @@
 
 ghost use Rattle.fp_rows.specs.Refs.{entries_of, modulus_of};
 ghost use Rattle.group_algebra.specs.Coordinates.{layer_coordinates};
-ghost use Rattle.group_algebra.specs.PGroups.{IsPGroup};
 ghost use Rattle.group_table.specs.Tables.{order};
 ghost use Rattle.linear_algebra.specs.Rows.{IsRow};
 ghost use Rattle.min_res.specs.RowMaps.{IsBlock, linear_map, value_row};
@@ -17,13 +16,13 @@ use std::alloc::Global;
 // Writes block i of the row u of `rank` blocks.
 fn write_block(algebra: &Algebra, rank: usize, i: usize, u: RowRef<'_>, block: &mut Row)
     requires below { i < rank }
-    requires fits { order algebra.now * rank < 2 ^ 64 }
-    requires argument { length (entries_of u) ≡ order algebra.now * rank }
+    requires fits { order algebra.now.table * rank < 2 ^ 64 }
+    requires argument { length (entries_of u) ≡ order algebra.now.table * rank }
     requires argument_prime { modulus_of u ≡ block.old.p }
-    requires block_length { length block.old.entries ≡ order algebra.now }
+    requires block_length { length block.old.entries ≡ order algebra.now.table }
     ensures prime { block.new.p ≡ block.old.p }
     ensures length { length block.new.entries ≡ length block.old.entries }
-    ensures block { (h : IsPGroup algebra.now) → IsBlock algebra.now h rank i (entries_of u.entry) block.new.entries }
+    ensures block { IsBlock algebra.now rank i (entries_of u.entry) block.new.entries }
 {
     for k in 0..block.len() {
         block.set(k, u.get(algebra.place(rank, i, k)));
@@ -41,22 +40,21 @@ fn write_value(
     out: &mut Row,
 )
     requires inside { (i : ℕ) → i < length positions.now → slice_index positions.now i < length list.now.rows }
-    requires list_prime { list.now.p ≡ algebra.now.p }
-    requires list_width { list.now.width ≡ order algebra.now * target }
-    requires fits { order algebra.now * length positions.now < 2 ^ 64 }
-    requires argument { IsRow algebra.now.p (order algebra.now * length positions.now) (entries_of u) }
-    requires argument_prime { modulus_of u ≡ algebra.now.p }
-    requires block_prime { block.old.p ≡ algebra.now.p }
-    requires block_length { length block.old.entries ≡ order algebra.now }
-    requires out_prime { out.old.p ≡ algebra.now.p }
-    requires out_length { length out.old.entries ≡ order algebra.now * target }
+    requires list_prime { list.now.p ≡ algebra.now.table.p }
+    requires list_width { list.now.width ≡ order algebra.now.table * target }
+    requires fits { order algebra.now.table * length positions.now < 2 ^ 64 }
+    requires argument { IsRow algebra.now.table.p (order algebra.now.table * length positions.now) (entries_of u) }
+    requires argument_prime { modulus_of u ≡ algebra.now.table.p }
+    requires block_prime { block.old.p ≡ algebra.now.table.p }
+    requires block_length { length block.old.entries ≡ order algebra.now.table }
+    requires out_prime { out.old.p ≡ algebra.now.table.p }
+    requires out_length { length out.old.entries ≡ order algebra.now.table * target }
     ensures block_prime { block.new.p ≡ block.old.p }
     ensures block_length { length block.new.entries ≡ length block.old.entries }
     ensures out_prime { out.new.p ≡ out.old.p }
     ensures out_length { length out.new.entries ≡ length out.old.entries }
-    ensures value { (h : IsPGroup algebra.now) → out.new.entries ≡ value_row algebra.now h target list.now.rows positions.now (entries_of u.entry) }
+    ensures value { out.new.entries ≡ value_row algebra.now target list.now.rows positions.now (entries_of u.entry) }
 {
-    let _group = algebra.group();
     out.clear();
     for i in 0..positions.len() {
         write_block(algebra, positions.len(), i, u, block);
@@ -79,15 +77,14 @@ pub(crate) fn matrix_of(
     positions: &Positions,
 ) -> Result<Matrix, Memory>
     requires inside { (i : ℕ) → i < length positions.now → slice_index positions.now i < length list.now.rows }
-    requires list_prime { list.now.p ≡ algebra.now.p }
-    requires list_width { list.now.width ≡ order algebra.now * target }
-    requires fits { order algebra.now * length positions.now < 2 ^ 64 }
-    ensures prime { IfOk result (λ m. m.p ≡ algebra.now.p) }
+    requires list_prime { list.now.p ≡ algebra.now.table.p }
+    requires list_width { list.now.width ≡ order algebra.now.table * target }
+    requires fits { order algebra.now.table * length positions.now < 2 ^ 64 }
+    ensures prime { IfOk result (λ m. m.p ≡ algebra.now.table.p) }
     ensures width { IfOk result (λ m. m.width ≡ list.now.width) }
-    ensures count { IfOk result (λ m. length m.rows ≡ order algebra.now * length positions.now) }
-    ensures matrix { IfOk result (λ m. (h : IsPGroup algebra.now)
-        → IsMatrixOf (layer_coordinates algebra.now h (length positions.now)) (layer_coordinates algebra.now h target)
-        (linear_map algebra.now h target list.now.rows positions.now) m.rows) }
+    ensures count { IfOk result (λ m. length m.rows ≡ order algebra.now.table * length positions.now) }
+    ensures matrix { IfOk result (λ m. IsMatrixOf (layer_coordinates algebra.now (length positions.now)) (layer_coordinates algebra.now target)
+        (linear_map algebra.now target list.now.rows positions.now) m.rows) }
 {
     let prime = list.prime();
     let order = algebra.group().order() as usize;

@@ -1,7 +1,6 @@
 //! The rows of all (s - 1) v with s among generators of the group and v among the rows of a list.
 
 ghost use Rattle.fp_rows.specs.Refs.{entries_of, modulus_of};
-ghost use Rattle.group_algebra.specs.PGroups.{IsPGroup};
 ghost use Rattle.group_modules.specs.Field.{Below};
 ghost use Rattle.group_table.specs.Tables.{order};
 ghost use Rattle.linear_algebra.specs.Rows.{IsRow};
@@ -16,15 +15,15 @@ use std::alloc::Global;
 
 // Writes (s - 1) v.
 fn write_move(algebra: &Algebra, rank: usize, s: u16, v: RowRef<'_>, out: &mut Row)
-    requires element { s < order algebra.now }
-    requires row { IsRow algebra.now.p (order algebra.now * rank) (entries_of v) }
-    requires same_prime { modulus_of v ≡ algebra.now.p }
-    requires out_prime { out.old.p ≡ algebra.now.p }
-    requires out_length { length out.old.entries ≡ order algebra.now * rank }
+    requires element { s < order algebra.now.table }
+    requires row { IsRow algebra.now.table.p (order algebra.now.table * rank) (entries_of v) }
+    requires same_prime { modulus_of v ≡ algebra.now.table.p }
+    requires out_prime { out.old.p ≡ algebra.now.table.p }
+    requires out_length { length out.old.entries ≡ order algebra.now.table * rank }
     ensures prime { out.new.p ≡ out.old.p }
     ensures length { length out.new.entries ≡ length out.old.entries }
-    ensures moved { (h : IsPGroup algebra.now) (g : Below (order algebra.now)) → g.0 ≡ s
-        → out.new.entries ≡ move_of algebra.now h rank g (entries_of v.entry) }
+    ensures moved { (g : Below (order algebra.now.table)) → g.0 ≡ s
+        → out.new.entries ≡ move_of algebra.now rank g (entries_of v.entry) }
 {
     algebra.act(rank, s, v, out);
     let minus_one = algebra.group().prime().value() - 1;
@@ -40,15 +39,15 @@ fn push_moves(
     list: &Echelon,
     moves: &mut Matrix,
 ) -> Result<(), Memory>
-    requires element { s < order algebra.now }
-    requires list_prime { list.now.p ≡ algebra.now.p }
-    requires list_width { list.now.width ≡ order algebra.now * rank }
-    requires moves_prime { moves.old.p ≡ algebra.now.p }
+    requires element { s < order algebra.now.table }
+    requires list_prime { list.now.p ≡ algebra.now.table.p }
+    requires list_width { list.now.width ≡ order algebra.now.table * rank }
+    requires moves_prime { moves.old.p ≡ algebra.now.table.p }
     requires moves_width { moves.old.width ≡ list.now.width }
     ensures moves_prime { moves.new.p ≡ moves.old.p }
     ensures moves_width { moves.new.width ≡ moves.old.width }
-    ensures pushed { OnOk result ((h : IsPGroup algebra.now) (g : Below (order algebra.now)) → g.0 ≡ s
-        → moves.new.rows ≡ moves.old.rows ++ map (move_of algebra.now h rank g) list.now.rows) }
+    ensures pushed { OnOk result ((g : Below (order algebra.now.table)) → g.0 ≡ s
+        → moves.new.rows ≡ moves.old.rows ++ map (move_of algebra.now rank g) list.now.rows) }
 {
     let mut moved = Row::zero(alloc, list.prime(), list.width())?;
     for k in 0..list.rows() {
@@ -66,13 +65,13 @@ pub(crate) fn moves(
     elements: &[u16],
     list: &Echelon,
 ) -> Result<Matrix, Memory>
-    requires elements { All (λ s. s < order algebra.now) elements.now }
-    requires list_prime { list.now.p ≡ algebra.now.p }
-    requires list_width { list.now.width ≡ order algebra.now * rank }
-    ensures prime { IfOk result (λ moves. moves.p ≡ algebra.now.p) }
+    requires elements { All (λ s. s < order algebra.now.table) elements.now }
+    requires list_prime { list.now.p ≡ algebra.now.table.p }
+    requires list_width { list.now.width ≡ order algebra.now.table * rank }
+    ensures prime { IfOk result (λ moves. moves.p ≡ algebra.now.table.p) }
     ensures width { IfOk result (λ moves. moves.width ≡ list.now.width) }
-    ensures rows { IfOk result (λ moves. (h : IsPGroup algebra.now) (gs : List (Below (order algebra.now))) → numbers gs ≡ elements.now
-        → moves.rows ≡ moves_of algebra.now h rank gs list.now.rows) }
+    ensures rows { IfOk result (λ moves. (gs : List (Below (order algebra.now.table))) → numbers gs ≡ elements.now
+        → moves.rows ≡ moves_of algebra.now rank gs list.now.rows) }
 {
     let mut moves = Matrix::new(alloc, list.prime(), list.width());
     for s in elements {

@@ -1,6 +1,5 @@
 //! From the stage of degree d to that of degree d + 1.
 
-ghost use Rattle.group_algebra.specs.PGroups.{IsPGroup};
 ghost use Rattle.group_table.specs.Tables.{order};
 ghost use Rattle.min_res.specs.Defined.{IsStageAt};
 ghost use Rattle.min_res.specs.Products.{AreGenerators};
@@ -28,12 +27,12 @@ fn next_positions(
     rank: usize,
     list: &Echelon,
 ) -> Result<Positions, Memory>
-    requires generators { AreGenerators algebra.now generators.now }
-    requires list_prime { list.now.p ≡ algebra.now.p }
-    requires list_width { list.now.width ≡ order algebra.now * rank }
+    requires generators { AreGenerators algebra.now.table generators.now }
+    requires list_prime { list.now.p ≡ algebra.now.table.p }
+    requires list_width { list.now.width ≡ order algebra.now.table * rank }
     requires small { list.now.width ≤ 2 ^ 28 }
-    ensures { IfOk result (λ positions. (h : IsPGroup algebra.now) (d : ℕ) → rank ≡ rank_of algebra.now h d
-        → list.now.rows ≡ (stage_rows algebra.now h).kernel d → positions ≡ (stage_rows algebra.now h).positions d) }
+    ensures { IfOk result (λ positions. (d : ℕ) → rank ≡ rank_of algebra.now d
+        → list.now.rows ≡ (stage_rows algebra.now).kernel d → positions ≡ (stage_rows algebra.now).positions d) }
 {
     let moved = moves(alloc, algebra, rank, generators, list)?;
     let span = echelon(alloc, &moved)?;
@@ -49,14 +48,13 @@ fn stage_with(
     last: &Stage,
     positions: Positions,
 ) -> Result<Stage, Memory>
-    requires last { (h : IsPGroup algebra.now) → IsStageAt algebra.now h last.now.degree last.now }
-    requires positions { (h : IsPGroup algebra.now) → positions ≡ (stage_rows algebra.now h).positions last.now.degree }
+    requires last { IsStageAt algebra.now last.now.degree last.now }
+    requires positions { positions ≡ (stage_rows algebra.now).positions last.now.degree }
     requires degree { last.now.degree + 1 < 2 ^ 32 }
-    requires small { order algebra.now * length positions ≤ 2 ^ 28 }
-    ensures stage { IfOk result (λ s. (h : IsPGroup algebra.now) → IsStageAt algebra.now h (suc last.now.degree) s) }
-    ensures width { IfOk result (λ s. s.kernel.width ≡ order algebra.now * length positions) }
+    requires small { order algebra.now.table * length positions ≤ 2 ^ 28 }
+    ensures stage { IfOk result (λ s. IsStageAt algebra.now (suc last.now.degree) s) }
+    ensures width { IfOk result (λ s. s.kernel.width ≡ order algebra.now.table * length positions) }
 {
-    let _group = algebra.group();
     let source = last.list().clone()?;
     let matrix = matrix_of(alloc, algebra, last.rank(), &source, &positions)?;
     let list = kernel(alloc, &matrix)?;
@@ -84,14 +82,14 @@ pub(crate) fn next_stage(
     last: &Stage,
     limit: u64,
 ) -> Result<Stage, ResFault>
-    requires generators { AreGenerators algebra.now generators.now }
-    requires last { (h : IsPGroup algebra.now) → IsStageAt algebra.now h last.now.degree last.now }
+    requires generators { AreGenerators algebra.now.table generators.now }
+    requires last { IsStageAt algebra.now last.now.degree last.now }
     requires degree { last.now.degree + 1 < 2 ^ 32 }
     requires small { last.now.kernel.width ≤ 2 ^ 28 }
     requires limit { limit ≤ 2 ^ 28 }
-    ensures stage { IfOk result (λ s. (h : IsPGroup algebra.now) → IsStageAt algebra.now h (suc last.now.degree) s) }
+    ensures stage { IfOk result (λ s. IsStageAt algebra.now (suc last.now.degree) s) }
     ensures width { IfOk result (λ s. s.kernel.width ≤ limit) }
-    ensures refusal { IfErr result (λ e. (h : IsPGroup algebra.now) → IsRefusal algebra.now h (suc last.now.degree) limit e) }
+    ensures refusal { IfErr result (λ e. IsRefusal algebra.now (suc last.now.degree) limit e) }
 {
     let group = algebra.group();
     let positions = next_positions(alloc, algebra, generators, last.rank(), last.kernel())?;

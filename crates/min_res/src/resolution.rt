@@ -1,7 +1,6 @@
 //! A minimal resolution, a stage at a time.
 
 ghost use Rattle.fp_rows.specs.Refs.{entries_of, modulus_of};
-ghost use Rattle.group_algebra.specs.PGroups.{IsPGroup};
 ghost use Rattle.group_table.specs.Tables.{order};
 ghost use Rattle.min_res.specs.Defined.{InK, IsExactMinimal, IsSectionOf, IsStageAt, σ};
 ghost use Rattle.min_res.specs.Refusals.{IsRefusal};
@@ -34,10 +33,12 @@ pub struct Resolution {
 
 impl Model for Resolution {
     ghost use Rattle.std.specs.Prelude.{◌-◌, length};
-    ghost use Rattle.min_res.specs.Values.{ResolutionValue};
+    ghost use Rattle.min_res.specs.Values.{ResolutionValue, coded_resolution};
     ghost use Rattle.min_res.specs.Stores.{stage_values, IsResolutionStore};
 
     ghost Value = { ResolutionValue };
+
+    ghost coded = { coded_resolution };
 
     ghost view = { λ r. record { group = r.algebra; last = length r.stages.items - 1 } };
 
@@ -49,7 +50,7 @@ impl Resolution {
     pub fn start(alloc: Global, a: Algebra) -> Result<Resolution, Memory>
         ensures { IfOk result (λ r. r ≡ record { group = a; last = 0 }) }
     {
-        let generators = generators(alloc, a.group())?;
+        let generators = generators(alloc, a.group().as_group())?;
         let first = Rc::new(alloc, first_stage(alloc, &a)?)?;
         let mut stages = Vec::new(alloc);
         stages.push(first)?;
@@ -67,13 +68,13 @@ impl Resolution {
         requires few { self.old.last + 1 < 2 ^ 32 }
         requires limit { limit ≤ 2 ^ 28 }
         ensures grown { OnOk result (self.new ≡ record self.old { last = suc self.old.last }) }
-        ensures within { OnOk result ((h : IsPGroup self.old.group) → order self.old.group * rank_of self.old.group h (suc self.old.last) ≤ limit) }
-        ensures refused { IfErr result (λ e. (h : IsPGroup self.old.group) → IsRefusal self.old.group h (suc self.old.last) limit e) }
+        ensures within { OnOk result (order self.old.group.table * rank_of self.old.group (suc self.old.last) ≤ limit) }
+        ensures refused { IfErr result (λ e. IsRefusal self.old.group (suc self.old.last) limit e) }
         ensures kept { OnErr result (self.new ≡ self.old) }
 
         // What the new stage is, for a reader of this clause alone.
-        ensures exact_minimal { OnOk result ((h : IsPGroup self.old.group) → IsExactMinimal self.old.group h self.old.last) }
-        ensures section { OnOk result ((h : IsPGroup self.old.group) → IsSectionOf self.old.group h self.old.last) }
+        ensures exact_minimal { OnOk result (IsExactMinimal self.old.group self.old.last) }
+        ensures section { OnOk result (IsSectionOf self.old.group self.old.last) }
     {
         let stage = self.next(limit)?;
         let shared = Rc::new(self.alloc, stage)?;
@@ -85,11 +86,10 @@ impl Resolution {
     fn next(&self, limit: u64) -> Result<Stage, ResFault>
         requires few { self.now.last + 1 < 2 ^ 32 }
         requires limit { limit ≤ 2 ^ 28 }
-        ensures stage { IfOk result (λ s. (h : IsPGroup self.now.group) → IsStageAt self.now.group h (suc self.now.last) s) }
+        ensures stage { IfOk result (λ s. IsStageAt self.now.group (suc self.now.last) s) }
         ensures width { IfOk result (λ s. s.kernel.width ≤ limit) }
-        ensures refusal { IfErr result (λ e. (h : IsPGroup self.now.group) → IsRefusal self.now.group h (suc self.now.last) limit e) }
+        ensures refusal { IfErr result (λ e. IsRefusal self.now.group (suc self.now.last) limit e) }
     {
-        let _group = self.algebra.group();
         let last = self.at(self.stages.len() - 1);
         match next_stage(self.alloc, &self.algebra, &self.generators, last, limit) {
             Ok(stage) => Ok(stage),
@@ -100,7 +100,7 @@ impl Resolution {
     // The stage of degree d, which is at most `last`.
     fn at(&self, d: usize) -> &Rc<Stage>
         requires { d ≤ self.now.last }
-        ensures stage { (h : IsPGroup self.now.group) → IsStageAt self.now.group h d result.now.value }
+        ensures stage { IsStageAt self.now.group d result.now.value }
         ensures small { result.now.value.kernel.width ≤ 2 ^ 28 }
     {
         &self.stages[d]
@@ -123,7 +123,7 @@ impl Resolution {
     /// The stage of degree d, and `None` exactly where d is above `last`.
     pub fn stage(&self, d: u32) -> Option<&Rc<Stage>>
         ensures none { IsNone result ↔ (self.now.last < d) }
-        ensures stage { IfSome result (λ s. (h : IsPGroup self.now.group) → IsStageAt self.now.group h d s.now.value) }
+        ensures stage { IfSome result (λ s. IsStageAt self.now.group d s.now.value) }
     {
         if d <= self.last() {
             Some(self.at(d as usize))
@@ -136,14 +136,13 @@ impl Resolution {
     pub fn section(&self, d: u32, v: RowRef<'_>, out: &mut Row)
         requires from { 1 ≤ d }
         requires to { d ≤ self.now.last }
-        requires prime { modulus_of v ≡ self.now.group.p }
-        requires member { (h : IsPGroup self.now.group) → InK self.now.group h (d - 1) (entries_of v) }
-        requires out_prime { out.old.p ≡ self.now.group.p }
-        requires out_length { (h : IsPGroup self.now.group) → length out.old.entries ≡ order self.now.group * rank_of self.now.group h d }
+        requires prime { modulus_of v ≡ self.now.group.table.p }
+        requires member { InK self.now.group (d - 1) (entries_of v) }
+        requires out_prime { out.old.p ≡ self.now.group.table.p }
+        requires out_length { length out.old.entries ≡ order self.now.group.table * rank_of self.now.group d }
         ensures prime { out.new.p ≡ out.old.p }
-        ensures value { (h : IsPGroup self.now.group) → out.new.entries ≡ σ self.now.group h (d - 1) (entries_of v.entry) }
+        ensures value { out.new.entries ≡ σ self.now.group (d - 1) (entries_of v.entry) }
     {
-        let _group = self.algebra.group();
         let stage = self.at(d as usize);
         stage.section(v, out);
     }

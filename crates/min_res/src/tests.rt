@@ -1,4 +1,3 @@
-ghost use Rattle.group_algebra.specs.PGroups.{IsPGroup};
 ghost use Rattle.group_table.specs.Prime.{prime_value};
 ghost use Rattle.group_table.specs.Tables.{order};
 ghost use Rattle.min_res.specs.Defined.{InK};
@@ -245,10 +244,9 @@ fn row_of(rt: &impl Abort, alloc: Global, p: Prime, entries: &[u8]) -> Result<Ro
 
 // Whether a row is one of the kernel of degree d.
 fn is_in_kernel(resolution: &Resolution, d: u32, v: &Row) -> bool
-    requires { v.now.p ≡ resolution.now.group.p }
-    ensures { IsTrue result → (h : IsPGroup resolution.now.group) → InK resolution.now.group h d v.now.entries }
+    requires { v.now.p ≡ resolution.now.group.table.p }
+    ensures { IsTrue result → InK resolution.now.group d v.now.entries }
 {
-    let _group = resolution.algebra().group();
     let Some(stage) = resolution.stage(d) else {
         return false;
     };
@@ -260,9 +258,8 @@ fn is_in_kernel(resolution: &Resolution, d: u32, v: &Row) -> bool
 
 // The zero of the free module of degree d.
 fn zero_of(alloc: Global, resolution: &Resolution, d: u32) -> Result<Row, Fail>
-    ensures prime { IfOk result (λ r. r.p ≡ resolution.now.group.p) }
-    ensures width { IfOk result (λ r. (h : IsPGroup resolution.now.group)
-        → length r.entries ≡ order resolution.now.group * rank_of resolution.now.group h d) }
+    ensures prime { IfOk result (λ r. r.p ≡ resolution.now.group.table.p) }
+    ensures width { IfOk result (λ r. length r.entries ≡ order resolution.now.group.table * rank_of resolution.now.group d) }
 {
     let p = resolution.algebra().group().prime();
     let stage = resolution.stage(d).ok_or("no stage")?;

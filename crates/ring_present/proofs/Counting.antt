@@ -2,8 +2,7 @@
 use Rattle.std.proofs.Common.{◌≡◌, ℕ, suc, ◌-◌, ◌<◌, List, length, arith, sym}
 use Rattle.std.specs.Prelude.{min, All}
 use mathlib.Core.Path.{subst}
-use Rattle.group_table.specs.Tables.{GroupTable}
-use Rattle.group_algebra.specs.PGroups.{IsPGroup, largest_residue}
+use Rattle.group_algebra.specs.PGroups.{PGroup, largest_residue}
 use Rattle.graded_polynomials.specs.Monomials.{IsMonomials}
 use Rattle.graded_algebra.specs.Algebras.{degrees}
 use Rattle.graded_algebra.specs.Presentations.{IsSpanGenerators}
@@ -20,19 +19,19 @@ use Rattle.ring_present.proofs.Nexts.{monomials-of-gens}
 abbrev pub IsCount : Generators → ℕ → ℕ → Type 0
 IsCount gens d count = (ms : List (List ℕ)) → IsMonomials (greatest gens) gens.degrees d ms → count ≡ min (length ms) 18446744073709551615
 
-pub too-many : (G : GroupTable) (h : IsPGroup G) (n m d cap count : ℕ) (lifts : List LiftValue) (gens : Generators) → d ≡ suc n → IsSpanGenerators (largest_residue G) (cohomology G h) (dual_basis G h) n (classes G h lifts)
-    → All (IsLiftBelow G m) lifts → gens ≡ record { prime = G.p; degrees = degrees_of lifts } → IsCount gens d count → cap < count → IsTooMany G h (suc n) cap count
-too-many G h n m d cap count lifts gens ed S b e C l = record {
-  generators = classes G h lifts;
+pub too-many : (G : PGroup) (n m d cap count : ℕ) (lifts : List LiftValue) (gens : Generators) → d ≡ suc n → IsSpanGenerators (largest_residue G) (cohomology G) (dual_basis G) n (classes G lifts)
+    → All (IsLiftBelow G m) lifts → gens ≡ record { prime = G.table.p; degrees = degrees_of lifts } → IsCount gens d count → cap < count → IsTooMany G (suc n) cap count
+too-many G n m d cap count lifts gens ed S b e C l = record {
+  generators = classes G lifts;
   monomials = ms;
-  generators_are = subst (λ k. IsSpanGenerators (largest_residue G) (cohomology G h) (dual_basis G h) k (classes G h lifts)) (let z : n ≡ suc n - 1 = omega arith in z) S;
+  generators_are = subst (λ k. IsSpanGenerators (largest_residue G) (cohomology G) (dual_basis G) k (classes G lifts)) (let z : n ≡ suc n - 1 = omega arith in z) S;
   monomials_are = are;
-  count_is = C ms (subst (λ k. IsMonomials (greatest gens) gens.degrees k ms) (sym ed) (monomials-of-gens G h lifts gens (suc n) ms e are));
+  count_is = C ms (subst (λ k. IsMonomials (greatest gens) gens.degrees k ms) (sym ed) (monomials-of-gens G lifts gens (suc n) ms e are));
   above = l;
 }
   where
     ms : List (List ℕ)
-    ms = all_monomials (largest_residue G) (degrees (classes G h lifts)) (suc n)
+    ms = all_monomials (largest_residue G) (degrees (classes G lifts)) (suc n)
 
-    are : IsMonomials (largest_residue G) (degrees (classes G h lifts)) (suc n) ms
-    are = all-monomials (largest_residue G) (degrees (classes G h lifts)) (positive-degrees G h m lifts b) (suc n)
+    are : IsMonomials (largest_residue G) (degrees (classes G lifts)) (suc n) ms
+    are = all-monomials (largest_residue G) (degrees (classes G lifts)) (positive-degrees G m lifts b) (suc n)

@@ -5,8 +5,7 @@ use Rattle.std.specs.List.{AllByRecursion as Each}
 use Rattle.std.proofs.lemmas.Bool.{cases_lt}
 use Rattle.std.proofs.lemmas.List.{length-map}
 use mathlib.Core.Path.{fun_ext, subst}
-use Rattle.group_table.specs.Tables.{GroupTable}
-use Rattle.group_algebra.specs.PGroups.{IsPGroup, largest_residue}
+use Rattle.group_algebra.specs.PGroups.{PGroup, largest_residue}
 use Rattle.linear_algebra.specs.Rows.{row}
 use Rattle.linear_algebra.proofs.Spans.{row_push, row_before_push}
 use Rattle.graded_polynomials.specs.Monomials.{degree, IsMonomial, IsTrimmed}
@@ -32,23 +31,23 @@ pub degree-of-one : (ds : List ℕ) → degree ds [] ≡ 0
 degree-of-one [] = refl
 degree-of-one (d ∷ ds) = refl
 
-pub degrees-are : (G : GroupTable) (h : IsPGroup G) (lifts : List LiftValue) → degrees (classes G h lifts) ≡ degrees_of lifts
-degrees-are G h [] = refl
-degrees-are G h (l ∷ lifts) = ap (λ ds. l.degree ∷ ds) (degrees-are G h lifts)
+pub degrees-are : (G : PGroup) (lifts : List LiftValue) → degrees (classes G lifts) ≡ degrees_of lifts
+degrees-are G [] = refl
+degrees-are G (l ∷ lifts) = ap (λ ds. l.degree ∷ ds) (degrees-are G lifts)
 
-pub positive-degrees : (G : GroupTable) (h : IsPGroup G) (n : ℕ) (lifts : List LiftValue) → All (IsLiftBelow G n) lifts → Each (λ d. 0 < d) (degrees (classes G h lifts))
-positive-degrees G h n [] a = tt
-positive-degrees G h n (l ∷ lifts) a = ((let b : 1 ≤ l.degree = (a 0 l (omega arith)).from_one in omega (arith, b)), positive-degrees G h n lifts (λ k d b. a (suc k) d (omega (arith, b))))
+pub positive-degrees : (G : PGroup) (n : ℕ) (lifts : List LiftValue) → All (IsLiftBelow G n) lifts → Each (λ d. 0 < d) (degrees (classes G lifts))
+positive-degrees G n [] a = tt
+positive-degrees G n (l ∷ lifts) a = ((let b : 1 ≤ l.degree = (a 0 l (omega arith)).from_one in omega (arith, b)), positive-degrees G n lifts (λ k d b. a (suc k) d (omega (arith, b))))
 
 -- a monomial of positive degree is not 1, and its last factor is one of the generators
 pub not-one : (q d : ℕ) (ds m : List ℕ) → 0 < d → IsMonomial q ds d m → 0 < length m
 not-one q d ds [] p M = absurd (let e = degree-of-one ds in let f : degree ds [] ≡ d = M.degree_is in omega (arith, e, f, p))
 not-one q d ds (e ∷ m) p M = omega arith
 
-pub last-inside : (G : GroupTable) (h : IsPGroup G) (d : ℕ) (lifts : List LiftValue) (m : List ℕ) → IsMonomial (largest_residue G) (degrees (classes G h lifts)) d m → length m ≤ length lifts
-last-inside G h d lifts m M =
-    let a = within-length (degrees (classes G h lifts)) m M.within in
-    let b = ap (λ (ds : List ℕ). length ds) (degrees-are G h lifts) in
+pub last-inside : (G : PGroup) (d : ℕ) (lifts : List LiftValue) (m : List ℕ) → IsMonomial (largest_residue G) (degrees (classes G lifts)) d m → length m ≤ length lifts
+last-inside G d lifts m M =
+    let a = within-length (degrees (classes G lifts)) m M.within in
+    let b = ap (λ (ds : List ℕ). length ds) (degrees-are G lifts) in
     let c : length (degrees_of lifts) ≡ length lifts = length-map lifts (λ l. l.degree) in
     omega (arith, a, b, c)
 
@@ -59,46 +58,46 @@ one-vector q = fun_ext (λ i. go i)
     go zero = refl
     go (suc i) = ap (λ b. residue q (cond b 1 0)) (sym (eqb-false (suc i) 0 (λ e. absurd (omega (arith, e)))))
 
-module _ (G : GroupTable) (h : IsPGroup G) (lifts : List LiftValue) where
+module _ (G : PGroup) (lifts : List LiftValue) where
   abbrev q : ℕ
   q = largest_residue G
 
   abbrev gs : List (Generator (Vector (largest_residue G)))
-  gs = classes G h lifts
+  gs = classes G lifts
 
   -- the monomial 1
-  pub value-of-one : (n : ℕ) (m a : List ℕ) → All (IsLiftBelow G n) lifts → IsMonomial q (degrees gs) 0 m → a ≡ 1 ∷ [] → vector_of q a ≡ evaluate (cohomology G h) gs m
-  value-of-one n m a b M e = ap (vector_of q) e ∙ one-vector q ∙ sym (from-nil (cohomology G h) 0 (unit q 0) gs)
-      ∙ ap (evaluate (cohomology G h) gs) (sym (only-one q (degrees gs) m (positive-degrees G h n lifts b) M))
+  pub value-of-one : (n : ℕ) (m a : List ℕ) → All (IsLiftBelow G n) lifts → IsMonomial q (degrees gs) 0 m → a ≡ 1 ∷ [] → vector_of q a ≡ evaluate (cohomology G) gs m
+  value-of-one n m a b M e = ap (vector_of q) e ∙ one-vector q ∙ sym (from-nil (cohomology G) 0 (unit q 0) gs)
+      ∙ ap (evaluate (cohomology G) gs) (sym (only-one q (degrees gs) m (positive-degrees G n lifts b) M))
 
   -- a monomial of a list with values
-  pub value-of-listed : (d : ℕ) (m a : List ℕ) (v : Valued) → AreAll G h d lifts v → (i : ℕ) → i < length v.monomials → slice_index_or v.monomials i [] ≡ m → a ≡ row v.values.rows i
-      → vector_of q a ≡ evaluate (cohomology G h) gs m
-  value-of-listed d m a v A i l e ea = ap (vector_of q) ea ∙ A.values.each i l ∙ ap (evaluate (cohomology G h) gs) e
+  pub value-of-listed : (d : ℕ) (m a : List ℕ) (v : Valued) → AreAll G d lifts v → (i : ℕ) → i < length v.monomials → slice_index_or v.monomials i [] ≡ m → a ≡ row v.values.rows i
+      → vector_of q a ≡ evaluate (cohomology G) gs m
+  value-of-listed d m a v A i l e ea = ap (vector_of q) ea ∙ A.values.each i l ∙ ap (evaluate (cohomology G) gs) e
 
   module _ (d i : ℕ) (L : LiftValue) (m n : List ℕ) (M : IsMonomial q (degrees gs) d m) (t : IsTrimmed n) (F : IsLastFactor i n m) (eL : slice_index_or lifts i L ≡ L) where
     abbrev g : Generator (Vector (largest_residue G))
     g = record { degree = L.degree; class = vector_of q L.class }
 
-    generator-at : (xs : List LiftValue) (k : ℕ) → slice_index_or (classes G h xs) k g ≡ record { degree = (slice_index_or xs k L).degree; class = vector_of q (slice_index_or xs k L).class }
+    generator-at : (xs : List LiftValue) (k : ℕ) → slice_index_or (classes G xs) k g ≡ record { degree = (slice_index_or xs k L).degree; class = vector_of q (slice_index_or xs k L).class }
     generator-at [] k = refl
     generator-at (x ∷ xs) zero = refl
     generator-at (x ∷ xs) (suc k) = generator-at xs k
 
-    factor : (e : ℕ) × (e + L.degree ≡ d) × IsMonomial q (degrees gs) e n × (evaluate (cohomology G h) gs m ≡ multiply G h e L.degree (evaluate (cohomology G h) gs n) (vector_of q L.class))
-    factor = value-by-factor q d i (cohomology G h) gs g m n M t F
+    factor : (e : ℕ) × (e + L.degree ≡ d) × IsMonomial q (degrees gs) e n × (evaluate (cohomology G) gs m ≡ multiply G e L.degree (evaluate (cohomology G) gs n) (vector_of q L.class))
+    factor = value-by-factor q d i (cohomology G) gs g m n M t F
         (generator-at lifts i ∙ ap (λ (l : LiftValue). record { degree = l.degree; class = vector_of q l.class }) eL)
 
     pub quotient-monomial : (j : ℕ) → j ≡ d - L.degree → IsMonomial q (degrees gs) j n
     quotient-monomial j e = subst (λ k. IsMonomial q (degrees gs) k n) (let f : factor.0 + L.degree ≡ d = factor.1 in let z : factor.0 ≡ j = omega (arith, f, e) in z) factor.2
 
     -- the product of a row of the rest with the class of the last factor
-    pub value-of-product : (j : ℕ) (a out : List ℕ) → j ≡ d - L.degree → vector_of q a ≡ evaluate (cohomology G h) gs n → out ≡ product_row G h j L.degree a L.class
-        → vector_of q out ≡ evaluate (cohomology G h) gs m
+    pub value-of-product : (j : ℕ) (a out : List ℕ) → j ≡ d - L.degree → vector_of q a ≡ evaluate (cohomology G) gs n → out ≡ product_row G j L.degree a L.class
+        → vector_of q out ≡ evaluate (cohomology G) gs m
     value-of-product j a out e ea eo =
-        ap (vector_of q) eo ∙ product-vector G h j L.degree a L.class
-        ∙ ap (λ v. multiply G h j L.degree v (vector_of q L.class)) ea
-        ∙ ap (λ k. multiply G h k L.degree (evaluate (cohomology G h) gs n) (vector_of q L.class)) (let f : factor.0 + L.degree ≡ d = factor.1 in let z : j ≡ factor.0 = omega (arith, f, e) in z)
+        ap (vector_of q) eo ∙ product-vector G j L.degree a L.class
+        ∙ ap (λ v. multiply G j L.degree v (vector_of q L.class)) ea
+        ∙ ap (λ k. multiply G k L.degree (evaluate (cohomology G) gs n) (vector_of q L.class)) (let f : factor.0 + L.degree ≡ d = factor.1 in let z : j ≡ factor.0 = omega (arith, f, e) in z)
         ∙ sym factor.3
 
 -- one more row of values

@@ -3,14 +3,13 @@ use Rattle.std.proofs.Common.{◌≡◌, ℕ, suc, ◌+◌, ◌*◌, ◌<◌, �
 use Rattle.std.proofs.lemmas.Bool.{cases_lt}
 use Rattle.std.proofs.Math.Nat.{mod-eq_of_lt}
 use mathlib.Core.Path.{fun_ext}
-use Rattle.group_table.specs.Tables.{GroupTable}
 use Rattle.group_modules.specs.Module.{times}
 use Rattle.group_modules.specs.Field.{Below, Fp, plus, residue-self, times-residue}
 use Rattle.group_modules.specs.Field as field
 use Rattle.group_modules.specs.Sums.{total-only}
 use Rattle.group_modules.specs.Tables.{monoid, Table}
 use Rattle.group_modules.specs.Maps.{block-sum}
-use Rattle.group_algebra.specs.PGroups.{IsPGroup, largest_residue, group}
+use Rattle.group_algebra.specs.PGroups.{PGroup, largest_residue, group}
 use Rattle.group_algebra.specs.Coordinates.{layer_coordinates}
 use Rattle.group_algebra.specs.Coordinates as coordinates
 use Rattle.graded_algebra.specs.Vectors.{Vector, residue, unit}
@@ -21,40 +20,40 @@ use Rattle.chain_maps.proofs.ChainMaps.{pair-sums, sum-multiple}
 use Rattle.chain_maps.proofs.Vectors.{vector-claims, product-claims, length-entries, extended-at, extended-past}
 use Rattle.chain_lift.specs.Products.{multiply, product_row}
 
-module _ (G : GroupTable) (h : IsPGroup G) where
+module _ (G : PGroup) where
   abbrev q : ℕ
   q = largest_residue G
 
   -- the row of a product
-  pub product-vector : (d e : ℕ) (a c : List ℕ) → vector_of q (product_row G h d e a c) ≡ multiply G h d e (vector_of q a) (vector_of q c)
-  product-vector d e a c = (vector-claims q (rank_of G h (d + e))).of_vector (multiply G h d e (vector_of q a) (vector_of q c))
-      (product-claims q (group G h) (layer_coordinates G h) (stage_rows G h) d e (vector_of q a) (vector_of q c)).past
+  pub product-vector : (d e : ℕ) (a c : List ℕ) → vector_of q (product_row G d e a c) ≡ multiply G d e (vector_of q a) (vector_of q c)
+  product-vector d e a c = (vector-claims q (rank_of G (d + e))).of_vector (multiply G d e (vector_of q a) (vector_of q c))
+      (product-claims q (group G) (layer_coordinates G) (stage_rows G) d e (vector_of q a) (vector_of q c)).past
 
-  pub length-product : (d e : ℕ) (a c : List ℕ) → length (product_row G h d e a c) ≡ rank_of G h (d + e)
-  length-product d e a c = length-entries (rank_of G h (d + e)) (multiply G h d e (vector_of q a) (vector_of q c))
+  pub length-product : (d e : ℕ) (a c : List ℕ) → length (product_row G d e a c) ≡ rank_of G (d + e)
+  length-product d e a c = length-entries (rank_of G (d + e)) (multiply G d e (vector_of q a) (vector_of q c))
 
-  one-at : (e : ℕ) (w : Vector q) (i : Below (rank_of G h e)) → product q (group G h) (layer_coordinates G h) (stage_rows G h) e (λ k. w k.0) 0 (λ k. unit q 0 k.0) i ≡ w i.0
+  one-at : (e : ℕ) (w : Vector q) (i : Below (rank_of G e)) → product q (group G) (layer_coordinates G) (stage_rows G) e (λ k. w k.0) 0 (λ k. unit q 0 k.0) i ≡ w i.0
   one-at e w i =
-      pair-sums q (group G h) 1 (λ k. unit q 0 k.0) v
-      ∙ total-only (Fp q (monoid (group G h))) 1 f (field.residue 0 0) (λ y ne. absurd (ne (let l : y.0 < 1 = y.1 in omega (arith, l))))
-      ∙ ap (λ (b : Below (suc q)). times (plus q) (residue q 0) b.0 (residue q 1)) (sum-multiple q (group G h) (w i.0))
+      pair-sums q (group G) 1 (λ k. unit q 0 k.0) v
+      ∙ total-only (Fp q (monoid (group G))) 1 f (field.residue 0 0) (λ y ne. absurd (ne (let l : y.0 < 1 = y.1 in omega (arith, l))))
+      ∙ ap (λ (b : Below (suc q)). times (plus q) (residue q 0) b.0 (residue q 1)) (sum-multiple q (group G) (w i.0))
       ∙ times-residue q (w i.0).0 (residue q 1)
-      ∙ ap (residue q) (ap (λ x. (w i.0).0 * x) (mod-eq_of_lt (coordinates.field G h).above_one) ∙ omega arith)
+      ∙ ap (residue q) (ap (λ x. (w i.0).0 * x) (mod-eq_of_lt (coordinates.field G).above_one) ∙ omega arith)
       ∙ residue-self q (w i.0)
     where
-      v : (Table q (group G h) 1).of
-      v = lift q (group G h) (layer_coordinates G h) (stage_rows G h) e (λ k. w k.0) 0 i
+      v : (Table q (group G) 1).of
+      v = lift q (group G) (layer_coordinates G) (stage_rows G) e (λ k. w k.0) 0 i
 
       f : Below 1 → Below (suc q)
-      f k = times (plus q) (residue q 0) (block-sum q (group G h) 1 v k).0 (unit q 0 k.0)
+      f k = times (plus q) (residue q 0) (block-sum q (group G) 1 v k).0 (unit q 0 k.0)
 
   -- 1 times a class
-  pub one-times : (e : ℕ) (w : Vector q) → ((k : ℕ) → rank_of G h e ≤ k → w k ≡ residue q 0) → multiply G h 0 e (unit q 0) w ≡ w
-  one-times e w z = fun_ext (λ k. go k (cases_lt k (rank_of G h e)))
+  pub one-times : (e : ℕ) (w : Vector q) → ((k : ℕ) → rank_of G e ≤ k → w k ≡ residue q 0) → multiply G 0 e (unit q 0) w ≡ w
+  one-times e w z = fun_ext (λ k. go k (cases_lt k (rank_of G e)))
     where
-      u : Below (rank_of G h e) → Below (suc q)
-      u = product q (group G h) (layer_coordinates G h) (stage_rows G h) e (λ k. w k.0) 0 (λ k. unit q 0 k.0)
+      u : Below (rank_of G e) → Below (suc q)
+      u = product q (group G) (layer_coordinates G) (stage_rows G) e (λ k. w k.0) 0 (λ k. unit q 0 k.0)
 
-      go : (k : ℕ) → (k < rank_of G h e) ⊎ (rank_of G h e ≤ k) → multiply G h 0 e (unit q 0) w k ≡ w k
-      go k (inl l) = extended-at (rank_of G h e) u (k, l) ∙ one-at e w (k, l)
-      go k (inr l) = extended-past (rank_of G h e) u k l ∙ sym (z k l)
+      go : (k : ℕ) → (k < rank_of G e) ⊎ (rank_of G e ≤ k) → multiply G 0 e (unit q 0) w k ≡ w k
+      go k (inl l) = extended-at (rank_of G e) u (k, l) ∙ one-at e w (k, l)
+      go k (inr l) = extended-past (rank_of G e) u k l ∙ sym (z k l)

@@ -2,8 +2,7 @@
 use Rattle.std.proofs.Common.{◌≡◌, ℕ, zero, suc, ◌-◌, ◌<◌, ◌≤◌, List, [], ◌∷◌, length, map, arith, ap, sym, ◌∙◌, refl}
 use Rattle.std.specs.Prelude.{slice_index_or, Option, Some, None}
 use mathlib.Core.Path.{subst}
-use Rattle.group_table.specs.Tables.{GroupTable}
-use Rattle.group_algebra.specs.PGroups.{IsPGroup, largest_residue}
+use Rattle.group_algebra.specs.PGroups.{PGroup, largest_residue}
 use Rattle.group_algebra.specs.Coordinates.{field, residues}
 use Rattle.linear_algebra.specs.Rows.{entry, row, IsRow, IsCombination}
 use Rattle.graded_polynomials.specs.Monomials.{IsMonomials}
@@ -26,37 +25,37 @@ use Rattle.ring_present.specs.declared.degree.Degree.{Degree}
 use Rattle.ring_present.proofs.Factors.{all-at, degrees-are}
 use Rattle.ring_present.proofs.StandardMonomials.{standard-left, values-left}
 
-pub ring-at : (group : Option GroupTable) (gens : Generators) (lifts : List LiftValue) (rs : List Polynomial) (Ds : List Degree) (G : GroupTable) → IsRingStore group gens lifts rs Ds
+pub ring-at : (group : Option PGroup) (gens : Generators) (lifts : List LiftValue) (rs : List Polynomial) (Ds : List Degree) (G : PGroup) → IsRingStore group gens lifts rs Ds
     → group ≡ Some G → IsRingOf G gens lifts rs Ds
 ring-at None gens lifts rs Ds G S e = absurd cc
 ring-at (Some K) gens lifts rs Ds G S e = let k : K ≡ G = cc in subst (λ g. IsRingOf g gens lifts rs Ds) k S.through
 
 -- from the first degree on the group is known
-pub some-group : (group : Option GroupTable) (gens : Generators) (lifts : List LiftValue) (rs : List Polynomial) (Ds : List Degree) → IsRingStore group gens lifts rs Ds
-    → 0 < length Ds → (G : GroupTable) × (group ≡ Some G)
+pub some-group : (group : Option PGroup) (gens : Generators) (lifts : List LiftValue) (rs : List Polynomial) (Ds : List Degree) → IsRingStore group gens lifts rs Ds
+    → 0 < length Ds → (G : PGroup) × (group ≡ Some G)
 some-group None gens lifts rs Ds S l = absurd (let e = ap (λ (x : List Degree). length x) S.through.no_degrees in omega (arith, e, l))
 some-group (Some G) gens lifts rs Ds S l = (G, refl)
 
 -- the lifts are over the prime of the generators
-pub lift-prime : (group : Option GroupTable) (gens : Generators) (lifts : List LiftValue) (rs : List Polynomial) (Ds : List Degree) → IsRingStore group gens lifts rs Ds
-    → (i : ℕ) (L : LiftValue) → i < length lifts → L ≡ slice_index_or lifts i L → L.group.p ≡ gens.prime
+pub lift-prime : (group : Option PGroup) (gens : Generators) (lifts : List LiftValue) (rs : List Polynomial) (Ds : List Degree) → IsRingStore group gens lifts rs Ds
+    → (i : ℕ) (L : LiftValue) → i < length lifts → L ≡ slice_index_or lifts i L → L.group.table.p ≡ gens.prime
 lift-prime None gens lifts rs Ds S i L l e = absurd (let n = ap (λ (x : List LiftValue). length x) S.through.no_generators in omega (arith, n, l))
 lift-prime (Some G) gens lifts rs Ds S i L l e =
-    ap (λ (g : GroupTable). g.p) (all-at (IsLiftBelow G (length Ds)) lifts i L S.through.lower.lifts_are l e).group_is ∙ sym S.through.prime
+    ap (λ (g : PGroup). g.table.p) (all-at (IsLiftBelow G (length Ds)) lifts i L S.through.lower.lifts_are l e).group_is ∙ sym S.through.prime
 
 pub degrees-lifted : (lifts : List LiftValue) → degrees_of lifts ≡ map (λ g. g.degree) (lifted lifts)
 degrees-lifted [] = refl
 degrees-lifted (l ∷ lifts) = ap (λ ds. l.degree ∷ ds) (degrees-lifted lifts)
 
 -- R is seen of a ring that keeps these
-pub record IsSeen (R : RingValue) (group : Option GroupTable) (gens : Generators) (lifts : List LiftValue) (rs : List Polynomial) (Ds : List Degree) : Type 0 where
+pub record IsSeen (R : RingValue) (group : Option PGroup) (gens : Generators) (lifts : List LiftValue) (rs : List Polynomial) (Ds : List Degree) : Type 0 where
   pub prime_is : R.prime ≡ gens.prime
   pub group_is : R.group ≡ group
   pub degree_is : R.degree ≡ length Ds
   pub generators_are : R.generators ≡ lifted lifts
   pub standard_are : R.standard ≡ map (λ d. d.standard.monomials) Ds
 
-pub seen-of : (R : RingValue) (group : Option GroupTable) (gens : Generators) (lifts : List LiftValue) (rs : List Polynomial) (Ds : List Degree)
+pub seen-of : (R : RingValue) (group : Option PGroup) (gens : Generators) (lifts : List LiftValue) (rs : List Polynomial) (Ds : List Degree)
     → record { prime = gens.prime; group = group; degree = length Ds; generators = lifted lifts; relations = rs; standard = map (λ d. d.standard.monomials) Ds } ≡ R → IsSeen R group gens lifts rs Ds
 seen-of R group gens lifts rs Ds e = record {
   prime_is = ap (λ (x : RingValue). x.prime) (sym e);
@@ -71,7 +70,7 @@ standard-mapped [] e D l = absurd (omega (arith, l))
 standard-mapped (E ∷ Ds) zero D l = refl
 standard-mapped (E ∷ Ds) (suc e) D l = standard-mapped Ds e D (omega (arith, l))
 
-module _ (R : RingValue) (group : Option GroupTable) (gens : Generators) (lifts : List LiftValue) (rs : List Polynomial) (Ds : List Degree)
+module _ (R : RingValue) (group : Option PGroup) (gens : Generators) (lifts : List LiftValue) (rs : List Polynomial) (Ds : List Degree)
     (seen : IsSeen R group gens lifts rs Ds) (S : IsRingStore group gens lifts rs Ds) (d : ℕ) (at : Degree) (here : at ≡ slice_index_or Ds (d - 1) at) (low : 1 ≤ d) (high : d ≤ R.degree) where
   step : d ≡ suc (d - 1)
   step = omega (arith, low)
@@ -83,53 +82,53 @@ module _ (R : RingValue) (group : Option GroupTable) (gens : Generators) (lifts 
   standard-is = ap (λ (E : Degree). E.standard.monomials) here
       ∙ sym (ap (standard_of R) step ∙ ap (λ xs. slice_index_or xs (d - 1) []) seen.standard_are ∙ standard-mapped Ds (d - 1) at inside)
 
-  module _ (G : GroupTable) (h : IsPGroup G) (known : R.group ≡ Some G) where
+  module _ (G : PGroup) (known : R.group ≡ Some G) where
     ring : IsRingOf G gens lifts rs Ds
     ring = ring-at group gens lifts rs Ds G S (sym seen.group_is ∙ known)
 
-    degree : IsDegree G h (suc (d - 1)) lifts at
-    degree = subst (IsDegree G h (suc (d - 1)) lifts) (sym here) ((ring.lower.degrees_are h).each (d - 1) at inside)
+    degree : IsDegree G (suc (d - 1)) lifts at
+    degree = subst (IsDegree G (suc (d - 1)) lifts) (sym here) (ring.lower.degrees_are.each (d - 1) at inside)
 
     abbrev q : ℕ
     q = largest_residue G
 
-    classes-are : classes G h lifts ≡ generators_of q R.generators
+    classes-are : classes G lifts ≡ generators_of q R.generators
     classes-are = ap (generators_of q) (sym seen.generators_are)
 
-    pub standard-seen : AreStandard q (cohomology G h) (generators_of q R.generators) d at.standard.monomials
+    pub standard-seen : AreStandard q (cohomology G) (generators_of q R.generators) d at.standard.monomials
     standard-seen =
-        subst (λ ms. AreStandard q (cohomology G h) (generators_of q R.generators) d ms) (sym degree.standard)
-        (subst (λ k. AreStandard q (cohomology G h) (generators_of q R.generators) k (without_pivots degree.kernel 0 at.all.monomials)) (sym step)
-        (subst (λ gs. AreStandard q (cohomology G h) gs (suc (d - 1)) (without_pivots degree.kernel 0 at.all.monomials)) classes-are
-        (standard-left q (suc (d - 1)) (multiply G h) (classes G h lifts) at.all.monomials at.all.values.rows degree.kernel (field G h).above_one degree.all.monomials degree.all.values degree.kernel_is)))
+        subst (λ ms. AreStandard q (cohomology G) (generators_of q R.generators) d ms) (sym degree.standard)
+        (subst (λ k. AreStandard q (cohomology G) (generators_of q R.generators) k (without_pivots degree.kernel 0 at.all.monomials)) (sym step)
+        (subst (λ gs. AreStandard q (cohomology G) gs (suc (d - 1)) (without_pivots degree.kernel 0 at.all.monomials)) classes-are
+        (standard-left q (suc (d - 1)) (multiply G) (classes G lifts) at.all.monomials at.all.values.rows degree.kernel (field G).above_one degree.all.monomials degree.all.values degree.kernel_is)))
 
-    values : AreValues q (cohomology G h) (generators_of q R.generators) at.standard.monomials at.standard.values.rows
+    values : AreValues q (cohomology G) (generators_of q R.generators) at.standard.monomials at.standard.values.rows
     values =
-        subst (λ ms. AreValues q (cohomology G h) (generators_of q R.generators) ms at.standard.values.rows) (sym degree.standard)
-        (subst (λ vs. AreValues q (cohomology G h) (generators_of q R.generators) (without_pivots degree.kernel 0 at.all.monomials) vs) (sym degree.standard_values)
-        (subst (λ gs. AreValues q (cohomology G h) gs (without_pivots degree.kernel 0 at.all.monomials) (without_pivots degree.kernel 0 at.all.values.rows)) classes-are
-        (values-left q (multiply G h) (classes G h lifts) at.all.monomials at.all.values.rows degree.kernel degree.all.values)))
+        subst (λ ms. AreValues q (cohomology G) (generators_of q R.generators) ms at.standard.values.rows) (sym degree.standard)
+        (subst (λ vs. AreValues q (cohomology G) (generators_of q R.generators) (without_pivots degree.kernel 0 at.all.monomials) vs) (sym degree.standard_values)
+        (subst (λ gs. AreValues q (cohomology G) gs (without_pivots degree.kernel 0 at.all.monomials) (without_pivots degree.kernel 0 at.all.values.rows)) classes-are
+        (values-left q (multiply G) (classes G lifts) at.all.monomials at.all.values.rows degree.kernel degree.all.values)))
 
     pub count-seen : length at.standard.values.rows ≡ length (standard_of R d)
     count-seen = values.count ∙ ap (λ (x : List (List ℕ)). length x) standard-is
 
-    pub width-seen : at.standard.values.width ≡ rank_of G h d
-    width-seen = degree.standard_width ∙ ap (rank_of G h) (sym step)
+    pub width-seen : at.standard.values.width ≡ rank_of G d
+    width-seen = degree.standard_width ∙ ap (rank_of G) (sym step)
 
     pub modulus-seen : at.standard.values.p ≡ R.prime
-    modulus-seen = degree.standard_prime ∙ residues G h ∙ sym (seen.prime_is ∙ ring.prime)
+    modulus-seen = degree.standard_prime ∙ residues G ∙ sym (seen.prime_is ∙ ring.prime)
 
     pub value-seen : (i : ℕ) (r : List ℕ) → i < length (standard_of R d) → r ≡ row at.standard.values.rows i
-        → vector_of q r ≡ evaluate (cohomology G h) (generators_of q R.generators) (slice_index_or (standard_of R d) i [])
+        → vector_of q r ≡ evaluate (cohomology G) (generators_of q R.generators) (slice_index_or (standard_of R d) i [])
     value-seen i r l e = ap (vector_of q) e ∙ values.each i (let c = count-seen in let v = values.count in omega (arith, l, c, v))
-        ∙ ap (λ ms. evaluate (cohomology G h) (generators_of q R.generators) (slice_index_or ms i [])) standard-is
+        ∙ ap (λ ms. evaluate (cohomology G) (generators_of q R.generators) (slice_index_or ms i [])) standard-is
 
     -- normal forms
     pub prime-seen : at.preimages.p ≡ R.prime
-    prime-seen = degree.preimages_prime ∙ residues G h ∙ sym (seen.prime_is ∙ ring.prime)
+    prime-seen = degree.preimages_prime ∙ residues G ∙ sym (seen.prime_is ∙ ring.prime)
 
-    pub targets-seen : length at.preimages.rows ≡ rank_of G h d
-    targets-seen = degree.preimages.count ∙ degree.basis_is.count ∙ ap (rank_of G h) (sym step)
+    pub targets-seen : length at.preimages.rows ≡ rank_of G d
+    targets-seen = degree.preimages.count ∙ degree.basis_is.count ∙ ap (rank_of G) (sym step)
 
     pub width-of-forms : at.preimages.width ≡ length at.all.monomials
     width-of-forms = degree.preimages_width
@@ -137,17 +136,17 @@ module _ (R : RingValue) (group : Option GroupTable) (gens : Generators) (lifts 
     pub monomials-seen : IsMonomials (greatest gens) gens.degrees d at.all.monomials
     monomials-seen =
         subst (λ m. IsMonomials m gens.degrees d at.all.monomials) (sym (ap (λ p. p - 1) ring.prime))
-        (subst (λ ds. IsMonomials q ds d at.all.monomials) (degrees-are G h lifts ∙ sym S.degrees_of_gens)
-        (subst (λ k. IsMonomials q (degrees (classes G h lifts)) k at.all.monomials) (sym step) degree.all.monomials))
+        (subst (λ ds. IsMonomials q ds d at.all.monomials) (degrees-are G lifts ∙ sym S.degrees_of_gens)
+        (subst (λ k. IsMonomials q (degrees (classes G lifts)) k at.all.monomials) (sym step) degree.all.monomials))
 
-    pub form-seen : (w u : List ℕ) → IsRow at.preimages.p (rank_of G h d) w → IsRow at.preimages.p at.preimages.width u
+    pub form-seen : (w u : List ℕ) → IsRow at.preimages.p (rank_of G d) w → IsRow at.preimages.p at.preimages.width u
         → IsCombination at.preimages.p (entry w) at.preimages.rows (entry u)
-        → IsNormalForm q (cohomology G h) (generators_of q R.generators) d (vector_of q w) (polynomial_of at.all.monomials u)
+        → IsNormalForm q (cohomology G) (generators_of q R.generators) d (vector_of q w) (polynomial_of at.all.monomials u)
     form-seen w u W U C =
-        subst (λ k. IsNormalForm q (cohomology G h) (generators_of q R.generators) k (vector_of q w) (polynomial_of at.all.monomials u)) (sym step)
-        (subst (λ gs. IsNormalForm q (cohomology G h) gs (suc (d - 1)) (vector_of q w) (polynomial_of at.all.monomials u)) classes-are
-        (normal-form-of q (suc (d - 1)) (multiply G h) (classes G h lifts) at.all.monomials at.all.values.rows degree.kernel (field G h).above_one degree.all.monomials degree.all.values degree.kernel_is w u
-        (preimage-of-combination (field G h).above_one degree.basis_is degree.preimages degree.kernel_is w u
-        (subst (λ n. IsRow (suc q) n w) (ap (rank_of G h) step) (subst (λ p. IsRow p (rank_of G h d) w) degree.preimages_prime W))
+        subst (λ k. IsNormalForm q (cohomology G) (generators_of q R.generators) k (vector_of q w) (polynomial_of at.all.monomials u)) (sym step)
+        (subst (λ gs. IsNormalForm q (cohomology G) gs (suc (d - 1)) (vector_of q w) (polynomial_of at.all.monomials u)) classes-are
+        (normal-form-of q (suc (d - 1)) (multiply G) (classes G lifts) at.all.monomials at.all.values.rows degree.kernel (field G).above_one degree.all.monomials degree.all.values degree.kernel_is w u
+        (preimage-of-combination (field G).above_one degree.basis_is degree.preimages degree.kernel_is w u
+        (subst (λ n. IsRow (suc q) n w) (ap (rank_of G) step) (subst (λ p. IsRow p (rank_of G d) w) degree.preimages_prime W))
         (subst (λ n. IsRow (suc q) n u) (degree.preimages_width ∙ sym degree.all.values.count) (subst (λ p. IsRow p at.preimages.width u) degree.preimages_prime U))
         (subst (λ p. IsCombination p (entry w) at.preimages.rows (entry u)) degree.preimages_prime C))))

@@ -5,8 +5,7 @@ use Rattle.std.proofs.lemmas.Bool.{cases_lt}
 use Rattle.std.proofs.lemmas.List.{get_or_append_left, get_or_push, length_push}
 use Rattle.std.proofs.lemmas.List.Elements.{All-append, All-weaker}
 use mathlib.Core.Path.{subst}
-use Rattle.group_table.specs.Tables.{GroupTable}
-use Rattle.group_algebra.specs.PGroups.{IsPGroup, largest_residue}
+use Rattle.group_algebra.specs.PGroups.{PGroup, largest_residue}
 use Rattle.graded_polynomials.specs.Monomials.{IsMonomials}
 use Rattle.graded_polynomials.specs.Polynomials.{Polynomial}
 use Rattle.graded_algebra.specs.Algebras.{degrees}
@@ -40,20 +39,20 @@ degrees-kept (x ∷ xs) (y ∷ ys) e =
     let t : map kept xs ≡ map kept ys = cc in let k : kept x ≡ kept y = cc in
     ap (λ (l : LiftValue). l.degree ∷ degrees_of xs) k ∙ ap (λ ds. y.degree ∷ ds) (degrees-kept xs ys t)
 
-pub classes-kept : (G : GroupTable) (h : IsPGroup G) (xs ys : List LiftValue) → map kept xs ≡ map kept ys → classes G h xs ≡ classes G h ys
-classes-kept G h xs ys e = ap (map (λ g. record { degree = g.degree; class = vector_of (largest_residue G) g.class })) (lifted-kept xs ys e)
+pub classes-kept : (G : PGroup) (xs ys : List LiftValue) → map kept xs ≡ map kept ys → classes G xs ≡ classes G ys
+classes-kept G xs ys e = ap (map (λ g. record { degree = g.degree; class = vector_of (largest_residue G) g.class })) (lifted-kept xs ys e)
 
-all-kept : (G : GroupTable) (h : IsPGroup G) (d : ℕ) (xs ys : List LiftValue) (v : Valued) → classes G h ys ≡ classes G h xs → AreAll G h d ys v → AreAll G h d xs v
-all-kept G h d xs ys v e A = record {
+all-kept : (G : PGroup) (d : ℕ) (xs ys : List LiftValue) (v : Valued) → classes G ys ≡ classes G xs → AreAll G d ys v → AreAll G d xs v
+all-kept G d xs ys v e A = record {
   prime = A.prime;
   width = A.width;
   monomials = subst (λ gs. IsMonomials (largest_residue G) (degrees gs) d v.monomials) e A.monomials;
-  values = subst (λ gs. AreValues (largest_residue G) (cohomology G h) gs v.monomials v.values.rows) e A.values;
+  values = subst (λ gs. AreValues (largest_residue G) (cohomology G) gs v.monomials v.values.rows) e A.values;
 }
 
-degree-kept : (G : GroupTable) (h : IsPGroup G) (d : ℕ) (xs ys : List LiftValue) (D : Degree) → classes G h ys ≡ classes G h xs → IsDegree G h d ys D → IsDegree G h d xs D
-degree-kept G h d xs ys D e I = record {
-  all = all-kept G h d xs ys D.all e I.all;
+degree-kept : (G : PGroup) (d : ℕ) (xs ys : List LiftValue) (D : Degree) → classes G ys ≡ classes G xs → IsDegree G d ys D → IsDegree G d xs D
+degree-kept G d xs ys D e I = record {
+  all = all-kept G d xs ys D.all e I.all;
   kernel = I.kernel;
   kernel_is = I.kernel_is;
   standard = I.standard;
@@ -67,29 +66,28 @@ degree-kept G h d xs ys D e I = record {
   preimages = I.preimages;
 }
 
-below-kept : (G : GroupTable) (n : ℕ) (x y : LiftValue) → kept x ≡ kept y → IsLiftBelow G n y → IsLiftBelow G n x
+below-kept : (G : PGroup) (n : ℕ) (x y : LiftValue) → kept x ≡ kept y → IsLiftBelow G n y → IsLiftBelow G n x
 below-kept G n x y e b = record {
   group_is = ap (λ (l : LiftValue). l.group) e ∙ b.group_is;
   from_one = (let d = ap (λ (l : LiftValue). l.degree) e in let z = b.from_one in omega (arith, d, z));
   to_n = (let d = ap (λ (l : LiftValue). l.degree) e in let z = b.to_n in omega (arith, d, z));
 }
 
-pub lower-kept : (G : GroupTable) (xs ys : List LiftValue) (Ds : List Degree) → map kept xs ≡ map kept ys → IsLower G ys Ds → IsLower G xs Ds
+pub lower-kept : (G : PGroup) (xs ys : List LiftValue) (Ds : List Degree) → map kept xs ≡ map kept ys → IsLower G ys Ds → IsLower G xs Ds
 lower-kept G xs ys Ds e L = record {
-  law = L.law;
   lifts_are = λ k d l. below-kept G (length Ds) (slice_index_or xs k d) (slice_index_or ys k d) (kept-at xs ys e k d d l)
       (L.lifts_are k d (let n = length-kept xs ys e in omega (arith, n, l)));
-  degrees_are = λ h. record {
-    count = (L.degrees_are h).count;
-    each = λ j D l. degree-kept G h (suc j) xs ys (slice_index_or Ds j D) (sym (classes-kept G h xs ys e)) ((L.degrees_are h).each j D l);
+  degrees_are = record {
+    count = L.degrees_are.count;
+    each = λ j D l. degree-kept G (suc j) xs ys (slice_index_or Ds j D) (sym (classes-kept G xs ys e)) (L.degrees_are.each j D l);
   };
 }
 
-ring-kept : (G : GroupTable) (gens : Generators) (xs ys : List LiftValue) (rs : List Polynomial) (Ds : List Degree) → map kept xs ≡ map kept ys → IsRingOf G gens ys rs Ds → IsRingOf G gens xs rs Ds
+ring-kept : (G : PGroup) (gens : Generators) (xs ys : List LiftValue) (rs : List Polynomial) (Ds : List Degree) → map kept xs ≡ map kept ys → IsRingOf G gens ys rs Ds → IsRingOf G gens xs rs Ds
 ring-kept G gens xs ys rs Ds e R = record {
   high = R.high;
   prime = R.prime;
-  presentation = λ h. subst (λ gs. IsPresentation G h (length Ds) gs rs) (sym (classes-kept G h xs ys e)) (R.presentation h);
+  presentation = subst (λ gs. IsPresentation G (length Ds) gs rs) (sym (classes-kept G xs ys e)) R.presentation;
   lower = lower-kept G xs ys Ds e R.lower;
 }
 
@@ -97,7 +95,7 @@ empty-kept : (xs ys : List LiftValue) → map kept xs ≡ map kept ys → ys ≡
 empty-kept [] ys e z = refl
 empty-kept (x ∷ xs) ys e z = absurd (let n = length-kept (x ∷ xs) ys e in let m = ap (λ (l : List LiftValue). length l) z in omega (arith, n, m))
 
-pub store-kept : (group : Option GroupTable) (gens : Generators) (xs ys : List LiftValue) (rs : List Polynomial) (Ds : List Degree) → map kept xs ≡ map kept ys
+pub store-kept : (group : Option PGroup) (gens : Generators) (xs ys : List LiftValue) (rs : List Polynomial) (Ds : List Degree) → map kept xs ≡ map kept ys
     → IsRingStore group gens ys rs Ds → IsRingStore group gens xs rs Ds
 store-kept None gens xs ys rs Ds e S = record {
   degrees_of_gens = S.degrees_of_gens ∙ sym (degrees-kept xs ys e);
@@ -109,27 +107,26 @@ store-kept (Some G) gens xs ys rs Ds e S = record {
 }
 
 -- what a ring of H, or one through degree 0, has of H
-pub record IsBefore (H : GroupTable) (lifts : List LiftValue) (rs : List Polynomial) (Ds : List Degree) : Type 0 where
+pub record IsBefore (H : PGroup) (lifts : List LiftValue) (rs : List Polynomial) (Ds : List Degree) : Type 0 where
   pub lower : IsLower H lifts Ds
-  pub presentation : (h : IsPGroup H) → IsPresentation H h (length Ds) (classes H h lifts) rs
+  pub presentation : IsPresentation H (length Ds) (classes H lifts) rs
 
-pub before-of : (group : Option GroupTable) (gens : Generators) (lifts : List LiftValue) (rs : List Polynomial) (Ds : List Degree) (H : GroupTable) → IsPGroup H
+pub before-of : (group : Option PGroup) (gens : Generators) (lifts : List LiftValue) (rs : List Polynomial) (Ds : List Degree) (H : PGroup)
     → IfSome group (λ G. G ≡ H) → IsRingStore group gens lifts rs Ds → IsBefore H lifts rs Ds
-before-of None gens lifts rs Ds H h s S =
+before-of None gens lifts rs Ds H s S =
     subst (λ ls. IsBefore H ls rs Ds) (sym S.through.no_generators)
     (subst (λ rs. IsBefore H [] rs Ds) (sym S.through.no_relations)
     (subst (λ Ds. IsBefore H [] [] Ds) (sym S.through.no_degrees) (record {
       lower = record {
-        law = h;
         lifts_are = λ k d l. absurd (omega (arith, l));
-        degrees_are = λ k. record { count = refl; each = λ j D l. absurd (omega (arith, l)) };
+        degrees_are = record { count = refl; each = λ j D l. absurd (omega (arith, l)) };
       };
-      presentation = λ k. record { generators_are = refl; relations_are = refl };
+      presentation = record { generators_are = refl; relations_are = refl };
     })))
-before-of (Some G) gens lifts rs Ds H h s S = subst (λ K. IsBefore K lifts rs Ds) s (record { lower = S.through.lower; presentation = S.through.presentation })
+before-of (Some G) gens lifts rs Ds H s S = subst (λ K. IsBefore K lifts rs Ds) s (record { lower = S.through.lower; presentation = S.through.presentation })
 
 -- the ring with the next degree
-pub ring-next : (G : GroupTable) (gens : Generators) (lifts all : List LiftValue) (rs total : List Polynomial) (Ds grown : List Degree) (x : Next) → IsBefore G lifts rs Ds → length Ds < 24
+pub ring-next : (G : PGroup) (gens : Generators) (lifts all : List LiftValue) (rs total : List Polynomial) (Ds grown : List Degree) (x : Next) → IsBefore G lifts rs Ds → length Ds < 24
     → IsNext G lifts rs (length Ds) x → gens ≡ x.gens → all ≡ lifts ++ x.lifts.items → total ≡ rs ++ x.relations.items → grown ≡ Ds ++ x.degree ∷ [] → IsRingOf G gens all total grown
 ring-next G gens lifts all rs total Ds grown x B s N eg el er ed =
     subst (λ gs. IsRingOf G gs all total grown) (sym eg)
@@ -146,34 +143,33 @@ ring-next G gens lifts all rs total Ds grown x B s N eg el er ed =
     new-lift : (l : LiftValue) → IsLiftOf G (suc (length Ds)) l → IsLiftBelow G (length (Ds ++ x.degree ∷ [])) l
     new-lift l b = record { group_is = b.group_is; from_one = (let z = b.degree_is in omega (arith, z)); to_n = (let z = b.degree_is in omega (arith, z, count)) }
 
-    each : (h : IsPGroup G) (e : ℕ) (D : Degree) → (e < length Ds) ⊎ (length Ds ≤ e) → e < suc (length Ds)
-        → IsDegree G h (suc e) (lifts ++ x.lifts.items) (slice_index_or (Ds ++ x.degree ∷ []) e D)
-    each h e D (inl b) l = subst (λ d. IsDegree G h (suc e) (lifts ++ x.lifts.items) d) (sym (get_or_append_left Ds (x.degree ∷ []) D e b))
-        (degree-stays G h (suc e) lifts x.lifts.items (slice_index_or Ds e D) (above-new G h (length Ds) (suc e) x.lifts.items (omega (arith, b)) N.lifts_are) ((B.lower.degrees_are h).each e D b))
-    each h e D (inr b) l =
+    each : (e : ℕ) (D : Degree) → (e < length Ds) ⊎ (length Ds ≤ e) → e < suc (length Ds)
+        → IsDegree G (suc e) (lifts ++ x.lifts.items) (slice_index_or (Ds ++ x.degree ∷ []) e D)
+    each e D (inl b) l = subst (λ d. IsDegree G (suc e) (lifts ++ x.lifts.items) d) (sym (get_or_append_left Ds (x.degree ∷ []) D e b))
+        (degree-stays G (suc e) lifts x.lifts.items (slice_index_or Ds e D) (above-new G (length Ds) (suc e) x.lifts.items (omega (arith, b)) N.lifts_are) (B.lower.degrees_are.each e D b))
+    each e D (inr b) l =
         let s : length Ds ≡ e = omega (arith, b, l) in
-        subst (λ d. IsDegree G h (suc e) (lifts ++ x.lifts.items) d) (sym (get_or_push Ds x.degree D e s))
-        (subst (λ k. IsDegree G h (suc k) (lifts ++ x.lifts.items) x.degree) s (N.degree_is h))
+        subst (λ d. IsDegree G (suc e) (lifts ++ x.lifts.items) d) (sym (get_or_push Ds x.degree D e s))
+        (subst (λ k. IsDegree G (suc k) (lifts ++ x.lifts.items) x.degree) s N.degree_is)
 
     ring : IsRingOf G x.gens (lifts ++ x.lifts.items) (rs ++ x.relations.items) (Ds ++ x.degree ∷ [])
     ring = record {
       high = omega (arith, count, s);
       prime = ap (λ (g : Generators). g.prime) N.gens_are;
-      presentation = λ h. subst (λ n. IsPresentation G h n (classes G h (lifts ++ x.lifts.items)) (rs ++ x.relations.items)) (sym count) (N.presentation h);
+      presentation = subst (λ n. IsPresentation G n (classes G (lifts ++ x.lifts.items)) (rs ++ x.relations.items)) (sym count) N.presentation;
       lower = record {
-        law = B.lower.law;
         lifts_are = All-append (IsLiftBelow G (length (Ds ++ x.degree ∷ []))) lifts x.lifts.items
             (All-weaker (IsLiftBelow G (length Ds)) (IsLiftBelow G (length (Ds ++ x.degree ∷ []))) old-lift lifts B.lower.lifts_are)
             (All-weaker (IsLiftOf G (suc (length Ds))) (IsLiftBelow G (length (Ds ++ x.degree ∷ []))) new-lift x.lifts.items N.lifts_are);
-        degrees_are = λ h. record {
+        degrees_are = record {
           count = refl;
-          each = λ e D l. each h e D (cases_lt e (length Ds)) (omega (arith, l, count));
+          each = λ e D l. each e D (cases_lt e (length Ds)) (omega (arith, l, count));
         };
       };
     }
 
 -- a store of the same but for the heights of the lifts
-pub store-same : (group group' : Option GroupTable) (gens gens' : Generators) (lifts lifts' : List LiftValue) (rs rs' : List Polynomial) (Ds Ds' : List Degree) → group' ≡ group → gens' ≡ gens
+pub store-same : (group group' : Option PGroup) (gens gens' : Generators) (lifts lifts' : List LiftValue) (rs rs' : List Polynomial) (Ds Ds' : List Degree) → group' ≡ group → gens' ≡ gens
     → map kept lifts' ≡ map kept lifts → rs' ≡ rs → Ds' ≡ Ds → IsRingStore group gens lifts rs Ds → IsRingStore group' gens' lifts' rs' Ds'
 store-same group group' gens gens' lifts lifts' rs rs' Ds Ds' eg en el er ed S =
     subst (λ g. IsRingStore g gens' lifts' rs' Ds') (sym eg)
@@ -182,7 +178,7 @@ store-same group group' gens gens' lifts lifts' rs rs' Ds Ds' eg en el er ed S =
     (subst (λ D. IsRingStore group gens lifts' rs D) (sym ed)
     (store-kept group gens lifts' lifts rs Ds el S))))
 
-pub store-known : (G : GroupTable) (group : Option GroupTable) (gens : Generators) (lifts : List LiftValue) (rs : List Polynomial) (Ds : List Degree) → group ≡ Some G
+pub store-known : (G : PGroup) (group : Option PGroup) (gens : Generators) (lifts : List LiftValue) (rs : List Polynomial) (Ds : List Degree) → group ≡ Some G
     → gens.degrees ≡ degrees_of lifts → IsRingOf G gens lifts rs Ds → IsRingStore group gens lifts rs Ds
 store-known G group gens lifts rs Ds e d R = subst (λ g. IsRingStore g gens lifts rs Ds) (sym e) (record { degrees_of_gens = d; through = R })
 

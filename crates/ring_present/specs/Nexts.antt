@@ -1,7 +1,6 @@
 -- What the next degree adds to a ring.
 use Rattle.std.specs.Prelude.{◌≡◌, ℕ, suc, List, ◌++◌, All}
-use Rattle.group_table.specs.Tables.{GroupTable}
-use Rattle.group_algebra.specs.PGroups.{IsPGroup}
+use Rattle.group_algebra.specs.PGroups.{PGroup}
 use Rattle.graded_polynomials.specs.Polynomials.{Polynomial}
 use Rattle.chain_lift.specs.Values.{LiftValue}
 use Rattle.ring_present.specs.Rings.{IsPresentation}
@@ -9,13 +8,13 @@ use Rattle.ring_present.specs.Degrees.{IsDegree, classes, degrees_of}
 use Rattle.ring_present.specs.declared.next.Next.{Next}
 
 -- a lift of a class of degree d
-pub record IsLiftOf (G : GroupTable) (d : ℕ) (l : LiftValue) : Type 0 where
+pub record IsLiftOf (G : PGroup) (d : ℕ) (l : LiftValue) : Type 0 where
   pub group_is : l.group ≡ G
   pub degree_is : l.degree ≡ d
 
 -- the new generators and relations with the old ones are those through degree n + 1
-pub record IsNext (G : GroupTable) (lifts : List LiftValue) (relations : List Polynomial) (n : ℕ) (x : Next) : Type 0 where
-  pub gens_are : x.gens ≡ record { prime = G.p; degrees = degrees_of (lifts ++ x.lifts.items) }
+pub record IsNext (G : PGroup) (lifts : List LiftValue) (relations : List Polynomial) (n : ℕ) (x : Next) : Type 0 where
+  pub gens_are : x.gens ≡ record { prime = G.table.p; degrees = degrees_of (lifts ++ x.lifts.items) }
   pub lifts_are : All (IsLiftOf G (suc n)) x.lifts.items
-  pub presentation : (h : IsPGroup G) → IsPresentation G h (suc n) (classes G h (lifts ++ x.lifts.items)) (relations ++ x.relations.items)
-  pub degree_is : (h : IsPGroup G) → IsDegree G h (suc n) (lifts ++ x.lifts.items) x.degree
+  pub presentation : IsPresentation G (suc n) (classes G (lifts ++ x.lifts.items)) (relations ++ x.relations.items)
+  pub degree_is : IsDegree G (suc n) (lifts ++ x.lifts.items) x.degree

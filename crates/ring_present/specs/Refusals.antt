@@ -1,12 +1,11 @@
 -- When a degree is not added.
 use Rattle.std.specs.Prelude.{◌≡◌, ℕ}
-use Rattle.group_table.specs.Tables.{GroupTable}
-use Rattle.group_algebra.specs.PGroups.{IsPGroup}
+use Rattle.group_algebra.specs.PGroups.{PGroup}
 use Rattle.ring_present.specs.Rings.{IsTooMany}
 use Rattle.ring_present.specs.declared.fault.RingFault.{RingFault}
 use Rattle.ring_present.specs.declared.fault.RingFault.TheVariants.{TooManyMonomials, Memory}
 
 -- the fault names the degree and the number of its monomials, which is above the cap; or memory was wanting
-abbrev pub IsRefusal : (G : GroupTable) → IsPGroup G → ℕ → ℕ → RingFault → Type 0
-IsRefusal G h d cap (TooManyMonomials degree count) = (degree ≡ d) × IsTooMany G h d cap count
-IsRefusal G h d cap Memory = Unit {0}
+abbrev pub IsRefusal : PGroup → ℕ → ℕ → RingFault → Type 0
+IsRefusal G d cap (TooManyMonomials degree count) = (degree ≡ d) × IsTooMany G d cap count
+IsRefusal G d cap Memory = Unit {0}

@@ -1,7 +1,6 @@
 -- What a ring keeps.
 use Rattle.std.specs.Prelude.{◌≡◌, ◌≤◌, List, [], length, Option, MatchOption}
-use Rattle.group_table.specs.Tables.{GroupTable}
-use Rattle.group_algebra.specs.PGroups.{IsPGroup}
+use Rattle.group_algebra.specs.PGroups.{PGroup}
 use Rattle.graded_polynomials.specs.Polynomials.{Polynomial}
 use Rattle.gc_poly.specs.Generators.{Generators}
 use Rattle.chain_lift.specs.Values.{LiftValue}
@@ -10,10 +9,10 @@ use Rattle.ring_present.specs.Degrees.{IsLower, classes, degrees_of}
 use Rattle.ring_present.specs.declared.degree.Degree.{Degree}
 
 -- generators, relations and degrees of the ring of G
-pub record IsRingOf (G : GroupTable) (gens : Generators) (lifts : List LiftValue) (relations : List Polynomial) (Ds : List Degree) : Type 0 where
+pub record IsRingOf (G : PGroup) (gens : Generators) (lifts : List LiftValue) (relations : List Polynomial) (Ds : List Degree) : Type 0 where
   pub high : length Ds ≤ 24
-  pub prime : gens.prime ≡ G.p
-  pub presentation : (h : IsPGroup G) → IsPresentation G h (length Ds) (classes G h lifts) relations
+  pub prime : gens.prime ≡ G.table.p
+  pub presentation : IsPresentation G (length Ds) (classes G lifts) relations
   pub lower : IsLower G lifts Ds
 
 -- the ring through degree 0
@@ -22,6 +21,6 @@ pub record IsEmpty (lifts : List LiftValue) (relations : List Polynomial) (Ds : 
   pub no_relations : relations ≡ []
   pub no_degrees : Ds ≡ []
 
-pub record IsRingStore (group : Option GroupTable) (gens : Generators) (lifts : List LiftValue) (relations : List Polynomial) (Ds : List Degree) : Type 0 where
+pub record IsRingStore (group : Option PGroup) (gens : Generators) (lifts : List LiftValue) (relations : List Polynomial) (Ds : List Degree) : Type 0 where
   pub degrees_of_gens : gens.degrees ≡ degrees_of lifts
   pub through : MatchOption group (IsEmpty lifts relations Ds) (λ G. IsRingOf G gens lifts relations Ds)

@@ -4,7 +4,7 @@ ghost use Rattle.std.specs.Prelude.{◌≡◌, suc, ◌+◌, ◌<◌, ◌≤◌,
 ghost use Rattle.linear_algebra.specs.Rows.{AreInSpan};
 ghost use Rattle.linear_algebra.specs.Kernels.{IsKernelOf};
 ghost use Rattle.linear_algebra.specs.Choices.{ArePreimages};
-ghost use Rattle.group_algebra.specs.PGroups.{IsPGroup, largest_residue};
+ghost use Rattle.group_algebra.specs.PGroups.{largest_residue};
 ghost use Rattle.graded_algebra.specs.Presentations.{IsSpanGenerators};
 ghost use Rattle.presentation_rows.specs.Values.{AreUnitRows};
 ghost use Rattle.min_res.specs.Stages.{rank_of};
@@ -37,7 +37,7 @@ pub(crate) struct Next {
 // The rank of the stage of degree d.
 fn rank(res: &Resolution, d: u32) -> usize
     requires { d ≤ res.now.last }
-    ensures { (h : IsPGroup res.now.group) → result ≡ rank_of res.now.group h d }
+    ensures { result ≡ rank_of res.now.group d }
 {
     match res.stage(d) {
         Some(stage) => stage.rank(),
@@ -76,9 +76,8 @@ impl<'a> Lower<'a> {
         requires heights { All (λ l. suc (length self.now.degrees.now) ≤ l.degree + l.height) self.now.lifts.now }
         requires within { suc (length self.now.degrees.now) ≤ res.now.last }
         requires high { length self.now.degrees.now < 24 }
-        requires gens { gens.now ≡ record { prime = res.now.group.p; degrees = degrees_of self.now.lifts.now } }
-        ensures { IfOk result (λ all. (h : IsPGroup res.now.group)
-            → AreAll res.now.group h (suc (length self.now.degrees.now)) self.now.lifts.now all) }
+        requires gens { gens.now ≡ record { prime = res.now.group.table.p; degrees = degrees_of self.now.lifts.now } }
+        ensures { IfOk result (λ all. AreAll res.now.group (suc (length self.now.degrees.now)) self.now.lifts.now all) }
     {
         let d = self.degrees.len() as u32 + 1;
         let monomials = monomials(alloc, gens, d)?;
@@ -98,24 +97,21 @@ impl<'a> Lower<'a> {
     ) -> Result<Vec<Lift>, Memory>
         requires group { self.now.group.now ≡ res.now.group }
         requires lower { IsLower self.now.group.now self.now.lifts.now self.now.degrees.now }
-        requires presentation { (h : IsPGroup res.now.group)
-            → IsSpanGenerators (largest_residue res.now.group) (cohomology res.now.group h) (dual_basis res.now.group h)
-            (length self.now.degrees.now) (classes res.now.group h self.now.lifts.now) }
+        requires presentation { IsSpanGenerators (largest_residue res.now.group) (cohomology res.now.group) (dual_basis res.now.group)
+            (length self.now.degrees.now) (classes res.now.group self.now.lifts.now) }
         requires within { suc (length self.now.degrees.now) ≤ res.now.last }
         requires high { length self.now.degrees.now < 24 }
-        requires basis_prime { basis.now.p ≡ res.now.group.p }
-        requires basis { (h : IsPGroup res.now.group) → AreUnitRows (rank_of res.now.group h (suc (length self.now.degrees.now))) basis.now.rows }
-        requires basis_width { (h : IsPGroup res.now.group) → basis.now.width ≡ rank_of res.now.group h (suc (length self.now.degrees.now)) }
-        requires gens { gens.old ≡ record { prime = res.now.group.p; degrees = degrees_of self.now.lifts.now } }
-        requires all { (h : IsPGroup res.now.group) → AreAll res.now.group h (suc (length self.now.degrees.now)) self.now.lifts.now all.old }
+        requires basis_prime { basis.now.p ≡ res.now.group.table.p }
+        requires basis { AreUnitRows (rank_of res.now.group (suc (length self.now.degrees.now))) basis.now.rows }
+        requires basis_width { basis.now.width ≡ rank_of res.now.group (suc (length self.now.degrees.now)) }
+        requires gens { gens.old ≡ record { prime = res.now.group.table.p; degrees = degrees_of self.now.lifts.now } }
+        requires all { AreAll res.now.group (suc (length self.now.degrees.now)) self.now.lifts.now all.old }
         ensures lifts { IfOk result (λ lifts. All (IsLiftOf res.now.group (suc (length self.now.degrees.now))) lifts.items) }
         ensures gens { IfOk result (λ lifts. gens.new
-            ≡ record { prime = res.now.group.p; degrees = degrees_of (self.now.lifts.now ++ lifts.items) }) }
-        ensures all { IfOk result (λ lifts. (h : IsPGroup res.now.group)
-            → AreAll res.now.group h (suc (length self.now.degrees.now)) (self.now.lifts.now ++ lifts.items) all.new) }
-        ensures generators { IfOk result (λ lifts. (h : IsPGroup res.now.group)
-            → IsSpanGenerators (largest_residue res.now.group) (cohomology res.now.group h) (dual_basis res.now.group h)
-            (suc (length self.now.degrees.now)) (classes res.now.group h (self.now.lifts.now ++ lifts.items))) }
+            ≡ record { prime = res.now.group.table.p; degrees = degrees_of (self.now.lifts.now ++ lifts.items) }) }
+        ensures all { IfOk result (λ lifts. AreAll res.now.group (suc (length self.now.degrees.now)) (self.now.lifts.now ++ lifts.items) all.new) }
+        ensures generators { IfOk result (λ lifts. IsSpanGenerators (largest_residue res.now.group) (cohomology res.now.group) (dual_basis res.now.group)
+            (suc (length self.now.degrees.now)) (classes res.now.group (self.now.lifts.now ++ lifts.items))) }
         ensures spans { IfOk result (λ lifts. AreInSpan all.new.values.p all.new.values.rows basis.now.rows) }
     {
         let places = new_places(alloc, basis, &all.values)?;
@@ -133,12 +129,11 @@ impl<'a> Lower<'a> {
     ) -> Result<Next, Memory>
         requires group { self.now.group.now ≡ res.now.group }
         requires lower { IsLower self.now.group.now self.now.lifts.now self.now.degrees.now }
-        requires presentation { (h : IsPGroup res.now.group)
-            → IsPresentation res.now.group h (length self.now.degrees.now) (classes res.now.group h self.now.lifts.now) relations.now }
+        requires presentation { IsPresentation res.now.group (length self.now.degrees.now) (classes res.now.group self.now.lifts.now) relations.now }
         requires heights { All (λ l. suc (length self.now.degrees.now) ≤ l.degree + l.height) self.now.lifts.now }
         requires within { suc (length self.now.degrees.now) ≤ res.now.last }
         requires high { length self.now.degrees.now < 24 }
-        requires gens { gens ≡ record { prime = res.now.group.p; degrees = degrees_of self.now.lifts.now } }
+        requires gens { gens ≡ record { prime = res.now.group.table.p; degrees = degrees_of self.now.lifts.now } }
         ensures { IfOk result (IsNext res.now.group self.now.lifts.now relations.now (length self.now.degrees.now)) }
     {
         let d = self.degrees.len() as u32 + 1;

@@ -2,7 +2,6 @@
 
 ghost use Rattle.std.specs.Prelude.{◌≡◌, ℕ, suc, ◌-◌, ◌<◌, ◌≤◌, [], ◌∷◌, ◌++◌, List, length, map, min};
 ghost use Rattle.std.specs.Prelude.{OnOk, OnErr, IfErr, IfSome, Some};
-ghost use Rattle.group_algebra.specs.PGroups.{IsPGroup};
 ghost use Rattle.graded_polynomials.specs.Monomials.{IsMonomials};
 ghost use Rattle.ring_present.specs.Degrees.{degrees_of, kept, lifted};
 ghost use Rattle.ring_present.specs.Prefixes.{IsPrefix};
@@ -16,14 +15,15 @@ use crate::next::Next;
 use crate::values::Lower;
 use chain_lift::Lift;
 use gc_poly::{Gens, Poly, count_monomials};
-use group_table::{Group, Memory};
+use group_algebra::PGroup;
+use group_table::Memory;
 use min_res::Resolution;
 use std::alloc::Global;
 
 /// Generators with their lifts, relations and degrees from 1 on. The group is known from the first degree on.
 #[derive(Drop)]
 pub(crate) struct Presentation {
-    pub(crate) group: Option<Group>,
+    pub(crate) group: Option<PGroup>,
     pub(crate) gens: Gens,
     pub(crate) lifts: Vec<Lift>,
     pub(crate) relations: Vec<Poly>,
@@ -32,7 +32,7 @@ pub(crate) struct Presentation {
 
 impl Presentation {
     // Adds a degree.
-    fn append(&mut self, group: Group, mut next: Next) -> Result<(), Memory>
+    fn append(&mut self, group: PGroup, mut next: Next) -> Result<(), Memory>
         ensures group { OnOk result (self.new.group ≡ Some group) }
         ensures gens { OnOk result (self.new.gens ≡ next.gens) }
         ensures lifts { OnOk result (self.new.lifts.items ≡ self.old.lifts.items ++ next.lifts.items) }
@@ -74,10 +74,9 @@ impl Presentation {
         ensures relations_grown { OnOk result (IsPrefix self.old.relations.items self.new.relations.items) }
         ensures degrees_grown { OnOk result (IsPrefix self.old.degrees.items self.new.degrees.items) }
         ensures counted { OnOk result ((ms : List (List ℕ))
-            → IsMonomials (res.now.group.p - 1) self.old.gens.degrees (suc (length self.old.degrees.items)) ms
+            → IsMonomials (res.now.group.table.p - 1) self.old.gens.degrees (suc (length self.old.degrees.items)) ms
             → min (length ms) 18446744073709551615 ≤ cap) }
-        ensures refused { IfErr result (λ e. (h : IsPGroup res.now.group)
-            → IsRefusal res.now.group h (suc (length self.old.degrees.items)) cap e) }
+        ensures refused { IfErr result (λ e. IsRefusal res.now.group (suc (length self.old.degrees.items)) cap e) }
         ensures group_kept { OnErr result (self.new.group ≡ self.old.group) }
         ensures gens_kept { OnErr result (self.new.gens ≡ self.old.gens) }
         ensures lifts_kept { OnErr result (map kept self.new.lifts.items ≡ map kept self.old.lifts.items) }

@@ -3,8 +3,7 @@
 ghost use Rattle.std.specs.Prelude.{◌≡◌, ℕ, suc, ◌<◌, ◌≤◌, [], List, length, map, min, slice_get, slice_index_or};
 ghost use Rattle.std.specs.Prelude.{OnOk, OnErr, IfOk, IfErr, IfSome, Some, None};
 ghost use Rattle.group_table.specs.Prime.{prime_value};
-ghost use Rattle.group_table.specs.Tables.{GroupTable};
-ghost use Rattle.group_algebra.specs.PGroups.{IsPGroup, largest_residue};
+ghost use Rattle.group_algebra.specs.PGroups.{PGroup, largest_residue};
 ghost use Rattle.graded_polynomials.specs.Monomials.{IsMonomials};
 ghost use Rattle.graded_algebra.specs.Algebras.{evaluate};
 ghost use Rattle.graded_algebra.specs.Presentations.{IsNormalForm};
@@ -44,9 +43,11 @@ pub struct Ring {
 
 impl Model for Ring {
     ghost use Rattle.std.specs.Prelude.{length, map};
-    ghost use Rattle.ring_present.specs.Values.{RingValue};
+    ghost use Rattle.ring_present.specs.Values.{RingValue, coded_ring};
 
     ghost Value = { RingValue };
+
+    ghost coded = { coded_ring };
 
     ghost use Rattle.ring_present.specs.Degrees.{lifted};
     ghost use Rattle.ring_present.specs.Stores.{IsRingStore};
@@ -87,9 +88,9 @@ impl Ring {
         requires high { self.old.degree < 24 }
         requires same_group { IfSome self.old.group (λ G. G ≡ res.now.group) }
         ensures group { OnOk result (self.new.group ≡ Some res.now.group) }
-        ensures prime { OnOk result (self.new.prime ≡ res.now.group.p) }
+        ensures prime { OnOk result (self.new.prime ≡ res.now.group.table.p) }
         ensures degree { OnOk result (self.new.degree ≡ suc self.old.degree) }
-        ensures presentation { OnOk result ((h : IsPGroup res.now.group) → IsPresentation res.now.group h self.new.degree
+        ensures presentation { OnOk result (IsPresentation res.now.group self.new.degree
             (generators_of (largest_residue res.now.group) self.new.generators) self.new.relations) }
         ensures generators_kept { OnOk result (IsPrefix self.old.generators self.new.generators) }
         ensures relations_kept { OnOk result (IsPrefix self.old.relations self.new.relations) }
@@ -97,7 +98,7 @@ impl Ring {
         ensures counted { OnOk result ((ms : List (List ℕ))
             → IsMonomials (largest_residue res.now.group) (map (λ g. g.degree) self.old.generators) (suc self.old.degree) ms
             → min (length ms) 18446744073709551615 ≤ cap) }
-        ensures refused { IfErr result (λ e. (h : IsPGroup res.now.group) → IsRefusal res.now.group h (suc self.old.degree) cap e) }
+        ensures refused { IfErr result (λ e. IsRefusal res.now.group (suc self.old.degree) cap e) }
         ensures kept { OnErr result (self.new ≡ self.old) }
     {
         self.known.add_degree(self.alloc, res, cap)
@@ -146,8 +147,8 @@ impl Ring {
         requires from { 1 ≤ d }
         requires to { d ≤ self.now.degree }
         ensures list { result.now ≡ standard_of self.now d }
-        ensures standard { (G : GroupTable) (h : IsPGroup G) → self.now.group ≡ Some G
-            → AreStandard (largest_residue G) (cohomology G h) (generators_of (largest_residue G) self.now.generators) d result.now }
+        ensures standard { (G : PGroup) → self.now.group ≡ Some G
+            → AreStandard (largest_residue G) (cohomology G) (generators_of (largest_residue G) self.now.generators) d result.now }
     {
         &self.known.degrees[d as usize - 1].standard.monomials
     }
@@ -158,9 +159,9 @@ impl Ring {
         requires to { d ≤ self.now.degree }
         requires within { i < length (standard_of self.now d) }
         ensures modulus { modulus_of result ≡ self.now.prime }
-        ensures length { (G : GroupTable) (h : IsPGroup G) → self.now.group ≡ Some G → length (entries_of result) ≡ rank_of G h d }
-        ensures value { (G : GroupTable) (h : IsPGroup G) → self.now.group ≡ Some G → vector_of (largest_residue G) (entries_of result)
-            ≡ evaluate (cohomology G h) (generators_of (largest_residue G) self.now.generators) (slice_index_or (standard_of self.now d) i []) }
+        ensures length { (G : PGroup) → self.now.group ≡ Some G → length (entries_of result) ≡ rank_of G d }
+        ensures value { (G : PGroup) → self.now.group ≡ Some G → vector_of (largest_residue G) (entries_of result)
+            ≡ evaluate (cohomology G) (generators_of (largest_residue G) self.now.generators) (slice_index_or (standard_of self.now d) i []) }
     {
         self.known.degrees[d as usize - 1].standard.values.row(i)
     }
@@ -170,10 +171,10 @@ impl Ring {
         requires from { 1 ≤ d }
         requires to { d ≤ self.now.degree }
         requires prime { modulus_of class ≡ self.now.prime }
-        requires length { (G : GroupTable) (h : IsPGroup G) → self.now.group ≡ Some G → length (entries_of class) ≡ rank_of G h d }
+        requires length { (G : PGroup) → self.now.group ≡ Some G → length (entries_of class) ≡ rank_of G d }
         ensures degree { IfOk result (λ f. f.degree ≡ d) }
-        ensures form { IfOk result (λ f. (G : GroupTable) (h : IsPGroup G) → self.now.group ≡ Some G
-            → IsNormalForm (largest_residue G) (cohomology G h) (generators_of (largest_residue G) self.now.generators) d
+        ensures form { IfOk result (λ f. (G : PGroup) → self.now.group ≡ Some G
+            → IsNormalForm (largest_residue G) (cohomology G) (generators_of (largest_residue G) self.now.generators) d
             (vector_of (largest_residue G) (entries_of class.entry)) f.terms) }
     {
         let degree = &self.known.degrees[d as usize - 1];

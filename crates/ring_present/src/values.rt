@@ -4,7 +4,7 @@ ghost use Rattle.std.specs.Prelude.{◌≡◌, ℕ, suc, ◌+◌, ◌-◌, ◌<�
 ghost use Rattle.linear_algebra.specs.Rows.{row};
 ghost use Rattle.fp_rows.specs.Refs.{entries_of, modulus_of};
 ghost use Rattle.group_table.specs.Prime.{prime_value};
-ghost use Rattle.group_algebra.specs.PGroups.{IsPGroup, largest_residue};
+ghost use Rattle.group_algebra.specs.PGroups.{largest_residue};
 ghost use Rattle.graded_polynomials.specs.Monomials.{IsMonomial, IsMonomials, IsTrimmed};
 ghost use Rattle.graded_algebra.specs.Algebras.{degrees, evaluate};
 ghost use Rattle.presentation_rows.specs.Factors.{IsLastFactor};
@@ -17,13 +17,14 @@ use crate::degree::{Degree, Valued};
 use chain_lift::Lift;
 use fp_rows::{Matrix, Row, RowRef};
 use gc_poly::{Mono, Monos};
-use group_table::{Group, Memory, Prime};
+use group_algebra::PGroup;
+use group_table::{Memory, Prime};
 use std::alloc::Global;
 
 /// The generators and the degrees that a ring has.
 #[derive(Clone, Copy)]
 pub(crate) struct Lower<'a> {
-    pub(crate) group: &'a Group,
+    pub(crate) group: &'a PGroup,
     pub(crate) lifts: &'a [Lift],
     pub(crate) degrees: &'a [Degree],
 }
@@ -71,15 +72,14 @@ fn last_lift<'a>(lifts: &'a [Lift], m: &Mono) -> &'a Lift
 impl<'a> Lower<'a> {
     // The class of a monomial of degree d, which is 0 or a degree that the ring has.
     fn value_of(&self, one: &'a Row, d: u32, m: &Mono) -> RowRef<'a>
-        requires one { (one.now.p ≡ self.now.group.now.p) × (one.now.entries ≡ 1 ∷ []) }
+        requires one { (one.now.p ≡ self.now.group.now.table.p) × (one.now.entries ≡ 1 ∷ []) }
         requires lower { IsLower self.now.group.now self.now.lifts.now self.now.degrees.now }
         requires within { d ≤ length self.now.degrees.now }
-        requires monomial { (h : IsPGroup self.now.group.now)
-            → IsMonomial (largest_residue self.now.group.now) (degrees (classes self.now.group.now h self.now.lifts.now)) d m.now }
-        ensures modulus { modulus_of result ≡ self.now.group.now.p }
-        ensures length { (h : IsPGroup self.now.group.now) → length (entries_of result) ≡ rank_of self.now.group.now h d }
-        ensures value { (h : IsPGroup self.now.group.now) → vector_of (largest_residue self.now.group.now) (entries_of result)
-            ≡ evaluate (cohomology self.now.group.now h) (classes self.now.group.now h self.now.lifts.now) m.now }
+        requires monomial { IsMonomial (largest_residue self.now.group.now) (degrees (classes self.now.group.now self.now.lifts.now)) d m.now }
+        ensures modulus { modulus_of result ≡ self.now.group.now.table.p }
+        ensures length { length (entries_of result) ≡ rank_of self.now.group.now d }
+        ensures value { vector_of (largest_residue self.now.group.now) (entries_of result)
+            ≡ evaluate (cohomology self.now.group.now) (classes self.now.group.now self.now.lifts.now) m.now }
     {
         if d == 0 {
             one.view()
@@ -97,18 +97,17 @@ impl<'a> Lower<'a> {
         m: &Mono,
         out: &mut Row,
     ) -> Result<(), Memory>
-        requires one { (one.now.p ≡ self.now.group.now.p) × (one.now.entries ≡ 1 ∷ []) }
+        requires one { (one.now.p ≡ self.now.group.now.table.p) × (one.now.entries ≡ 1 ∷ []) }
         requires lower { IsLower self.now.group.now self.now.lifts.now self.now.degrees.now }
         requires heights { All (λ l. d ≤ l.degree + l.height) self.now.lifts.now }
         requires degree { d ≡ suc (length self.now.degrees.now) }
-        requires monomial { (h : IsPGroup self.now.group.now)
-            → IsMonomial (largest_residue self.now.group.now) (degrees (classes self.now.group.now h self.now.lifts.now)) d m.now }
-        requires out_prime { out.old.p ≡ self.now.group.now.p }
-        requires out_length { (h : IsPGroup self.now.group.now) → length out.old.entries ≡ rank_of self.now.group.now h d }
+        requires monomial { IsMonomial (largest_residue self.now.group.now) (degrees (classes self.now.group.now self.now.lifts.now)) d m.now }
+        requires out_prime { out.old.p ≡ self.now.group.now.table.p }
+        requires out_length { length out.old.entries ≡ rank_of self.now.group.now d }
         ensures prime { out.new.p ≡ out.old.p }
         ensures length { length out.new.entries ≡ length out.old.entries }
-        ensures value { OnOk result ((h : IsPGroup self.now.group.now) → vector_of (largest_residue self.now.group.now) out.new.entries
-            ≡ evaluate (cohomology self.now.group.now h) (classes self.now.group.now h self.now.lifts.now) m.now) }
+        ensures value { OnOk result (vector_of (largest_residue self.now.group.now) out.new.entries
+            ≡ evaluate (cohomology self.now.group.now) (classes self.now.group.now self.now.lifts.now) m.now) }
     {
         let rest = quotient(alloc, m)?;
         let lift = last_lift(self.lifts, m);
@@ -128,13 +127,11 @@ impl<'a> Lower<'a> {
         requires lower { IsLower self.now.group.now self.now.lifts.now self.now.degrees.now }
         requires heights { All (λ l. d ≤ l.degree + l.height) self.now.lifts.now }
         requires degree { d ≡ suc (length self.now.degrees.now) }
-        requires rank { (h : IsPGroup self.now.group.now) → rank ≡ rank_of self.now.group.now h d }
-        requires monomials { (h : IsPGroup self.now.group.now)
-            → IsMonomials (largest_residue self.now.group.now) (degrees (classes self.now.group.now h self.now.lifts.now)) d monomials.now }
-        ensures prime { IfOk result (λ m. m.p ≡ self.now.group.now.p) }
+        requires rank { rank ≡ rank_of self.now.group.now d }
+        requires monomials { IsMonomials (largest_residue self.now.group.now) (degrees (classes self.now.group.now self.now.lifts.now)) d monomials.now }
+        ensures prime { IfOk result (λ m. m.p ≡ self.now.group.now.table.p) }
         ensures width { IfOk result (λ m. m.width ≡ rank) }
-        ensures values { IfOk result (λ m. (h : IsPGroup self.now.group.now)
-            → AreValues (largest_residue self.now.group.now) (cohomology self.now.group.now h) (classes self.now.group.now h self.now.lifts.now)
+        ensures values { IfOk result (λ m. AreValues (largest_residue self.now.group.now) (cohomology self.now.group.now) (classes self.now.group.now self.now.lifts.now)
             monomials.now m.rows) }
     {
         let p = self.group.prime();

@@ -23,11 +23,11 @@ loop-i-preserved c =
       rows_prime = ap (λ (x : MatrixValue). x.p) c.in_ok-push.ensures.pushed ∙ c.loop-i.invariant.rows_prime;
       rows_width = ap (λ (x : MatrixValue). x.width) c.in_ok-push.ensures.pushed ∙ c.loop-i.invariant.rows_width;
       count = ap (λ (x : List (List ℕ)). length x) pushed ∙ length_push c.loop-i.rows.rows _ ∙ ap (λ n. n + 1) c.loop-i.invariant.count;
-      each = λ h. rows-push c.loop-i.i
-          (λ i. section_of c.args.target.now (map_row c.args.algebra.now h c.args.rank c.args.before.now.rows (image_row c.args.source.now i)))
-          c.loop-i.rows.rows _ _ c.loop-i.invariant.count (c.loop-i.invariant.each h)
+      each = rows-push c.loop-i.i
+          (λ i. section_of c.args.target.now (map_row c.args.algebra.now c.args.rank c.args.before.now.rows (image_row c.args.source.now i)))
+          c.loop-i.rows.rows _ _ c.loop-i.invariant.count c.loop-i.invariant.each
           (c.view-in-loop-i.ensures.entries ∙ c.section.ensures.value
-          ∙ ap (section_of c.args.target.now) (c.view.ensures.entries ∙ c.write_value.ensures.value h
-          ∙ ap (map_row c.args.algebra.now h c.args.rank c.args.before.now.rows) c.image.ensures.entries))
+          ∙ ap (section_of c.args.target.now) (c.view.ensures.entries ∙ c.write_value.ensures.value
+          ∙ ap (map_row c.args.algebra.now c.args.rank c.args.before.now.rows) c.image.ensures.entries))
           pushed;
     }

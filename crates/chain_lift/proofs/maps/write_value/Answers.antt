@@ -9,14 +9,14 @@ use Rattle.chain_lift.proofs.maps.write_value.Goals as goal
 
 pub loop-k-init : goal.loop-k-init
 loop-k-init c =
-    let cleared : c.clear.new.self.entries ≡ replicate (order c.args.algebra.now * c.args.rank) 0 =
+    let cleared : c.clear.new.self.entries ≡ replicate (order c.args.algebra.now.table * c.args.rank) 0 =
     ap (λ (x : RowValue). x.entries) c.clear.ensures ∙ ap (λ n. replicate n 0) c.requires.out_length in
     record {
       block_prime = refl;
       block_length = refl;
       out_prime = ap (λ (x : RowValue). x.p) c.clear.ensures ∙ c.requires.out_prime;
-      out_length = ap (λ (x : List ℕ). length x) cleared ∙ length-replicate (order c.args.algebra.now * c.args.rank) 0;
-      sum = λ h. sum-start c.args.algebra.now h c.args.rank c.args.rows.now.rows (entries_of c.args.v) _ cleared;
+      out_length = ap (λ (x : List ℕ). length x) cleared ∙ length-replicate (order c.args.algebra.now.table * c.args.rank) 0;
+      sum = sum-start c.args.algebra.now c.args.rank c.args.rows.now.rows (entries_of c.args.v) _ cleared;
     }
 
 pub scale_add-requires-clause-factor_length : goal.scale_add-requires-clause-factor_length
@@ -28,14 +28,14 @@ loop-k-preserved c = record {
   block_prime = c.write_block.ensures.prime ∙ c.loop-k.invariant.block_prime;
   block_length = c.write_block.ensures.length ∙ c.loop-k.invariant.block_length;
   out_prime = c.scale_add.ensures.prime ∙ c.loop-k.invariant.out_prime;
-  out_length = ap (λ (x : List ℕ). length x) (c.scale_add.ensures.gained c.group-group.ensures.law)
-      ∙ ((layer_coordinates c.args.algebra.now c.group-group.ensures.law c.args.rank).row-is _).length_is;
-  sum = λ h. sum-step c.args.algebra.now h c.args.rank c.args.rows.now.rows (entries_of c.args.v) c.loop-k.k _ c.loop-k.out.entries
-      c.write_block.new.block.entries _ _ _ c.requires.argument (c.loop-k.invariant.sum h) c.rows.ensures.count
-      (c.write_block.ensures.block h) c.view.ensures.entries c.row.ensures.entries (c.scale_add.ensures.gained h);
+  out_length = ap (λ (x : List ℕ). length x) (c.scale_add.ensures.gained)
+      ∙ ((layer_coordinates c.args.algebra.now c.args.rank).row-is _).length_is;
+  sum = sum-step c.args.algebra.now c.args.rank c.args.rows.now.rows (entries_of c.args.v) c.loop-k.k _ c.loop-k.out.entries
+      c.write_block.new.block.entries _ _ _ c.requires.argument c.loop-k.invariant.sum c.rows.ensures.count
+      c.write_block.ensures.block c.view.ensures.entries c.row.ensures.entries c.scale_add.ensures.gained;
 }
 
 pub returns-clause-value : goal.returns-clause-value
-returns-clause-value c h =
-    sum-end c.args.algebra.now h c.args.rank c.args.rows.now.rows (entries_of c.args.v) c.loop-k.out.entries c.loop-k.k c.requires.argument
-    (omega (arith, c.loop-k-test.false, c.rows-k-end.ensures.count, c.loop-k.auto.k-end)) (c.loop-k.invariant.sum h)
+returns-clause-value c =
+    sum-end c.args.algebra.now c.args.rank c.args.rows.now.rows (entries_of c.args.v) c.loop-k.out.entries c.loop-k.k c.requires.argument
+    (omega (arith, c.loop-k-test.false, c.rows-k-end.ensures.count, c.loop-k.auto.k-end)) c.loop-k.invariant.sum

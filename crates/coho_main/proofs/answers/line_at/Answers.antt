@@ -1,12 +1,11 @@
 use Rattle.std.proofs.Common.{sym, subst}
-use Rattle.group_algebra.specs.PGroups.{IsPGroup}
 use Rattle.min_res.specs.Defined.{IsStageAt}
 use Rattle.coho_main.specs.Stages.{HasRows}
 use Rattle.coho_main.proofs.StageRows.{has_rows, line_of}
 use Rattle.coho_main.proofs.answers.line_at.Goals as goal
 
 pub stage_line-requires : goal.stage_line-requires
-stage_line-requires c = subst HasRows (sym c.deref.ensures) (has_rows c.args.resolution.now.group c.requires.group c.args.d c.in-Some.stage.now.value (c.in-Some.ensures.stage c.requires.group))
+stage_line-requires c = subst HasRows (sym c.deref.ensures) (has_rows c.args.resolution.now.group c.args.d c.in-Some.stage.now.value c.in-Some.ensures.stage)
 
 pub returns : goal.returns
-returns c = line_of c.args.resolution.now.group c.args.d c.deref.result.now (subst (λ s. (h : IsPGroup c.args.resolution.now.group) → IsStageAt c.args.resolution.now.group h c.args.d s) (sym c.deref.ensures) c.in-Some.ensures.stage) c.stage_line.result c.stage_line.ensures
+returns c = line_of c.args.resolution.now.group c.args.d c.deref.result.now (subst (IsStageAt c.args.resolution.now.group c.args.d) (sym c.deref.ensures) c.in-Some.ensures.stage) c.stage_line.result c.stage_line.ensures

@@ -5,8 +5,8 @@ use Rattle.coho_main.proofs.Sizes.{sizes_next}
 use Rattle.coho_main.proofs.layers.layer_sizes.Goals as goal
 
 pub loop-i-preserved : goal.loop-i-preserved
-loop-i-preserved c = λ h.
+loop-i-preserved c =
     c.in_ok-push.ensures.items
-    ∙ ap (λ xs. xs ++ c.layer_dim.result ∷ []) (c.loop-i.invariant h)
-    ∙ ap (λ d. sizes_from (layers c.args.algebra.now h).positions 0 c.loop-i.i ++ d ∷ []) (c.layer_dim.ensures h)
-    ∙ sym (sizes_next (layers c.args.algebra.now h).positions c.loop-i.i)
+    ∙ ap (λ xs. xs ++ c.layer_dim.result ∷ []) c.loop-i.invariant
+    ∙ ap (λ d. sizes_from (layers c.args.algebra.now).positions 0 c.loop-i.i ++ d ∷ []) c.layer_dim.ensures
+    ∙ sym (sizes_next (layers c.args.algebra.now).positions c.loop-i.i)

@@ -1,7 +1,7 @@
 use Rattle.std.proofs.Common.{◌≡◌, ◌∙◌, ◌+◌, suc, sym, ap, subst, arith}
 use Rattle.std.proofs.lemmas.Result.{err_from_is_err_and}
-use Rattle.group_algebra.specs.PGroups.{IsPGroup, largest_residue}
-use Rattle.group_table.specs.Tables.{GroupTable, order}
+use Rattle.group_algebra.specs.PGroups.{PGroup, largest_residue}
+use Rattle.group_table.specs.Tables.{order}
 use Rattle.ring_present.specs.Values.{generators_of}
 use Rattle.coho_report.specs.Reports.{ranks_below}
 use Rattle.coho_report.proofs.Composing.{degrees_are, relations_over}
@@ -15,21 +15,20 @@ returns-in_err-ring-clause-refused c =
 pub invariant_of-result : goal.invariant_of-result
 invariant_of-result c =
     let ring = c.in_ok-ring.ring in
-    let h : IsPGroup c.args.res.now.group = subst IsPGroup c.algebra.ensures c.group.ensures.law in
-    relations_over c.args.res.now.group h c.args.n ring.prime ring.generators ring.relations c.in_ok-ring.ensures.prime (c.in_ok-ring.ensures.presentation h)
+    relations_over c.args.res.now.group c.args.n ring.prime ring.generators ring.relations c.in_ok-ring.ensures.prime c.in_ok-ring.ensures.presentation
 
 pub returns-clause-report : goal.returns-clause-report
-returns-clause-report c = λ h.
+returns-clause-report c =
     let G = c.args.res.now.group in
     let ring = c.in_ok-ring.ring in
     let q = largest_residue G in
     let next : c.args.n + 1 ≡ suc c.args.n = omega arith in
     record {
       prime = c.in_ok-ring.ensures.prime;
-      order_is = c.order-order.ensures.value ∙ ap order (c.group.ensures.value ∙ c.algebra.ensures);
+      order_is = c.order-order.ensures.value ∙ ap (λ (G : PGroup). order G.table) (c.group.ensures ∙ c.algebra.ensures);
       degree = c.in_ok-ring.ensures.degree;
-      ranks = c.in_ok-ranks.ensures h ∙ ap (ranks_below G h) next;
+      ranks = c.in_ok-ranks.ensures ∙ ap (ranks_below G) next;
       generators = generators_of q ring.generators;
       degrees_are = sym (degrees_are q ring.generators);
-      presentation = c.in_ok-ring.ensures.presentation h;
+      presentation = c.in_ok-ring.ensures.presentation;
     }

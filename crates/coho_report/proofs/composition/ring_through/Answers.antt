@@ -18,14 +18,14 @@ returns-in_err-add_degree-clause-refused c =
     let p = err_from_is_err_and c.from_residual.result c.from_residual.ensures.1 in
     let cap = c.args.cap in
     let below : k < c.args.n = omega arith in
-    rw p.1 (λ h. subst (λ e. IsRefusal G h c.args.n cap (passed_up e)) (sym p.2)
-    (refused G h k c.args.n cap c.in_err-add_degree.field-0.0 below (c.loop-d.invariant.few h)
-    (subst (λ d. ring.IsRefusal G h (suc d) cap c.in_err-add_degree.field-0.0) c.loop-d.invariant.degree (c.in_err-add_degree.ensures.refused h))))
+    rw p.1 (subst (λ e. IsRefusal G c.args.n cap (passed_up e)) (sym p.2)
+    (refused G k c.args.n cap c.in_err-add_degree.field-0.0 below c.loop-d.invariant.few
+    (subst (λ d. ring.IsRefusal G (suc d) cap c.in_err-add_degree.field-0.0) c.loop-d.invariant.degree c.in_err-add_degree.ensures.refused)))
 
 pub returns-clause-few : goal.returns-clause-few
 returns-clause-few c =
     let same : c.loop-d._d ≡ c.args.n = omega arith in
-    λ h. subst (λ k. HasFewMonomials c.args.res.now.group h k c.args.cap) same (c.loop-d.invariant.few h)
+    subst (λ k. HasFewMonomials c.args.res.now.group k c.args.cap) same c.loop-d.invariant.few
 
 pub loop-d-preserved : goal.loop-d-preserved
 loop-d-preserved c =
@@ -42,7 +42,7 @@ loop-d-preserved c =
       prime = added.prime;
       group = subst (λ o. IfSome o (λ H. H ≡ G)) (sym added.group) refl;
       degree = degree;
-      presentation = λ h. subst (λ n. IsPresentation G h n (generators_of (largest_residue G) new.generators) new.relations) degree (added.presentation h);
-      few = λ h. few_next G h k c.args.cap old.generators old.relations (before.presentation h) (before.few h)
+      presentation = subst (λ n. IsPresentation G n (generators_of (largest_residue G) new.generators) new.relations) degree added.presentation;
+      few = few_next G k c.args.cap old.generators old.relations before.presentation before.few
           (λ ms M. added.counted ms (subst (λ d. IsMonomials (largest_residue G) (map (λ g. g.degree) old.generators) (suc d) ms) (sym e) M));
     }

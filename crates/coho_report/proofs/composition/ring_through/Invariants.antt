@@ -1,6 +1,6 @@
 use Rattle.std.proofs.Common.{◌≡◌}
 use Rattle.std.specs.Prelude.{IfSome}
-use Rattle.group_algebra.specs.PGroups.{IsPGroup, largest_residue}
+use Rattle.group_algebra.specs.PGroups.{largest_residue}
 use Rattle.ring_present.specs.Rings.{IsPresentation}
 use Rattle.ring_present.specs.Values.{generators_of}
 use Rattle.coho_report.specs.Reports.{HasFewMonomials}
@@ -8,9 +8,9 @@ use Rattle.coho_report.proofs.composition.ring_through.Given as goal
 
 abbrev pub invariant-loop-d : goal.invariant-loop-d
 invariant-loop-d l = record {
-  prime : l.ring.prime ≡ l.res.group.p;
+  prime : l.ring.prime ≡ l.res.group.table.p;
   group : IfSome l.ring.group (λ G. G ≡ l.res.group);
   degree : l.ring.degree ≡ l._d;
-  presentation : (h : IsPGroup l.res.group) → IsPresentation l.res.group h l._d (generators_of (largest_residue l.res.group) l.ring.generators) l.ring.relations;
-  few : (h : IsPGroup l.res.group) → HasFewMonomials l.res.group h l._d l.cap;
+  presentation : IsPresentation l.res.group l._d (generators_of (largest_residue l.res.group) l.ring.generators) l.ring.relations;
+  few : HasFewMonomials l.res.group l._d l.cap;
 }

@@ -1,8 +1,10 @@
-use Rattle.std.proofs.Common.{take}
-use Rattle.group_table.specs.Prime.{prime_value}
+use Rattle.std.proofs.Common.{◌≡◌, length, take}
 use Rattle.linear_algebra.specs.Choices.{ArePreimages}
-use Rattle.fp_rows.specs.Lists.{lists}
 use Rattle.fp_rows.proofs.solutions.preimages.Given as goal
 
-abbrev pub invariant-loop-target : goal.invariant-loop-target
-invariant-loop-target l = ArePreimages (prime_value l.m-inside.prime) (lists l.m-inside.rows.items) l.free.rows (take l.target-index (lists l.target-items)) (lists l.rows.items)
+abbrev pub invariant-loop-i : goal.invariant-loop-i
+invariant-loop-i l = record {
+  prime : l.rows.p ≡ l.m.p;
+  width : l.rows.width ≡ length l.m.rows;
+  done : ArePreimages l.m.p l.m.rows l.free.rows (take l.i l.targets.rows) l.rows.rows;
+}

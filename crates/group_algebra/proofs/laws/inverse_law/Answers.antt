@@ -1,32 +1,32 @@
 use Rattle.std.proofs.Common.{◌≡◌, ℕ, suc, ◌*◌, List, arith, ap, sym, ◌∙◌}
 use Rattle.std.proofs.Math.Nat.{mod-eq_of_lt}
 use mathlib.Core.Path.{subst}
-use Rattle.group_table.specs.Tables.{GroupTable, order}
+use Rattle.group_table.specs.Tables.{order}
 use Rattle.linear_algebra.specs.Rows.{entry, IsRow}
 use Rattle.group_modules.specs.Field.{residue}
-use Rattle.group_algebra.specs.PGroups.{IsPGroup, largest_residue}
+use Rattle.group_algebra.specs.PGroups.{PGroup, largest_residue}
 use Rattle.group_algebra.specs.Coordinates.{layer_coordinates, free_module, table_of, AreCoefficients}
 use Rattle.group_algebra.specs.Inverse.{AreLayersOf, AreCoefficientsOf}
 use Rattle.group_algebra.proofs.Members.{residue-row, same-coefficients}
 use Rattle.group_algebra.proofs.laws.inverse_law.Goals as goal
 
-module _ (G : GroupTable) (h : IsPGroup G) where
+module _ (G : PGroup) where
   -- the member with these coefficients
-  abbrev member_of : List ℕ → (free_module G h 1).of
+  abbrev member_of : List ℕ → (free_module G 1).of
   member_of a z g = residue (largest_residue G) (entry a g.0)
 
-  has-coefficients : (a : List ℕ) → IsRow G.p (order G) a → AreCoefficients G h a (member_of a)
-  has-coefficients a r = record { is_row = r; each = λ g. sym (mod-eq_of_lt ((residue-row G h r).below g.0 g.1)) }
+  has-coefficients : (a : List ℕ) → IsRow G.table.p (order G.table) a → AreCoefficients G a (member_of a)
+  has-coefficients a r = record { is_row = r; each = λ g. sym (mod-eq_of_lt ((residue-row G r).below g.0 g.1)) }
 
-  back-again : (a x b : List ℕ) → IsRow G.p (order G) a → AreLayersOf G h a x → AreCoefficientsOf G h x b → b ≡ a
-  back-again a x b r L C = same-coefficients G h b a (member_of a) (subst (AreCoefficients G h b) same C) (has-coefficients a r)
+  back-again : (a x b : List ℕ) → IsRow G.table.p (order G.table) a → AreLayersOf G a x → AreCoefficientsOf G x b → b ≡ a
+  back-again a x b r L C = same-coefficients G b a (member_of a) (subst (AreCoefficients G b) same C) (has-coefficients a r)
     where
-      same : table_of G h 1 x ≡ member_of a
-      same = ap (table_of G h 1) (L (member_of a) (has-coefficients a r)) ∙ (layer_coordinates G h 1).table-row (member_of a)
+      same : table_of G 1 x ≡ member_of a
+      same = ap (table_of G 1) (L (member_of a) (has-coefficients a r)) ∙ (layer_coordinates G 1).table-row (member_of a)
 
-  forth-again : (x a y : List ℕ) → IsRow G.p (order G) x → AreCoefficientsOf G h x a → AreLayersOf G h a y → y ≡ x
-  forth-again x a y r C L = L (table_of G h 1 x) C ∙ (layer_coordinates G h 1).row-table x
-      (subst (λ w. IsRow (suc (largest_residue G)) w x) (let z : order G ≡ order G * 1 = omega arith in z) (residue-row G h r))
+  forth-again : (x a y : List ℕ) → IsRow G.table.p (order G.table) x → AreCoefficientsOf G x a → AreLayersOf G a y → y ≡ x
+  forth-again x a y r C L = L (table_of G 1 x) C ∙ (layer_coordinates G 1).row-table x
+      (subst (λ w. IsRow (suc (largest_residue G)) w x) (let z : order G.table ≡ order G.table * 1 = omega arith in z) (residue-row G r))
 
 pub returns : goal.returns
-returns c G h = record { back = back-again G h; forth = forth-again G h }
+returns c G = record { back = back-again G; forth = forth-again G }

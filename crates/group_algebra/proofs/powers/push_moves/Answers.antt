@@ -14,28 +14,28 @@ use Rattle.group_algebra.proofs.powers.push_moves.Goals as goal
 
 pub loop-i-preserved : goal.loop-i-preserved
 loop-i-preserved c =
-    let p : prime_value c.prime-p.result ≡ c.args.group.now.p = c.loop-i.invariant.0 in
+    let p : prime_value c.prime-p.result ≡ c.args.group.now.table.p = c.loop-i.invariant.0 in
     let inside : c.loop-i.i < length c.args.list.now.rows = omega (arith, c.rows-i-end.ensures.count, c.loop-i-test.true) in
-    let len : length (entries_of c.row.result) ≡ order c.args.group.now = ap length c.row.ensures.entries ∙ c.row.ensures.is_row.length_is ∙ c.requires.same_width.0 in
-    let S : AreSumCoordinates c.args.group.now.p (order c.args.group.now) c.write_coefficients.new.out.entries (row c.args.list.now.rows c.loop-i.i)
+    let len : length (entries_of c.row.result) ≡ order c.args.group.now.table = ap length c.row.ensures.entries ∙ c.row.ensures.is_row.length_is ∙ c.requires.same_width.0 in
+    let S : AreSumCoordinates c.args.group.now.table.p (order c.args.group.now.table) c.write_coefficients.new.out.entries (row c.args.list.now.rows c.loop-i.i)
     = rw (p, len, c.row.ensures.entries) at c.write_coefficients.ensures.coefficients in (
       p,
       (c.write_coefficients.ensures.prime ∙ c.loop-i.invariant.1.0, c.write_move.ensures.primes.0 ∙ c.loop-i.invariant.1.1, c.write_move.ensures.primes.1 ∙ c.loop-i.invariant.1.2),
       (S.coefficients.length_is, c.write_move.ensures.lengths.0, c.write_move.ensures.lengths.1),
       (ap (λ m. m.p) c.in_ok-push.ensures.pushed ∙ c.loop-i.invariant.3.0, ap (λ m. m.width) c.in_ok-push.ensures.pushed ∙ c.loop-i.invariant.3.1),
-      λ h b.
-          let C : AreCoefficients c.args.group.now h (entries_of c.view.result) ((sum_coordinates c.args.group.now h).table (row c.args.list.now.rows c.loop-i.i))
-          = rw c.view.ensures.entries (coefficients-of c.args.group.now h c.write_coefficients.new.out.entries (row c.args.list.now.rows c.loop-i.i) S) in
+      λ b.
+          let C : AreCoefficients c.args.group.now (entries_of c.view.result) ((sum_coordinates c.args.group.now).table (row c.args.list.now.rows c.loop-i.i))
+          = rw c.view.ensures.entries (coefficients-of c.args.group.now c.write_coefficients.new.out.entries (row c.args.list.now.rows c.loop-i.i) S) in
           ap (λ m. m.rows) c.in_ok-push.ensures.pushed
-          ∙ ap (λ rows. rows ++ entries_of c.view-in-loop-i.result ∷ []) (c.loop-i.invariant.4 h b)
-          ∙ pushed-image c.args.m.now.rows (move_row (group_of c.args.group.now h) (free_module c.args.group.now h 1) (sum_coordinates c.args.group.now h) (c.args.g, b))
+          ∙ ap (λ rows. rows ++ entries_of c.view-in-loop-i.result ∷ []) (c.loop-i.invariant.4 b)
+          ∙ pushed-image c.args.m.now.rows (move_row (group_of c.args.group.now) (free_module c.args.group.now 1) (sum_coordinates c.args.group.now) (c.args.g, b))
           c.args.list.now.rows c.loop-i.i (entries_of c.view-in-loop-i.result) inside
-          (c.view-in-loop-i.ensures.entries ∙ c.write_move.ensures.difference h b ((sum_coordinates c.args.group.now h).table (row c.args.list.now.rows c.loop-i.i)) C),
+          (c.view-in-loop-i.ensures.entries ∙ c.write_move.ensures.difference b ((sum_coordinates c.args.group.now).table (row c.args.list.now.rows c.loop-i.i)) C),
     )
 
 pub returns-clause-moves : goal.returns-clause-moves
-returns-clause-moves c h b =
-    c.loop-i.invariant.4 h b
-    ∙ ap (λ rows. c.args.m.now.rows ++ map (move_row (group_of c.args.group.now h) (free_module c.args.group.now h 1) (sum_coordinates c.args.group.now h) (c.args.g, b)) rows)
+returns-clause-moves c b =
+    c.loop-i.invariant.4 b
+    ∙ ap (λ rows. c.args.m.now.rows ++ map (move_row (group_of c.args.group.now) (free_module c.args.group.now 1) (sum_coordinates c.args.group.now) (c.args.g, b)) rows)
     (ap (λ i. take i c.args.list.now.rows) (let e : c.loop-i.i ≡ length c.args.list.now.rows = omega (arith, c.rows-i-end.ensures.count, c.loop-i-test.false, c.loop-i.auto.i-end) in e)
     ∙ take-length c.args.list.now.rows)

@@ -6,8 +6,8 @@ use Rattle.group_algebra.proofs.powers.whole_list.Given as goal
 
 abbrev pub invariant-loop-i : goal.invariant-loop-i
 invariant-loop-i l =
-    ((l.m.p ≡ l.group.p) × (l.m.width ≡ order l.group))
-    × ((l.unit.p ≡ l.group.p) × (l.unit.entries ≡ replicate (order l.group) 0))
-    × (l.n ≡ order l.group)
+    ((l.m.p ≡ l.group.table.p) × (l.m.width ≡ order l.group.table))
+    × ((l.unit.p ≡ l.group.table.p) × (l.unit.entries ≡ replicate (order l.group.table) 0))
+    × (l.n ≡ order l.group.table)
     × (length l.m.rows ≡ l.i)
-    × ((k : ℕ) → k < l.i → row l.m.rows k ≡ unit_row (order l.group) k)
+    × ((k : ℕ) → k < l.i → row l.m.rows k ≡ unit_row (order l.group.table) k)

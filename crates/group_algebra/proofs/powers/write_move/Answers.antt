@@ -9,19 +9,19 @@ use Rattle.group_algebra.proofs.powers.write_move.Goals as goal
 
 pub write_sum_coordinates-requires-clause-same_length : goal.write_sum_coordinates-requires-clause-same_length
 write_sum_coordinates-requires-clause-same_length c = c.requires.same_length.1 ∙ sym (ap length c.view.ensures.entries ∙ rw c.add.ensures (length-add_multiple _ _ _ _)
-    ∙ c.write_translate.ensures.translate.is_row.length_is)
+    ∙ (rw c.as_group.ensures at c.write_translate.ensures.translate).is_row.length_is)
 
 pub returns-clause-lengths : goal.returns-clause-lengths
 returns-clause-lengths c =
-    let e : length c.add.new.self.entries ≡ order c.args.group.now = rw c.add.ensures (length-add_multiple _ _ _ _) ∙ c.write_translate.ensures.translate.is_row.length_is in
+    let e : length c.add.new.self.entries ≡ order c.args.group.now.table = rw c.add.ensures (length-add_multiple _ _ _ _) ∙ (rw c.as_group.ensures at c.write_translate.ensures.translate).is_row.length_is in
     (e, c.write_sum_coordinates.ensures.coordinates.coordinates.length_is ∙ ap length c.view.ensures.entries ∙ e)
 
 pub returns-clause-difference : goal.returns-clause-difference
-returns-clause-difference c h l v C =
-    let p : c.write_translate.new.out.p ≡ c.args.group.now.p = c.write_translate.ensures.prime ∙ c.requires.same_prime.0 in
-    let r : c.value.result ≡ c.args.group.now.p = c.value.ensures ∙ c.prime-p.ensures in
-    let e : c.add.new.self.entries ≡ add_multiple c.args.group.now.p (c.args.group.now.p - 1) c.write_translate.new.out.entries (entries_of c.args.a) = rw (c.add.ensures, p, r) in
-    let len : length (entries_of c.view.result) ≡ order c.args.group.now = ap length (c.view.ensures.entries ∙ e) ∙ length-add_multiple _ _ _ _ ∙ c.write_translate.ensures.translate.is_row.length_is in
-    let S : AreSumCoordinates c.args.group.now.p (order c.args.group.now) (entries_of c.view.result) c.write_sum_coordinates.new.out.entries = rw (c.prime-p.ensures, len) at c.write_sum_coordinates.ensures.coordinates in
-    move-is c.args.group.now h (c.args.g, l) (entries_of c.args.a) c.write_translate.new.out.entries (entries_of c.view.result) c.write_sum_coordinates.new.out.entries v
-    c.write_translate.ensures.translate (c.view.ensures.entries ∙ e) S C
+returns-clause-difference c l v C =
+    let p : c.write_translate.new.out.p ≡ c.args.group.now.table.p = c.write_translate.ensures.prime ∙ c.requires.same_prime.0 in
+    let r : c.value.result ≡ c.args.group.now.table.p = c.value.ensures ∙ c.prime-p.ensures in
+    let e : c.add.new.self.entries ≡ add_multiple c.args.group.now.table.p (c.args.group.now.table.p - 1) c.write_translate.new.out.entries (entries_of c.args.a) = rw (c.add.ensures, p, r) in
+    let len : length (entries_of c.view.result) ≡ order c.args.group.now.table = ap length (c.view.ensures.entries ∙ e) ∙ length-add_multiple _ _ _ _ ∙ (rw c.as_group.ensures at c.write_translate.ensures.translate).is_row.length_is in
+    let S : AreSumCoordinates c.args.group.now.table.p (order c.args.group.now.table) (entries_of c.view.result) c.write_sum_coordinates.new.out.entries = rw (c.prime-p.ensures, len) at c.write_sum_coordinates.ensures.coordinates in
+    move-is c.args.group.now (c.args.g, l) (entries_of c.args.a) c.write_translate.new.out.entries (entries_of c.view.result) c.write_sum_coordinates.new.out.entries v
+    (rw c.as_group.ensures at c.write_translate.ensures.translate) (c.view.ensures.entries ∙ e) S C

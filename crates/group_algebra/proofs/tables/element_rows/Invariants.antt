@@ -6,9 +6,9 @@ use Rattle.group_algebra.proofs.tables.element_rows.Given as goal
 
 abbrev pub invariant-loop-g : goal.invariant-loop-g
 invariant-loop-g l =
-    ((prime_value l.p ≡ l.group.p) × (l.n ≡ order l.group))
+    ((prime_value l.p ≡ l.group.table.p) × (l.n ≡ order l.group.table))
     × HasShape l.group l.g l.m
-    × ((l.a.p ≡ l.group.p) × (l.a.entries ≡ replicate (order l.group) 0))
-    × ((l.sums.p ≡ l.group.p) × (length l.sums.entries ≡ order l.group))
-    × ((l.out.p ≡ l.group.p) × (length l.out.entries ≡ order l.group))
+    × ((l.a.p ≡ l.group.table.p) × (l.a.entries ≡ replicate (order l.group.table) 0))
+    × ((l.sums.p ≡ l.group.table.p) × (length l.sums.entries ≡ order l.group.table))
+    × ((l.out.p ≡ l.group.table.p) × (length l.out.entries ≡ order l.group.table))
     × EachRow (IsElementRow l.group) l.m.rows

@@ -8,7 +8,7 @@ use Rattle.group_algebra.proofs.tables.member_rows.Given as goal
 
 abbrev pub invariant-loop-k : goal.invariant-loop-k
 invariant-loop-k l =
-    ((prime_value l.p ≡ l.group.p) × (l.n ≡ order l.group))
+    ((prime_value l.p ≡ l.group.table.p) × (l.n ≡ order l.group.table))
     × HasShape l.group l.k l.m
-    × ((l.a.p ≡ l.group.p) × (length l.a.entries ≡ order l.group))
-    × EachRow (λ i x. AreSumCoordinates l.group.p (order l.group) x (row l.basis.rows i)) l.m.rows
+    × ((l.a.p ≡ l.group.table.p) × (length l.a.entries ≡ order l.group.table))
+    × EachRow (λ i x. AreSumCoordinates l.group.table.p (order l.group.table) x (row l.basis.rows i)) l.m.rows

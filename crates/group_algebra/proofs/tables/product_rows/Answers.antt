@@ -10,20 +10,20 @@ use Rattle.group_algebra.proofs.tables.product_rows.Goals as goal
 
 pub loop-i-preserved : goal.loop-i-preserved
 loop-i-preserved c =
-    let n : c.order-n.result ≡ order c.args.group.now = c.loop-i.invariant.0.0 in
-    let some : 0 < order c.args.group.now = c.order-n.ensures.law.some in
-    let inside : c.loop-i.i < order c.args.group.now * order c.args.group.now = rw n at c.loop-i-test.true in
-    let s : (c.loop-i.i ≡ c.loop-i.i / order c.args.group.now * order c.args.group.now + c.loop-i.i % order c.args.group.now)
-    × (c.loop-i.i / order c.args.group.now < order c.args.group.now) × (c.loop-i.i % order c.args.group.now < order c.args.group.now)
-    = split (order c.args.group.now) c.loop-i.i some inside in
-    let C : GainsCombination c.args.group.now.p (row c.args.members.now.rows (c.loop-i.i / order c.args.group.now))
-    (stepped c.args.translates.now.rows (c.loop-i.i % order c.args.group.now * order c.args.group.now) 1) (replicate (order c.args.group.now) 0) c.write_combination.new.out.entries
+    let n : c.order-n.result ≡ order c.args.group.now.table = c.loop-i.invariant.0.0 in
+    let some : 0 < order c.args.group.now.table = c.args.group.now.law.law.some in
+    let inside : c.loop-i.i < order c.args.group.now.table * order c.args.group.now.table = rw n at c.loop-i-test.true in
+    let s : (c.loop-i.i ≡ c.loop-i.i / order c.args.group.now.table * order c.args.group.now.table + c.loop-i.i % order c.args.group.now.table)
+    × (c.loop-i.i / order c.args.group.now.table < order c.args.group.now.table) × (c.loop-i.i % order c.args.group.now.table < order c.args.group.now.table)
+    = split (order c.args.group.now.table) c.loop-i.i some inside in
+    let C : GainsCombination c.args.group.now.table.p (row c.args.members.now.rows (c.loop-i.i / order c.args.group.now.table))
+    (stepped c.args.translates.now.rows (c.loop-i.i % order c.args.group.now.table * order c.args.group.now.table) 1) (replicate (order c.args.group.now.table) 0) c.write_combination.new.out.entries
     = rw (c.loop-i.invariant.2.0, c.row.ensures.entries, c.requires.translates.width, n) at c.write_combination.ensures.combination in (
       c.loop-i.invariant.0,
       shape-pushed c.args.group.now c.loop-i.i c.loop-i.m c.push.new.self (entries_of c.view.result) c.loop-i.invariant.1 c.in_ok-push.ensures.pushed,
-      (c.write_combination.ensures.prime ∙ c.loop-i.invariant.2.0, (gained-row (order c.args.group.now) _ _ _ C).length_is),
+      (c.write_combination.ensures.prime ∙ c.loop-i.invariant.2.0, (gained-row (order c.args.group.now.table) _ _ _ C).length_is),
       rw c.in_ok-push.ensures.pushed (each-pushed (IsProductRow c.args.group.now) c.loop-i.m.rows (entries_of c.view.result) c.loop-i.invariant.3
           (rw (c.loop-i.invariant.1.rows, c.view.ensures.entries)
-          (product-of-members c.args.group.now c.args.members.now.rows c.args.translates.now.rows c.loop-i.i (c.loop-i.i / order c.args.group.now) (c.loop-i.i % order c.args.group.now)
+          (product-of-members c.args.group.now c.args.members.now.rows c.args.translates.now.rows c.loop-i.i (c.loop-i.i / order c.args.group.now.table) (c.loop-i.i % order c.args.group.now.table)
           c.write_combination.new.out.entries c.requires.member_rows c.requires.translates.rows c.requires.translate_rows s.0 s.2 C))),
     )

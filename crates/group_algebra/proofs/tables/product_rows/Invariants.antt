@@ -5,7 +5,7 @@ use Rattle.group_algebra.proofs.tables.product_rows.Given as goal
 
 abbrev pub invariant-loop-i : goal.invariant-loop-i
 invariant-loop-i l =
-    ((l.n ≡ order l.group) × (l.n ≤ 256))
+    ((l.n ≡ order l.group.table) × (l.n ≤ 256))
     × HasShape l.group l.i l.m
-    × ((l.out.p ≡ l.group.p) × (length l.out.entries ≡ order l.group))
+    × ((l.out.p ≡ l.group.table.p) × (length l.out.entries ≡ order l.group.table))
     × EachRow (IsProductRow l.group) l.m.rows

@@ -5,8 +5,8 @@ use Rattle.group_algebra.proofs.tables.translate_rows.Given as goal
 
 abbrev pub invariant-loop-i : goal.invariant-loop-i
 invariant-loop-i l =
-    ((l.n ≡ order l.group) × (l.n ≤ 256))
+    ((l.n ≡ order l.group.table) × (l.n ≤ 256))
     × HasShape l.group l.i l.m
-    × ((l.moved.p ≡ l.group.p) × (length l.moved.entries ≡ order l.group))
-    × ((l.out.p ≡ l.group.p) × (length l.out.entries ≡ order l.group))
+    × ((l.moved.p ≡ l.group.table.p) × (length l.moved.entries ≡ order l.group.table))
+    × ((l.out.p ≡ l.group.table.p) × (length l.out.entries ≡ order l.group.table))
     × EachRow (IsTranslateRow l.group) l.m.rows

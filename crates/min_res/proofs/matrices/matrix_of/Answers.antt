@@ -9,9 +9,9 @@ use Rattle.min_res.proofs.matrices.matrix_of.Goals as goal
 
 pub loop-j-preserved : goal.loop-j-preserved
 loop-j-preserved c =
-    let cleared : c.clear.new.self.entries ≡ replicate (order c.args.algebra.now * length c.args.positions.now) 0 =
+    let cleared : c.clear.new.self.entries ≡ replicate (order c.args.algebra.now.table * length c.args.positions.now) 0 =
     ap (λ (x : RowValue). x.entries) c.clear.ensures ∙ ap (λ n. replicate n 0) c.loop-j.invariant.unit_length in
-    let unit : c.set.new.self.entries ≡ unit_row (order c.args.algebra.now * length c.args.positions.now) c.loop-j.j =
+    let unit : c.set.new.self.entries ≡ unit_row (order c.args.algebra.now.table * length c.args.positions.now) c.loop-j.j =
     ap (λ (x : RowValue). x.entries) c.set.ensures ∙ ap (λ (x : List ℕ). set x c.loop-j.j 1) cleared in
     let pushed : c.push.new.self.rows ≡ c.loop-j.matrix.rows ++ _ ∷ [] = ap (λ (x : MatrixValue). x.rows) c.in_ok-push.ensures.pushed in
     record {
@@ -24,6 +24,6 @@ loop-j-preserved c =
       matrix_prime = ap (λ (x : MatrixValue). x.p) c.in_ok-push.ensures.pushed ∙ c.loop-j.invariant.matrix_prime;
       matrix_width = ap (λ (x : MatrixValue). x.width) c.in_ok-push.ensures.pushed ∙ c.loop-j.invariant.matrix_width;
       count = ap (λ (x : List (List ℕ)). length x) pushed ∙ length_push c.loop-j.matrix.rows _ ∙ ap (λ n. n + 1) c.loop-j.invariant.count;
-      each = λ h. rows-step (order c.args.algebra.now * length c.args.positions.now) c.loop-j.j (value_row c.args.algebra.now h c.args.target c.args.list.now.rows c.args.positions.now)
-          c.loop-j.matrix.rows _ _ _ _ c.loop-j.invariant.count (c.loop-j.invariant.each h) (c.write_value.ensures.value h) (c.view.ensures.entries ∙ unit) c.view-in-loop-j.ensures.entries pushed;
+      each = rows-step (order c.args.algebra.now.table * length c.args.positions.now) c.loop-j.j (value_row c.args.algebra.now c.args.target c.args.list.now.rows c.args.positions.now)
+          c.loop-j.matrix.rows _ _ _ _ c.loop-j.invariant.count c.loop-j.invariant.each c.write_value.ensures.value (c.view.ensures.entries ∙ unit) c.view-in-loop-j.ensures.entries pushed;
     }

@@ -1,14 +1,13 @@
 use Rattle.std.proofs.Common.{refl, subst}
-use Rattle.group_algebra.specs.PGroups.{IsPGroup}
+use Rattle.group_algebra.specs.PGroups.{PGroup}
 use Rattle.ring_present.proofs.RelationsOver.{relations-over}
 use Rattle.ring_present.proofs.tests.presented.Goals as goal
 
 pub loop-d-preserved : goal.loop-d-preserved
 loop-d-preserved g c =
-    let h : IsPGroup c.args.resolution.now.group = subst IsPGroup c.algebra.ensures c.group.ensures.law in
     let grown = c.in_ok-add_degree.ensures in
     let ring = c.add_degree.new.self in
     record {
       group = rw grown.group refl;
-      over = relations-over c.args.resolution.now.group h ring.degree ring.prime ring.generators ring.relations grown.prime (grown.presentation h);
+      over = relations-over c.args.resolution.now.group ring.degree ring.prime ring.generators ring.relations grown.prime (grown.presentation);
     }

@@ -1,9 +1,8 @@
 use Rattle.std.proofs.Common.{◌≡◌, ◌+◌, ◌^◌, ◌<◌, ℕ, suc, arith, ap, ap₂, sym, ◌∙◌}
 use mathlib.Core.Path.{subst}
-use Rattle.group_table.specs.Tables.{GroupTable}
 use Rattle.linear_algebra.specs.Rows.{row}
 use Rattle.fp_rows.specs.Values.{MatrixValue}
-use Rattle.group_algebra.specs.PGroups.{IsPGroup}
+use Rattle.group_algebra.specs.PGroups.{PGroup}
 use Rattle.min_res.specs.Defined.{IsStageAt}
 use Rattle.min_res.specs.Values.{StageValue}
 use Rattle.chain_lift.specs.RowMaps.{FitTogether, map_row, image_row, section_of}
@@ -12,12 +11,12 @@ use Rattle.chain_lift.proofs.lift.Lift.next.Goals as goal
 
 pub next_rows-requires : goal.next_rows-requires
 next_rows-requires c =
-    let V : GroupTable = c.args.self.now.group in
+    let V : PGroup = c.args.self.now.group in
     let e : c.algebra-algebra.result.now ≡ V = c.algebra-algebra.ensures ∙ c.requires.group in
-    let A : (h : IsPGroup V) → IsStageAt V h (c.args.self.now.degree + (c.args.self.now.height + 1)) c.deref-3.result.now
+    let A : IsStageAt V (c.args.self.now.degree + (c.args.self.now.height + 1)) c.deref-3.result.now
     = stage-along c.args.res.now.group V c.requires.group _ _ _ _ (ap₂ (λ (x y : ℕ). x + (y + 1)) c.degree.ensures c.height-d.ensures)
     (c.deref-3.ensures ∙ c.in_ok-source.ensures.cases) c.stage_at.ensures in
-    let B : (h : IsPGroup V) → IsStageAt V h (c.args.self.now.height + 1) c.deref-4.result.now
+    let B : IsStageAt V (c.args.self.now.height + 1) c.deref-4.result.now
     = stage-along c.args.res.now.group V c.requires.group _ _ _ _ (ap (λ (y : ℕ). y + 1) c.height-d.ensures) (c.deref-4.ensures
     ∙ c.in_ok-target.ensures.cases) c.stage_at-2.ensures in
     let r : c.rank-rank.result ≡ c.last-before.result.now.target.value.rank = c.rank-rank.ensures
@@ -28,32 +27,32 @@ next_rows-requires c =
     subst (λ G. FitTogether G c.rank-rank.result c.last-before.result.now.rows c.deref-3.result.now c.deref-4.result.now) (sym e)
     (fit V c.args.self.now.degree c.args.self.now.height c.args.self.now.class c.last-before.result.now c.last-before.ensures c.deref-3.result.now
     c.deref-4.result.now A B c.rank-rank.result r
-    (subst IsPGroup e c.group-group.ensures.law) w)
+    w)
 
 pub returns : goal.returns
-returns c h =
-    let V : GroupTable = c.args.self.now.group in
+returns c =
+    let V : PGroup = c.args.self.now.group in
     let e : c.algebra-algebra.result.now ≡ V = c.algebra-algebra.ensures ∙ c.requires.group in
-    let A : (h : IsPGroup V) → IsStageAt V h (c.args.self.now.degree + (c.args.self.now.height + 1)) c.deref-3.result.now
+    let A : IsStageAt V (c.args.self.now.degree + (c.args.self.now.height + 1)) c.deref-3.result.now
     = stage-along c.args.res.now.group V c.requires.group _ _ _ _ (ap₂ (λ (x y : ℕ). x + (y + 1)) c.degree.ensures c.height-d.ensures)
     (c.deref-3.ensures ∙ c.in_ok-source.ensures.cases) c.stage_at.ensures in
-    let B : (h : IsPGroup V) → IsStageAt V h (c.args.self.now.height + 1) c.deref-4.result.now
+    let B : IsStageAt V (c.args.self.now.height + 1) c.deref-4.result.now
     = stage-along c.args.res.now.group V c.requires.group _ _ _ _ (ap (λ (y : ℕ). y + 1) c.height-d.ensures) (c.deref-4.ensures
     ∙ c.in_ok-target.ensures.cases) c.stage_at-2.ensures in
     let r : c.rank-rank.result ≡ c.last-before.result.now.target.value.rank = c.rank-rank.ensures
     ∙ ap (λ (x : StageValue). x.rank) c.deref-2.ensures in
-    let P : GroupTable → Type 0 = λ G. (h : IsPGroup G) (i : ℕ) → i < c.deref-3.result.now.rank
+    let P : PGroup → Type 0 = λ G. (i : ℕ) → i < c.deref-3.result.now.rank
     → row c.in_ok-rows.rows.rows i ≡ section_of c.deref-4.result.now
-    (map_row G h c.rank-rank.result c.last-before.result.now.rows.rows (image_row c.deref-3.result.now i)) in
+    (map_row G c.rank-rank.result c.last-before.result.now.rows.rows (image_row c.deref-3.result.now i)) in
     record {
-      source_is = subst (λ d. IsStageAt V h d c.in_ok-source.source.value)
+      source_is = subst (λ d. IsStageAt V d c.in_ok-source.source.value)
           (let z : c.args.self.now.degree + (c.args.self.now.height + 1) ≡ c.args.self.now.degree + suc c.args.self.now.height = omega arith in z)
-          (subst (λ s. IsStageAt V h (c.args.self.now.degree + (c.args.self.now.height + 1)) s) c.deref-3.ensures (A h));
-      target_is = subst (λ d. IsStageAt V h d c.in_ok-target.target.value)
+          (subst (λ s. IsStageAt V (c.args.self.now.degree + (c.args.self.now.height + 1)) s) c.deref-3.ensures A);
+      target_is = subst (λ d. IsStageAt V d c.in_ok-target.target.value)
           (let z : c.args.self.now.height + 1 ≡ suc c.args.self.now.height = omega arith in z)
-          (subst (λ s. IsStageAt V h (c.args.self.now.height + 1) s) c.deref-4.ensures (B h));
+          (subst (λ s. IsStageAt V (c.args.self.now.height + 1) s) c.deref-4.ensures B);
       rows_are = next-rows-are V c.args.self.now.degree c.args.self.now.height c.args.self.now.class c.last-before.result.now c.last-before.ensures
           c.deref-3.result.now c.deref-4.result.now A B
           c.rank-rank.result r c.in_ok-rows.rows (c.in_ok-rows.ensures.prime
-          ∙ ap (λ (G : GroupTable). G.p) e) c.in_ok-rows.ensures.width c.in_ok-rows.ensures.count (subst P e c.in_ok-rows.ensures.rows) h;
+          ∙ ap (λ (G : PGroup). G.table.p) e) c.in_ok-rows.ensures.width c.in_ok-rows.ensures.count (subst P e c.in_ok-rows.ensures.rows);
     }

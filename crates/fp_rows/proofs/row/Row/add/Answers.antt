@@ -1,27 +1,36 @@
 use Rattle.std.proofs.Common.{◌≡◌, ℕ, ◌<◌, List, length, arith, ap, sym, ◌∙◌}
-use Rattle.std.proofs.lemmas.List.{with_items_is}
-use Rattle.std.specs.Vec.{with_items}
 use mathlib.Core.Path.{subst}
 use Rattle.group_table.specs.Prime.{prime_value}
 use Rattle.linear_algebra.specs.Rows.{entry, add_multiple, IsRow}
 use Rattle.linear_algebra.proofs.Reducing.{add_multiple_is_row}
+use Rattle.fp_rows.specs.Cells.{cells_of}
+use Rattle.fp_rows.specs.Numbers.{numbers_of}
 use Rattle.fp_rows.specs.Values.{RowValue}
 use Rattle.fp_rows.proofs.Primes.{prime_above_one}
 use Rattle.fp_rows.proofs.ListLemmas.{row_at_length}
 use Rattle.fp_rows.proofs.row.Row.add.Goals as goal
 
-pub invariant_of-self : goal.invariant_of-self
-invariant_of-self c = let e : (with_items c.self.inside.items c.add_times.new.dst).items ≡ c.add_times.new.dst =
-    with_items_is c.self.inside.items c.add_times.new.dst (omega (arith, c.add_times.auto.dst, c.deref_mut.ensures.len, c.self.inside.items.ok.0)) in
+pub add-requires-clause-added : goal.add-requires-clause-added
+add-requires-clause-added c =
     let p : ℕ = prime_value c.self.inside.prime in
-    let xs : List ℕ = c.self.inside.items.items in
-    let ys : List ℕ = c.args.r.bytes.now in
-    let positive : 0 < p = (let o = prime_above_one c.self.inside.prime in omega (arith, o)) in
-    let same : length ys ≡ length xs = c.requires.same_length ∙ sym (ap (λ (v : RowValue). length v.entries) c.self.view_is) in
+    let ys : List ℕ = numbers_of c.args.r.numbers in
     let primes : prime_value c.args.r.prime ≡ p = c.requires.same_prime ∙ sym (ap (λ (v : RowValue). v.p) c.self.view_is) in
+    record {
+      length_is = c.requires.same_length ∙ sym (ap (λ (v : RowValue). length v.entries) c.self.view_is);
+      below = λ j l. subst (λ q. entry ys j < q) primes (c.args.r.below j (rw (c.requires.same_length ∙ sym (ap (λ (v : RowValue). length v.entries) c.self.view_is)) l));
+    }
+
+pub invariant_of-self : goal.invariant_of-self
+invariant_of-self c =
+    let p : ℕ = prime_value c.self.inside.prime in
+    let xs : List ℕ = cells_of c.self.inside.cells in
+    let ys : List ℕ = numbers_of c.args.r.numbers in
+    let positive : 0 < p = (let o = prime_above_one c.self.inside.prime in omega (arith, o)) in
+    let primes : prime_value c.args.r.prime ≡ p = c.requires.same_prime ∙ sym (ap (λ (v : RowValue). v.p) c.self.view_is) in
+    let same : length ys ≡ length xs = c.requires.same_length ∙ sym (ap (λ (v : RowValue). length v.entries) c.self.view_is) in
     let r : IsRow p (length xs) ys = record {
       length_is = same;
       below = λ j l. subst (λ q. entry ys j < q) primes (c.args.r.below j (rw same l));
     } in
-    let sum : IsRow p (length (add_multiple p c.args.c xs ys)) (add_multiple p c.args.c xs ys) = row_at_length (add_multiple_is_row c.args.c xs ys positive c.self.invariant r) in
-    rw (e, c.add_times.ensures, c.deref_mut.ensures.value) sum
+    let sum : IsRow p (length (add_multiple p c.args.c xs ys)) (add_multiple p c.args.c xs ys) = row_at_length (add_multiple_is_row c.args.c xs ys positive c.self.invariant.row r) in
+    record { row = rw c.add.ensures.sum sum; packed = c.add.ensures.packed }

@@ -7,13 +7,13 @@ use Rattle.min_res.proofs.StageLaws.{exact-minimal, section-is}
 use Rattle.min_res.proofs.resolution.Resolution.extend.Goals as goal
 
 pub returns-clause-within : goal.returns-clause-within
-returns-clause-within c h = subst (λ n. n ≤ c.args.limit) (ap (λ (m : MatrixValue). m.width) (c.in_ok-stage.ensures.stage h).kernel_is) c.in_ok-stage.ensures.width
+returns-clause-within c = subst (λ n. n ≤ c.args.limit) (ap (λ (m : MatrixValue). m.width) c.in_ok-stage.ensures.stage.kernel_is) c.in_ok-stage.ensures.width
 
 pub returns-clause-exact_minimal : goal.returns-clause-exact_minimal
-returns-clause-exact_minimal c h = exact-minimal c.args.self.now.group h c.args.self.now.last
+returns-clause-exact_minimal c = exact-minimal c.args.self.now.group c.args.self.now.last
 
 pub returns-clause-section : goal.returns-clause-section
-returns-clause-section c h = section-is c.args.self.now.group h c.args.self.now.last
+returns-clause-section c = section-is c.args.self.now.group c.args.self.now.last
 
 pub invariant_of-self-2 : goal.invariant_of-self-2
 invariant_of-self-2 c = grown _ c.args.self.now.group _ c.self.inside.stages.items _ c.args.self.now.last c.args.limit c.in_ok-shared.shared c.in_ok-stage.stage c.self.invariant

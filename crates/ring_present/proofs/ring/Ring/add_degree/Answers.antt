@@ -3,8 +3,7 @@ use Rattle.std.specs.Prelude.{Option}
 use Rattle.std.proofs.lemmas.List.{map-append}
 use Rattle.std.proofs.lemmas.Result.{on_ok_weaker, IfErr-weaker}
 use mathlib.Core.Path.{subst}
-use Rattle.group_table.specs.Tables.{GroupTable}
-use Rattle.group_algebra.specs.PGroups.{IsPGroup}
+use Rattle.group_algebra.specs.PGroups.{PGroup}
 use Rattle.graded_polynomials.specs.Monomials.{IsMonomials}
 use Rattle.graded_polynomials.specs.Polynomials.{Polynomial}
 use Rattle.gc_poly.specs.Generators.{Generators}
@@ -54,24 +53,24 @@ returns-clause-counted c =
     let ds : k.gens.degrees ≡ map (λ (g : GeneratorValue). g.degree) c.args.self.now.generators =
     c.self.invariant.degrees_of_gens ∙ degrees-lifted k.lifts.items ∙ ap (λ (r : RingValue). map (λ (g : GeneratorValue). g.degree) r.generators) c.self.view_is in
     on_ok_weaker c.add_degree.result (λ e ms M. e ms
-    (subst (λ (ds : List ℕ). IsMonomials (c.args.res.now.group.p - 1) ds (suc (length k.degrees.items)) ms) (sym ds)
-    (subst (λ d. IsMonomials (c.args.res.now.group.p - 1) (map (λ (g : GeneratorValue). g.degree) c.args.self.now.generators) (suc d) ms) (sym (ap (λ (r : RingValue). r.degree) c.self.view_is)) M)))
+    (subst (λ (ds : List ℕ). IsMonomials (c.args.res.now.group.table.p - 1) ds (suc (length k.degrees.items)) ms) (sym ds)
+    (subst (λ d. IsMonomials (c.args.res.now.group.table.p - 1) (map (λ (g : GeneratorValue). g.degree) c.args.self.now.generators) (suc d) ms) (sym (ap (λ (r : RingValue). r.degree) c.self.view_is)) M)))
     c.add_degree.ensures.counted
 
 pub returns-clause-refused : goal.returns-clause-refused
 returns-clause-refused c =
-    IfErr-weaker c.add_degree.result (λ f. (h : IsPGroup c.args.res.now.group) → IsRefusal c.args.res.now.group h (suc (length c.self.inside.known.degrees.items)) c.args.cap f)
-    (λ f. (h : IsPGroup c.args.res.now.group) → IsRefusal c.args.res.now.group h (suc c.args.self.now.degree) c.args.cap f)
-    (λ f e h. subst (λ d. IsRefusal c.args.res.now.group h (suc d) c.args.cap f) (ap (λ (r : RingValue). r.degree) c.self.view_is) (e h)) c.add_degree.ensures.refused
+    IfErr-weaker c.add_degree.result (λ f. IsRefusal c.args.res.now.group (suc (length c.self.inside.known.degrees.items)) c.args.cap f)
+    (λ f. IsRefusal c.args.res.now.group (suc c.args.self.now.degree) c.args.cap f)
+    (λ f e. subst (λ d. IsRefusal c.args.res.now.group (suc d) c.args.cap f) (ap (λ (r : RingValue). r.degree) c.self.view_is) (e)) c.add_degree.ensures.refused
 
 -- what is seen of a ring
-abbrev seen : Generators → Option GroupTable → List GeneratorValue → List Polynomial → List Degree → RingValue
+abbrev seen : Generators → Option PGroup → List GeneratorValue → List Polynomial → List Degree → RingValue
 seen g o gs rs Ds = record { prime = g.prime; group = o; degree = length Ds; generators = gs; relations = rs; standard = map (λ (d : Degree). d.standard.monomials) Ds }
 
-same-view : (g g' : Generators) (o o' : Option GroupTable) (ls ls' : List LiftValue) (rs rs' : List Polynomial) (Ds Ds' : List Degree) → g ≡ g' → o ≡ o' → lifted ls ≡ lifted ls' → rs ≡ rs' → Ds ≡ Ds'
+same-view : (g g' : Generators) (o o' : Option PGroup) (ls ls' : List LiftValue) (rs rs' : List Polynomial) (Ds Ds' : List Degree) → g ≡ g' → o ≡ o' → lifted ls ≡ lifted ls' → rs ≡ rs' → Ds ≡ Ds'
     → seen g o (lifted ls) rs Ds ≡ seen g' o' (lifted ls') rs' Ds'
 same-view g g' o o' ls ls' rs rs' Ds Ds' eg eo el er ed =
-    ap (λ (g : Generators). seen g o (lifted ls) rs Ds) eg ∙ ap (λ (o : Option GroupTable). seen g' o (lifted ls) rs Ds) eo ∙ ap (λ (gs : List GeneratorValue). seen g' o' gs rs Ds) el
+    ap (λ (g : Generators). seen g o (lifted ls) rs Ds) eg ∙ ap (λ (o : Option PGroup). seen g' o (lifted ls) rs Ds) eo ∙ ap (λ (gs : List GeneratorValue). seen g' o' gs rs Ds) el
     ∙ ap (λ (rs : List Polynomial). seen g' o' (lifted ls') rs Ds) er ∙ ap (λ (Ds : List Degree). seen g' o' (lifted ls') rs' Ds) ed
 
 pub returns-clause-kept : goal.returns-clause-kept

@@ -1,6 +1,6 @@
 use Rattle.std.proofs.Common.{◌≡◌, ◌<◌, List, length, arith, ap, sym, ◌∙◌}
 use mathlib.Core.Path.{subst}
-use Rattle.group_algebra.specs.PGroups.{IsPGroup, largest_residue}
+use Rattle.group_algebra.specs.PGroups.{largest_residue}
 use Rattle.linear_algebra.specs.Rows.{entry, IsRow, IsCombination}
 use Rattle.fp_rows.specs.Refs.{entries_of}
 use Rattle.graded_polynomials.specs.Polynomials.{Polynomial, Term}
@@ -8,7 +8,7 @@ use Rattle.graded_algebra.specs.Presentations.{IsNormalForm}
 use Rattle.presentation_rows.specs.Values.{vector_of}
 use Rattle.ring_present.specs.Rings.{cohomology}
 use Rattle.ring_present.specs.Values.{generators_of}
-use Rattle.ring_present.proofs.Shown.{seen-of, some-group, ring-at, prime-seen, targets-seen, width-of-forms, monomials-seen, form-seen}
+use Rattle.ring_present.proofs.Shown.{seen-of, some-group, prime-seen, targets-seen, width-of-forms, monomials-seen, form-seen}
 use Rattle.ring_present.proofs.ring.Ring.normal_form.Goals as goal
 
 pub combination-requires-clause-prime : goal.combination-requires-clause-prime
@@ -17,8 +17,7 @@ combination-requires-clause-prime c =
     let seen = seen-of c.args.self.now k.group k.gens k.lifts.items k.relations.items k.degrees.items c.self.view_is in
     let some : 0 < length k.degrees.items = (let e = seen.degree_is in omega (arith, e, c.requires.from, c.requires.to)) in
     let g = some-group k.group k.gens k.lifts.items k.relations.items k.degrees.items c.self.invariant some in
-    let h : IsPGroup g.0 = (ring-at k.group k.gens k.lifts.items k.relations.items k.degrees.items g.0 c.self.invariant g.1).lower.law in
-    c.requires.prime ∙ sym (prime-seen c.args.self.now k.group k.gens k.lifts.items k.relations.items k.degrees.items seen c.self.invariant c.args.d c.index-degree.result.now c.index-degree.ensures c.requires.from c.requires.to g.0 h (seen.group_is ∙ g.1))
+    c.requires.prime ∙ sym (prime-seen c.args.self.now k.group k.gens k.lifts.items k.relations.items k.degrees.items seen c.self.invariant c.args.d c.index-degree.result.now c.index-degree.ensures c.requires.from c.requires.to g.0 (seen.group_is ∙ g.1))
 
 pub combination-requires-clause-length : goal.combination-requires-clause-length
 combination-requires-clause-length c =
@@ -26,9 +25,8 @@ combination-requires-clause-length c =
     let seen = seen-of c.args.self.now k.group k.gens k.lifts.items k.relations.items k.degrees.items c.self.view_is in
     let some : 0 < length k.degrees.items = (let e = seen.degree_is in omega (arith, e, c.requires.from, c.requires.to)) in
     let g = some-group k.group k.gens k.lifts.items k.relations.items k.degrees.items c.self.invariant some in
-    let h : IsPGroup g.0 = (ring-at k.group k.gens k.lifts.items k.relations.items k.degrees.items g.0 c.self.invariant g.1).lower.law in
-    c.requires.length g.0 h (seen.group_is ∙ g.1)
-    ∙ sym (targets-seen c.args.self.now k.group k.gens k.lifts.items k.relations.items k.degrees.items seen c.self.invariant c.args.d c.index-degree.result.now c.index-degree.ensures c.requires.from c.requires.to g.0 h (seen.group_is ∙ g.1))
+    c.requires.length g.0 (seen.group_is ∙ g.1)
+    ∙ sym (targets-seen c.args.self.now k.group k.gens k.lifts.items k.relations.items k.degrees.items seen c.self.invariant c.args.d c.index-degree.result.now c.index-degree.ensures c.requires.from c.requires.to g.0 (seen.group_is ∙ g.1))
 
 pub polynomial_of-requires-clause-monomials : goal.polynomial_of-requires-clause-monomials
 polynomial_of-requires-clause-monomials c =
@@ -36,8 +34,7 @@ polynomial_of-requires-clause-monomials c =
     let seen = seen-of c.args.self.now k.group k.gens k.lifts.items k.relations.items k.degrees.items c.self.view_is in
     let some : 0 < length k.degrees.items = (let e = seen.degree_is in omega (arith, e, c.requires.from, c.requires.to)) in
     let g = some-group k.group k.gens k.lifts.items k.relations.items k.degrees.items c.self.invariant some in
-    let h : IsPGroup g.0 = (ring-at k.group k.gens k.lifts.items k.relations.items k.degrees.items g.0 c.self.invariant g.1).lower.law in
-    monomials-seen c.args.self.now k.group k.gens k.lifts.items k.relations.items k.degrees.items seen c.self.invariant c.args.d c.index-degree.result.now c.index-degree.ensures c.requires.from c.requires.to g.0 h (seen.group_is ∙ g.1)
+    monomials-seen c.args.self.now k.group k.gens k.lifts.items k.relations.items k.degrees.items seen c.self.invariant c.args.d c.index-degree.result.now c.index-degree.ensures c.requires.from c.requires.to g.0 (seen.group_is ∙ g.1)
 
 pub polynomial_of-requires-clause-prime : goal.polynomial_of-requires-clause-prime
 polynomial_of-requires-clause-prime c =
@@ -45,9 +42,8 @@ polynomial_of-requires-clause-prime c =
     let seen = seen-of c.args.self.now k.group k.gens k.lifts.items k.relations.items k.degrees.items c.self.view_is in
     let some : 0 < length k.degrees.items = (let e = seen.degree_is in omega (arith, e, c.requires.from, c.requires.to)) in
     let g = some-group k.group k.gens k.lifts.items k.relations.items k.degrees.items c.self.invariant some in
-    let h : IsPGroup g.0 = (ring-at k.group k.gens k.lifts.items k.relations.items k.degrees.items g.0 c.self.invariant g.1).lower.law in
     c.view.ensures.modulus ∙ c.in_ok-row.ensures.prime
-    ∙ prime-seen c.args.self.now k.group k.gens k.lifts.items k.relations.items k.degrees.items seen c.self.invariant c.args.d c.index-degree.result.now c.index-degree.ensures c.requires.from c.requires.to g.0 h (seen.group_is ∙ g.1)
+    ∙ prime-seen c.args.self.now k.group k.gens k.lifts.items k.relations.items k.degrees.items seen c.self.invariant c.args.d c.index-degree.result.now c.index-degree.ensures c.requires.from c.requires.to g.0 (seen.group_is ∙ g.1)
     ∙ seen.prime_is
 
 pub polynomial_of-requires-clause-length : goal.polynomial_of-requires-clause-length
@@ -56,20 +52,19 @@ polynomial_of-requires-clause-length c =
     let seen = seen-of c.args.self.now k.group k.gens k.lifts.items k.relations.items k.degrees.items c.self.view_is in
     let some : 0 < length k.degrees.items = (let e = seen.degree_is in omega (arith, e, c.requires.from, c.requires.to)) in
     let g = some-group k.group k.gens k.lifts.items k.relations.items k.degrees.items c.self.invariant some in
-    let h : IsPGroup g.0 = (ring-at k.group k.gens k.lifts.items k.relations.items k.degrees.items g.0 c.self.invariant g.1).lower.law in
     ap length c.view.ensures.entries ∙ c.in_ok-row.ensures.row.length_is
-    ∙ width-of-forms c.args.self.now k.group k.gens k.lifts.items k.relations.items k.degrees.items seen c.self.invariant c.args.d c.index-degree.result.now c.index-degree.ensures c.requires.from c.requires.to g.0 h (seen.group_is ∙ g.1)
+    ∙ width-of-forms c.args.self.now k.group k.gens k.lifts.items k.relations.items k.degrees.items seen c.self.invariant c.args.d c.index-degree.result.now c.index-degree.ensures c.requires.from c.requires.to g.0 (seen.group_is ∙ g.1)
 
 pub returns-clause-form : goal.returns-clause-form
-returns-clause-form c G h known =
+returns-clause-form c G known =
     let k = c.self.inside.known in
     let seen = seen-of c.args.self.now k.group k.gens k.lifts.items k.relations.items k.degrees.items c.self.view_is in
     let p : Rattle.fp_rows.specs.Refs.modulus_of c.args.class ≡ c.index-degree.result.now.preimages.p = c.requires.prime
-    ∙ sym (prime-seen c.args.self.now k.group k.gens k.lifts.items k.relations.items k.degrees.items seen c.self.invariant c.args.d c.index-degree.result.now c.index-degree.ensures c.requires.from c.requires.to G h known) in
-    subst (λ (f : List Term). IsNormalForm (largest_residue G) (cohomology G h) (generators_of (largest_residue G) c.args.self.now.generators) c.args.d (vector_of (largest_residue G) (entries_of c.args.class)) f)
+    ∙ sym (prime-seen c.args.self.now k.group k.gens k.lifts.items k.relations.items k.degrees.items seen c.self.invariant c.args.d c.index-degree.result.now c.index-degree.ensures c.requires.from c.requires.to G known) in
+    subst (λ (f : List Term). IsNormalForm (largest_residue G) (cohomology G) (generators_of (largest_residue G) c.args.self.now.generators) c.args.d (vector_of (largest_residue G) (entries_of c.args.class)) f)
     (sym (ap (λ (f : Polynomial). f.terms) c.in_ok-form.ensures))
-    (form-seen c.args.self.now k.group k.gens k.lifts.items k.relations.items k.degrees.items seen c.self.invariant c.args.d c.index-degree.result.now c.index-degree.ensures c.requires.from c.requires.to G h known
+    (form-seen c.args.self.now k.group k.gens k.lifts.items k.relations.items k.degrees.items seen c.self.invariant c.args.d c.index-degree.result.now c.index-degree.ensures c.requires.from c.requires.to G known
     (entries_of c.args.class) (entries_of c.view.result)
-    (record { length_is = c.requires.length G h known; below = λ j l. (let n = c.requires.length G h known in let b = c.args.class.below j (omega (arith, l, n)) in omega (arith, b, p)) })
+    (record { length_is = c.requires.length G known; below = λ j l. (let n = c.requires.length G known in let b = c.args.class.below j (omega (arith, l, n)) in omega (arith, b, p)) })
     (subst (IsRow c.index-degree.result.now.preimages.p c.index-degree.result.now.preimages.width) (sym c.view.ensures.entries) c.in_ok-row.ensures.row)
     (subst (λ r. IsCombination c.index-degree.result.now.preimages.p (entry (entries_of c.args.class)) c.index-degree.result.now.preimages.rows (entry r)) (sym c.view.ensures.entries) c.in_ok-row.ensures.combination))

@@ -8,7 +8,7 @@ returns-clause-list c =
     (seen-of c.args.self.now k.group k.gens k.lifts.items k.relations.items k.degrees.items c.self.view_is) c.self.invariant c.args.d c.index.result.now c.index.ensures c.requires.from c.requires.to
 
 pub returns-clause-standard : goal.returns-clause-standard
-returns-clause-standard c G h known =
+returns-clause-standard c G known =
     let k = c.self.inside.known in
     standard-seen c.args.self.now k.group k.gens k.lifts.items k.relations.items k.degrees.items
-    (seen-of c.args.self.now k.group k.gens k.lifts.items k.relations.items k.degrees.items c.self.view_is) c.self.invariant c.args.d c.index.result.now c.index.ensures c.requires.from c.requires.to G h known
+    (seen-of c.args.self.now k.group k.gens k.lifts.items k.relations.items k.degrees.items c.self.view_is) c.self.invariant c.args.d c.index.result.now c.index.ensures c.requires.from c.requires.to G known

@@ -1,7 +1,6 @@
 use Rattle.std.proofs.Common.{ℕ, suc, length, sym, ◌∙◌}
 use mathlib.Core.Path.{subst}
-use Rattle.group_table.specs.Tables.{GroupTable}
-use Rattle.group_algebra.specs.PGroups.{IsPGroup}
+use Rattle.group_algebra.specs.PGroups.{PGroup}
 use Rattle.group_algebra.specs.Coordinates.{residues}
 use Rattle.linear_algebra.specs.Rows.{IsEchelonOf, AreInSpan}
 use Rattle.linear_algebra.specs.Choices.{IsGreedy}
@@ -11,34 +10,31 @@ use Rattle.ring_present.proofs.values.Lower.choose.Goals as goal
 
 pub new_places-requires-clause-same_prime : goal.new_places-requires-clause-same_prime
 new_places-requires-clause-same_prime c =
-    let h : IsPGroup c.args.res.now.group = subst IsPGroup c.requires.group c.requires.lower.law in
-    c.requires.basis_prime ∙ sym ((c.requires.all h).prime ∙ residues c.args.res.now.group h)
+    c.requires.basis_prime ∙ sym (c.requires.all.prime ∙ residues c.args.res.now.group)
 
 pub new_places-requires-clause-same_width : goal.new_places-requires-clause-same_width
 new_places-requires-clause-same_width c =
-    let h : IsPGroup c.args.res.now.group = subst IsPGroup c.requires.group c.requires.lower.law in
-    c.requires.basis_width h ∙ sym (c.requires.all h).width
+    c.requires.basis_width ∙ sym c.requires.all.width
 
 pub returns-clause-lifts : goal.returns-clause-lifts
 returns-clause-lifts c =
     new-lifts-are c.args.res.now.group (length c.args.self.now.degrees.now) c.args.basis.now.rows c.in_ok-places.places c.in_ok-lifts.lifts.items c.in_ok-lifts.ensures.lifts
 
 pub returns-clause-generators : goal.returns-clause-generators
-returns-clause-generators c h =
-    let G : GroupTable = c.args.res.now.group in
+returns-clause-generators c =
+    let G : PGroup = c.args.res.now.group in
     let n : ℕ = length c.args.self.now.degrees.now in
-    let A = c.requires.all h in
-    chosen-generators G h n c.args.self.now.lifts.now c.in_ok-lifts.lifts.items c.args.basis.now.rows c.in_ok-places.places c.in_ok-lifts.ensures.lifts c.args.all.now c.in_ok-places.ensures.greedy.0
-    (c.requires.presentation h) A (c.requires.basis h)
-    (subst (λ p. IsEchelonOf p (rank_of G h (suc n)) c.args.all.now.values.rows c.in_ok-places.ensures.greedy.0) A.prime
+    let A = c.requires.all in
+    chosen-generators G n c.args.self.now.lifts.now c.in_ok-lifts.lifts.items c.args.basis.now.rows c.in_ok-places.places c.in_ok-lifts.ensures.lifts c.args.all.now c.in_ok-places.ensures.greedy.0
+    c.requires.presentation A c.requires.basis
+    (subst (λ p. IsEchelonOf p (rank_of G (suc n)) c.args.all.now.values.rows c.in_ok-places.ensures.greedy.0) A.prime
     (subst (λ w. IsEchelonOf c.args.all.now.values.p w c.args.all.now.values.rows c.in_ok-places.ensures.greedy.0) A.width c.in_ok-places.ensures.greedy.1))
     (subst (λ p. IsGreedy p c.args.basis.now.rows c.in_ok-places.ensures.greedy.0 c.in_ok-places.places) A.prime c.in_ok-places.ensures.greedy.2)
     c.in_ok-places.ensures.inside
 
 pub returns-clause-spans : goal.returns-clause-spans
 returns-clause-spans c =
-    let G : GroupTable = c.args.res.now.group in
-    let h : IsPGroup G = subst IsPGroup c.requires.group c.requires.lower.law in
-    subst (λ p. AreInSpan p c.new_generators.new.all.values.rows c.args.basis.now.rows) ((c.requires.all h).prime ∙ sym (c.in_ok-lifts.ensures.all h).prime)
+    let G : PGroup = c.args.res.now.group in
+    subst (λ p. AreInSpan p c.new_generators.new.all.values.rows c.args.basis.now.rows) (c.requires.all.prime ∙ sym c.in_ok-lifts.ensures.all.prime)
     (basis-in-span c.args.all.now.values.p c.args.all.now.values.width c.args.all.now.values.rows c.in_ok-places.ensures.greedy.0 c.args.basis.now.rows c.new_generators.new.all.values.rows c.in_ok-places.places
     c.in_ok-places.ensures.greedy.1 c.in_ok-places.ensures.greedy.2 c.in_ok-lifts.ensures.rows)

@@ -2,8 +2,7 @@ use Rattle.std.proofs.Common.{◌≡◌, ℕ, suc, ◌+◌, ◌≤◌, List, [],
 use Rattle.std.specs.Prelude.{slice_index_or, All}
 use Rattle.std.proofs.lemmas.List.{append-nil}
 use mathlib.Core.Path.{subst}
-use Rattle.group_table.specs.Tables.{GroupTable}
-use Rattle.group_algebra.specs.PGroups.{IsPGroup}
+use Rattle.group_algebra.specs.PGroups.{PGroup}
 use Rattle.group_algebra.specs.Coordinates.{residues}
 use Rattle.linear_algebra.specs.Rows.{row}
 use Rattle.fp_rows.specs.Values.{MatrixValue}
@@ -21,14 +20,14 @@ loop-i-init c =
     let e : c.args.self.now.lifts.now ≡ c.args.self.now.lifts.now ++ c.new-lifts.result.items = sym (ap (λ xs. c.args.self.now.lifts.now ++ xs) c.new-lifts.ensures.items ∙ append-nil c.args.self.now.lifts.now) in
     record {
       lifts = c.new-lifts.ensures.items;
-      gens = c.requires.gens ∙ ap (λ ls. record { prime = c.args.res.now.group.p; degrees = degrees_of ls }) e;
-      all = λ h. subst (λ ls. AreAll c.args.res.now.group h (suc (length c.args.self.now.degrees.now)) ls c.args.all.now) e (c.requires.all h);
+      gens = c.requires.gens ∙ ap (λ ls. record { prime = c.args.res.now.group.table.p; degrees = degrees_of ls }) e;
+      all = subst (λ ls. AreAll c.args.res.now.group (suc (length c.args.self.now.degrees.now)) ls c.args.all.now) e c.requires.all;
       rows = sym (append-nil c.args.all.now.values.rows);
     }
 
 pub add_generator-requires-clause-order : goal.add_generator-requires-clause-order
 add_generator-requires-clause-order c =
-    let G : GroupTable = c.args.res.now.group in
+    let G : PGroup = c.args.res.now.group in
     let n : ℕ = length c.args.self.now.degrees.now in
     let below = lifts-below G n c.args.self.now.lifts.now c.loop-i.lifts.items c.args.basis.now.rows (take c.loop-i.i c.args.places.now)
     (subst (λ g. All (IsLiftBelow g n) c.args.self.now.lifts.now) c.requires.group c.requires.lower.lifts_are) c.loop-i.invariant.lifts in
@@ -37,28 +36,25 @@ add_generator-requires-clause-order c =
 
 pub add_generator-requires-clause-values_prime : goal.add_generator-requires-clause-values_prime
 add_generator-requires-clause-values_prime c =
-    let h : IsPGroup c.args.res.now.group = subst IsPGroup c.requires.group c.requires.lower.law in
-    (c.loop-i.invariant.all h).prime ∙ residues c.args.res.now.group h
+    c.loop-i.invariant.all.prime ∙ residues c.args.res.now.group
 
 pub add_generator-requires-clause-values_width : goal.add_generator-requires-clause-values_width
 add_generator-requires-clause-values_width c =
-    let h : IsPGroup c.args.res.now.group = subst IsPGroup c.requires.group c.requires.lower.law in
-    (c.loop-i.invariant.all h).width ∙ sym (ap length c.row-class.ensures.entries ∙ c.row-class.ensures.is_row.length_is ∙ c.requires.basis_width h)
+    c.loop-i.invariant.all.width ∙ sym (ap length c.row-class.ensures.entries ∙ c.row-class.ensures.is_row.length_is ∙ c.requires.basis_width)
 
 pub add_generator-requires-clause-greater : goal.add_generator-requires-clause-greater
 add_generator-requires-clause-greater c =
-    let G : GroupTable = c.args.res.now.group in
+    let G : PGroup = c.args.res.now.group in
     let n : ℕ = length c.args.self.now.degrees.now in
-    let h : IsPGroup G = subst IsPGroup c.requires.group c.requires.lower.law in
     let below = lifts-below G n c.args.self.now.lifts.now c.loop-i.lifts.items c.args.basis.now.rows (take c.loop-i.i c.args.places.now)
     (subst (λ g. All (IsLiftBelow g n) c.args.self.now.lifts.now) c.requires.group c.requires.lower.lifts_are) c.loop-i.invariant.lifts in
-    greater-than-new G h (suc n) (length c.loop-i.gens.degrees) (c.args.self.now.lifts.now ++ c.loop-i.lifts.items) c.loop-i.all (omega arith)
-    (positive-degrees G h (suc n) (c.args.self.now.lifts.now ++ c.loop-i.lifts.items) below) (c.loop-i.invariant.all h)
+    greater-than-new G (suc n) (length c.loop-i.gens.degrees) (c.args.self.now.lifts.now ++ c.loop-i.lifts.items) c.loop-i.all (omega arith)
+    (positive-degrees G (suc n) (c.args.self.now.lifts.now ++ c.loop-i.lifts.items) below) c.loop-i.invariant.all
     (ap (λ (g : Generators). length g.degrees) c.loop-i.invariant.gens)
 
 pub loop-i-preserved : goal.loop-i-preserved
 loop-i-preserved c =
-    let G : GroupTable = c.args.res.now.group in
+    let G : PGroup = c.args.res.now.group in
     let n : ℕ = length c.args.self.now.degrees.now in
     let old = c.loop-i.lifts.items in
     let class : List ℕ = entries_of c.row-class.result in
@@ -69,10 +65,10 @@ loop-i-preserved c =
     record {
       lifts = map-more (λ k. new_lift G (suc n) (row c.args.basis.now.rows k)) [] old c.add_generator.new.lifts.items c.args.places.now c.loop-i.i c.get.result (omega arith) at c.loop-i.invariant.lifts
           (next ∙ ap (λ r. old ++ new_lift G (suc n) r ∷ []) c.row-class.ensures.entries);
-      gens = gens-added G.p (n + 1) c.args.self.now.lifts.now old c.add_generator.new.lifts.items (new_lift G (suc n) class) c.loop-i.gens c.add_generator.new.gens c.loop-i.invariant.gens
+      gens = gens-added G.table.p (n + 1) c.args.self.now.lifts.now old c.add_generator.new.lifts.items (new_lift G (suc n) class) c.loop-i.gens c.add_generator.new.gens c.loop-i.invariant.gens
           (sym (add-one n)) next c.in_ok-add_generator.ensures.gens;
-      all = λ (h : IsPGroup G). all-added G h (suc n) c.args.self.now.lifts.now old c.add_generator.new.lifts.items class c.loop-i.all c.add_generator.new.all (omega arith) below
-          (ap length c.row-class.ensures.entries ∙ c.row-class.ensures.is_row.length_is ∙ c.requires.basis_width h) (c.loop-i.invariant.all h) next
+      all = all-added G (suc n) c.args.self.now.lifts.now old c.add_generator.new.lifts.items class c.loop-i.all c.add_generator.new.all (omega arith) below
+          (ap length c.row-class.ensures.entries ∙ c.row-class.ensures.is_row.length_is ∙ c.requires.basis_width) c.loop-i.invariant.all next
           (c.in_ok-add_generator.ensures.monomials ∙ ap (λ (g : Generators). c.loop-i.all.monomials ++ power (length g.degrees) 1 ∷ []) c.loop-i.invariant.gens)
           c.in_ok-add_generator.ensures.values;
       rows = map-more (row c.args.basis.now.rows) c.args.all.now.values.rows c.loop-i.all.values.rows c.add_generator.new.all.values.rows c.args.places.now c.loop-i.i c.get.result (omega arith) at c.loop-i.invariant.rows

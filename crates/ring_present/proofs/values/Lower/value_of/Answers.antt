@@ -1,7 +1,6 @@
 use Rattle.std.proofs.Common.{◌≡◌, suc, ◌-◌, arith, ap, sym, ◌∙◌}
 use mathlib.Core.Path.{subst}
-use Rattle.group_table.specs.Tables.{GroupTable}
-use Rattle.group_algebra.specs.PGroups.{IsPGroup, largest_residue}
+use Rattle.group_algebra.specs.PGroups.{PGroup, largest_residue}
 use Rattle.group_algebra.specs.Coordinates.{residues}
 use Rattle.fp_rows.specs.Refs.{entries_of}
 use Rattle.graded_polynomials.specs.Monomials.{IsMonomial}
@@ -13,42 +12,39 @@ use Rattle.ring_present.proofs.values.Lower.value_of.Goals as goal
 
 pub row_of-requires-clause-listed : goal.row_of-requires-clause-listed
 row_of-requires-clause-listed c =
-    let G : GroupTable = c.args.self.now.group.now in
-    let h : IsPGroup G = c.requires.lower.law in
+    let G : PGroup = c.args.self.now.group.now in
     let e : c.args.d ≡ suc (c.args.d - 1) = omega (arith, c.if-d-eq0.false) in
-    ((c.requires.lower.degrees_are h).each (c.args.d - 1) c.index-self-d.result (omega (arith, e, c.requires.within))).all.monomials.all c.args.m.now
-    (subst (λ k. IsMonomial (largest_residue G) (degrees (classes G h c.args.self.now.lifts.now)) k c.args.m.now) e (c.requires.monomial h))
+    (c.requires.lower.degrees_are.each (c.args.d - 1) c.index-self-d.result (omega (arith, e, c.requires.within))).all.monomials.all c.args.m.now
+    (subst (λ k. IsMonomial (largest_residue G) (degrees (classes G c.args.self.now.lifts.now)) k c.args.m.now) e c.requires.monomial)
 
 pub row_of-requires-clause-rows : goal.row_of-requires-clause-rows
 row_of-requires-clause-rows c =
-    let h : IsPGroup c.args.self.now.group.now = c.requires.lower.law in
     let e : c.args.d ≡ suc (c.args.d - 1) = omega (arith, c.if-d-eq0.false) in
-    ((c.requires.lower.degrees_are h).each (c.args.d - 1) c.index-self-d.result (omega (arith, e, c.requires.within))).all.values.count
+    (c.requires.lower.degrees_are.each (c.args.d - 1) c.index-self-d.result (omega (arith, e, c.requires.within))).all.values.count
 
 pub returns-then-d-eq0-clause-value : goal.returns-then-d-eq0-clause-value
-returns-then-d-eq0-clause-value c h =
-    let G : GroupTable = c.args.self.now.group.now in
-    value-of-one G h c.args.self.now.lifts.now _ c.args.m.now (entries_of c.view.result) c.requires.lower.lifts_are
-    (subst (λ k. IsMonomial (largest_residue G) (degrees (classes G h c.args.self.now.lifts.now)) k c.args.m.now) c.if-d-eq0.true (c.requires.monomial h))
+returns-then-d-eq0-clause-value c =
+    let G : PGroup = c.args.self.now.group.now in
+    value-of-one G c.args.self.now.lifts.now _ c.args.m.now (entries_of c.view.result) c.requires.lower.lifts_are
+    (subst (λ k. IsMonomial (largest_residue G) (degrees (classes G c.args.self.now.lifts.now)) k c.args.m.now) c.if-d-eq0.true c.requires.monomial)
     (c.view.ensures.entries ∙ c.requires.one.1)
 
 pub returns-else-d-eq0-clause-modulus : goal.returns-else-d-eq0-clause-modulus
 returns-else-d-eq0-clause-modulus c =
-    let G : GroupTable = c.args.self.now.group.now in
-    let h : IsPGroup G = c.requires.lower.law in
+    let G : PGroup = c.args.self.now.group.now in
     let e : c.args.d ≡ suc (c.args.d - 1) = omega (arith, c.if-d-eq0.false) in
-    c.row_of.ensures.modulus ∙ ((c.requires.lower.degrees_are h).each (c.args.d - 1) c.index-self-d.result (omega (arith, e, c.requires.within))).all.prime ∙ residues G h
+    c.row_of.ensures.modulus ∙ (c.requires.lower.degrees_are.each (c.args.d - 1) c.index-self-d.result (omega (arith, e, c.requires.within))).all.prime ∙ residues G
 
 pub returns-else-d-eq0-clause-length : goal.returns-else-d-eq0-clause-length
-returns-else-d-eq0-clause-length c h =
-    let G : GroupTable = c.args.self.now.group.now in
+returns-else-d-eq0-clause-length c =
+    let G : PGroup = c.args.self.now.group.now in
     let e : c.args.d ≡ suc (c.args.d - 1) = omega (arith, c.if-d-eq0.false) in
-    c.row_of.ensures.length ∙ ((c.requires.lower.degrees_are h).each (c.args.d - 1) c.index-self-d.result (omega (arith, e, c.requires.within))).all.width ∙ ap (rank_of G h) (sym e)
+    c.row_of.ensures.length ∙ (c.requires.lower.degrees_are.each (c.args.d - 1) c.index-self-d.result (omega (arith, e, c.requires.within))).all.width ∙ ap (rank_of G) (sym e)
 
 pub returns-else-d-eq0-clause-value : goal.returns-else-d-eq0-clause-value
-returns-else-d-eq0-clause-value c h =
-    let G : GroupTable = c.args.self.now.group.now in
+returns-else-d-eq0-clause-value c =
+    let G : PGroup = c.args.self.now.group.now in
     let e : c.args.d ≡ suc (c.args.d - 1) = omega (arith, c.if-d-eq0.false) in
-    value-of-listed G h c.args.self.now.lifts.now (suc (c.args.d - 1)) c.args.m.now (entries_of c.row_of.result) _
-    ((c.requires.lower.degrees_are h).each (c.args.d - 1) c.index-self-d.result (omega (arith, e, c.requires.within))).all
+    value-of-listed G c.args.self.now.lifts.now (suc (c.args.d - 1)) c.args.m.now (entries_of c.row_of.result) _
+    (c.requires.lower.degrees_are.each (c.args.d - 1) c.index-self-d.result (omega (arith, e, c.requires.within))).all
     c.row_of.ensures.value.0 c.row_of.ensures.value.1 c.row_of.ensures.value.2 c.row_of.ensures.value.3

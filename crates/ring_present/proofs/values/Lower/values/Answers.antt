@@ -3,8 +3,7 @@ use Rattle.std.specs.Prelude.{slice_index_or}
 use Rattle.std.proofs.lemmas.List.{length_push}
 use Rattle.std.proofs.lemmas.Option.{slice_get_within, get_or_from_slice_get}
 use mathlib.Core.Path.{subst}
-use Rattle.group_table.specs.Tables.{GroupTable}
-use Rattle.group_algebra.specs.PGroups.{IsPGroup, largest_residue}
+use Rattle.group_algebra.specs.PGroups.{PGroup, largest_residue}
 use Rattle.fp_rows.specs.Values.{MatrixValue}
 use Rattle.fp_rows.specs.Refs.{entries_of}
 use Rattle.graded_polynomials.specs.Monomials.{IsMonomial}
@@ -16,14 +15,14 @@ use Rattle.ring_present.proofs.Factors.{values-push}
 use Rattle.ring_present.proofs.values.Lower.values.Goals as goal
 
 pub write_value-requires-clause-monomial : goal.write_value-requires-clause-monomial
-write_value-requires-clause-monomial c h =
-    let G : GroupTable = c.args.self.now.group.now in
-    subst (IsMonomial (largest_residue G) (degrees (classes G h c.args.self.now.lifts.now)) c.args.d) (get_or_from_slice_get c.args.monomials.now c.loop-i.i c.get.result.now [] c.get.ensures)
-    ((c.requires.monomials h).each c.loop-i.i (slice_get_within c.args.monomials.now c.loop-i.i c.get.result.now c.get.ensures))
+write_value-requires-clause-monomial c =
+    let G : PGroup = c.args.self.now.group.now in
+    subst (IsMonomial (largest_residue G) (degrees (classes G c.args.self.now.lifts.now)) c.args.d) (get_or_from_slice_get c.args.monomials.now c.loop-i.i c.get.result.now [] c.get.ensures)
+    (c.requires.monomials.each c.loop-i.i (slice_get_within c.args.monomials.now c.loop-i.i c.get.result.now c.get.ensures))
 
 pub loop-i-preserved : goal.loop-i-preserved
 loop-i-preserved c =
-    let G : GroupTable = c.args.self.now.group.now in
+    let G : PGroup = c.args.self.now.group.now in
     let rows = ap (λ (m : MatrixValue). m.rows) c.in_ok-push.ensures.pushed in
     record {
       prime = ap (λ (m : MatrixValue). m.p) c.in_ok-push.ensures.pushed ∙ c.loop-i.invariant.prime;
@@ -31,9 +30,9 @@ loop-i-preserved c =
       count = ap length rows ∙ length_push c.loop-i.values.rows (entries_of c.view.result) ∙ ap (λ n. n + 1) c.loop-i.invariant.count;
       value_prime = c.in_ok-write_value.ensures.prime ∙ c.loop-i.invariant.value_prime;
       value_length = c.in_ok-write_value.ensures.length ∙ c.loop-i.invariant.value_length;
-      each = λ (h : IsPGroup G). values-push (largest_residue G) (λ k. evaluate (cohomology G h) (classes G h c.args.self.now.lifts.now) (slice_index_or c.args.monomials.now k []))
-          c.loop-i.values.rows c.push.new.self.rows (entries_of c.view.result) c.loop-i.i c.loop-i.invariant.count (c.loop-i.invariant.each h)
-          (ap (vector_of (largest_residue G)) c.view.ensures.entries ∙ c.in_ok-write_value.ensures.value h
-          ∙ ap (evaluate (cohomology G h) (classes G h c.args.self.now.lifts.now)) (sym (get_or_from_slice_get c.args.monomials.now c.loop-i.i c.get.result.now [] c.get.ensures)))
+      each = values-push (largest_residue G) (λ k. evaluate (cohomology G) (classes G c.args.self.now.lifts.now) (slice_index_or c.args.monomials.now k []))
+          c.loop-i.values.rows c.push.new.self.rows (entries_of c.view.result) c.loop-i.i c.loop-i.invariant.count c.loop-i.invariant.each
+          (ap (vector_of (largest_residue G)) c.view.ensures.entries ∙ c.in_ok-write_value.ensures.value
+          ∙ ap (evaluate (cohomology G) (classes G c.args.self.now.lifts.now)) (sym (get_or_from_slice_get c.args.monomials.now c.loop-i.i c.get.result.now [] c.get.ensures)))
           rows;
     }

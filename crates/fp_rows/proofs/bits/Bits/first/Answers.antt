@@ -1,0 +1,25 @@
+use Rattle.std.proofs.Common.{◌≡◌, ℕ, ◌+◌, ◌*◌, ◌/◌, ◌%◌, ◌^◌, ◌<◌, ◌≤◌, ◌⊎◌, inl, inr, List, length, replicate, arith, ap, sym, ◌∙◌, refl}
+use Rattle.std.proofs.lemmas.List.{with_items_is}
+use Rattle.std.specs.Vec.{with_items}
+use Rattle.std.proofs.lemmas.Bool.{cases_lt}
+use Rattle.linear_algebra.specs.Rows.{pivot}
+use Rattle.fp_rows.specs.Places.{place, places}
+use Rattle.fp_rows.specs.Packed.{IsPacked}
+use Rattle.fp_rows.proofs.PlaceLemmas.{length-places, entry-places, place_below, place_of_zeros}
+use Rattle.fp_rows.proofs.BitLemmas.{entry_bits, places_below, zero_bits, zero_packed, cleared_bits, copied_bits, set_bits, sum_bits, part_bits, first_bit, no_bit}
+use Rattle.fp_rows.proofs.bits.Bits.first.Goals as goal
+
+pub first_place-requires : goal.first_place-requires
+first_place-requires c = record {
+  few = omega (arith, c.deref.ensures.value, ap length c.deref.ensures.value, c.self.invariant.count);
+  all = omega (arith, ap length c.deref.ensures.value, c.self.invariant.count);
+  zero = rw c.deref.ensures.value c.self.invariant.zero;
+}
+
+pub returns : goal.returns
+returns c = rw (← c.self.view_is) (go (cases_lt c.first_place.result c.self.inside.len))
+  where
+    go : (c.first_place.result < c.self.inside.len) ⊎ (c.self.inside.len ≤ c.first_place.result) → c.first_place.result ≡ pivot (places c.self.inside.words.items 0 c.self.inside.len)
+    go (inl l) = sym (first_bit c.self.inside.words.items c.self.inside.len c.first_place.result l (rw c.deref.ensures.value at c.first_place.ensures.before) (rw c.deref.ensures.value at (c.first_place.ensures.here l)))
+    go (inr l) = let e : c.first_place.result ≡ c.self.inside.len = omega (arith, l, c.first_place.ensures.within) in
+        e ∙ sym (no_bit c.self.inside.words.items c.self.inside.len (λ j m. (rw c.deref.ensures.value at c.first_place.ensures.before) j (omega arith)))

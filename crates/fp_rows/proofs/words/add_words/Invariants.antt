@@ -1,0 +1,8 @@
+use Rattle.std.proofs.Common.{◌≡◌, ℕ, ◌<◌, ◌≤◌, get_or, bit_xor}
+use Rattle.fp_rows.proofs.words.add_words.Given as goal
+
+abbrev pub invariant-loop-i : goal.invariant-loop-i
+invariant-loop-i l = record {
+  done : (k : ℕ) → k < l.i → get_or l.dst k 0 ≡ bit_xor (get_or l.fn.dst k 0) (get_or l.src k 0);
+  rest : (k : ℕ) → l.i ≤ k → get_or l.dst k 0 ≡ get_or l.fn.dst k 0;
+}

@@ -1,0 +1,79 @@
+ghost use Rattle.std.specs.Prelude.{◌≡◌, ◌+◌, ◌<◌, ◌≤◌, ℕ, length};
+ghost use Rattle.std.specs.Int.{bit_at};
+ghost use Rattle.linear_algebra.specs.Rows.{entry};
+
+use crate::bits_ref::BitsRef;
+
+/// A borrowed list of small numbers, a byte each, or below 2 and packed.
+#[derive(Clone, Copy)]
+pub(crate) enum Numbers<'a> {
+    Bytes(&'a [u8]),
+    Bits(BitsRef<'a>),
+}
+
+// The `len` numbers from place `from` on as the bits of a word, whose other bits are 0.
+fn word_of_bytes(s: &[u8], from: usize, len: usize) -> u64
+    requires within { from + len ≤ length s.now }
+    requires count { len ≤ 64 }
+    requires below { (j : ℕ) → j < length s.now → entry s.now j < 2 }
+    ensures bits { (b : ℕ) → b < len → bit_at result b ≡ entry s.now (from + b) }
+    ensures rest { (b : ℕ) → b < 64 → len ≤ b → bit_at result b ≡ 0 }
+{
+    let mut x = 0u64;
+    for b in 0..len {
+        if s[from + b] == 1 {
+            x |= 1 << b;
+        }
+    }
+    x
+}
+
+impl<'a> Numbers<'a> {
+    ghost use Rattle.std.specs.Prelude.{◌≡◌, ◌+◌, ◌<◌, ◌≤◌, ℕ, length, slice_range};
+    ghost use Rattle.std.specs.Int.{bit_at};
+    ghost use Rattle.linear_algebra.specs.Rows.{entry};
+    ghost use Rattle.fp_rows.specs.Numbers.{numbers_of};
+
+    pub(crate) fn len(&self) -> usize
+        ensures { result ≡ length (numbers_of self.now) }
+    {
+        match self {
+            Numbers::Bytes(s) => s.len(),
+            Numbers::Bits(b) => b.len(),
+        }
+    }
+
+    pub(crate) fn get(&self, i: usize) -> u8
+        requires { i < length (numbers_of self.now) }
+        ensures { result ≡ entry (numbers_of self.now) i }
+    {
+        match self {
+            Numbers::Bytes(s) => s[i],
+            Numbers::Bits(b) => b.get(i),
+        }
+    }
+
+    pub(crate) fn part(&self, from: usize, len: usize) -> Numbers<'a>
+        requires { from + len ≤ length (numbers_of self.now) }
+        ensures { numbers_of result ≡ slice_range (numbers_of self.now) from (from + len) }
+    {
+        match self {
+            Numbers::Bytes(s) => Numbers::Bytes(&s[from..from + len]),
+            Numbers::Bits(b) => Numbers::Bits(b.part(from, len)),
+        }
+    }
+
+    /// The `len` numbers from place `from` on, which are below 2, as the bits of a word, whose other bits are 0.
+    pub(crate) fn word(&self, from: usize, len: usize) -> u64
+        requires within { from + len ≤ length (numbers_of self.now) }
+        requires count { len ≤ 64 }
+        requires below { (j : ℕ) → j < length (numbers_of self.now) → entry (numbers_of self.now) j < 2 }
+        ensures bits { (b : ℕ) → b < len → bit_at result b ≡ entry (numbers_of self.now) (from + b) }
+        ensures rest { (b : ℕ) → b < 64 → len ≤ b → bit_at result b ≡ 0 }
+    {
+        match self {
+            Numbers::Bytes(s) => word_of_bytes(s, from, len),
+            Numbers::Bits(b) => b.word(from, len),
+        }
+    }
+}
