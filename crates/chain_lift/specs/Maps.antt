@@ -1,10 +1,9 @@
 -- The maps of a lift by their rows.
 use Rattle.std.specs.Prelude.{◌≡◌, ℕ, ◌*◌, List, length}
-use Rattle.group_table.specs.Tables.{order}
 use Rattle.group_modules.specs.Field.{Below}
 use Rattle.linear_algebra.specs.Rows.{row}
 use Rattle.fp_rows.specs.Values.{MatrixValue}
-use Rattle.group_algebra.specs.PGroups.{PGroup, largest_residue, group}
+use Rattle.group_algebra.specs.PGroups.{PGroup, largest_residue, group, order_of, prime_of}
 use Rattle.group_algebra.specs.Coordinates.{layer_coordinates, row_of}
 use Rattle.min_res.specs.Stages.{stage_rows, rank_of}
 use Rattle.chain_maps.specs.Lifts.{ahead, lift}
@@ -19,7 +18,7 @@ module _ (G : PGroup) (q : ℕ) (c : List ℕ) where
 
   -- m has the rows of this map
   pub record IsLiftMap (j : ℕ) (m : MatrixValue) : Type 0 where
-    pub prime : m.p ≡ G.table.p
-    pub width : m.width ≡ order G.table * rank_of G j
+    pub prime : m.p ≡ prime_of G
+    pub width : m.width ≡ order_of G * rank_of G j
     pub count : length m.rows ≡ rank_of G (ahead q j)
     pub each : (i : Below (rank_of G (ahead q j))) → row m.rows i.0 ≡ lift_row j i

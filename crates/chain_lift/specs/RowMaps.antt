@@ -1,6 +1,5 @@
 -- Linear maps of free modules by their rows.
 use Rattle.std.specs.Prelude.{◌≡◌, ℕ, ◌*◌, ◌^◌, ◌<◌, List, length}
-use Rattle.group_table.specs.Tables.{order}
 use Rattle.group_modules.specs.Module.{lin, times}
 use Rattle.group_modules.specs.Field.{Below, residue}
 use Rattle.group_modules.specs.Tables.{terms, unit}
@@ -8,7 +7,7 @@ use Rattle.linear_algebra.specs.Choices.{rows_at}
 use Rattle.linear_algebra.specs.Rows.{row, IsRow}
 use Rattle.resolution_stages.specs.Chain.{section_row}
 use Rattle.fp_rows.specs.Values.{MatrixValue}
-use Rattle.group_algebra.specs.PGroups.{PGroup, largest_residue, group}
+use Rattle.group_algebra.specs.PGroups.{PGroup, largest_residue, group, order_of, prime_of}
 use Rattle.group_algebra.specs.Coordinates.{free_module, table_of, row_of}
 use Rattle.min_res.specs.Values.{StageValue, boundary_of}
 
@@ -34,10 +33,10 @@ multiple_of_one G c = times (free_module G 1).add (free_module G 1).zero c (unit
 pub record FitTogether (G : PGroup) (rank : ℕ) (before : MatrixValue) (source target : StageValue) : Type 0 where
   pub source_above_zero : 0 < source.degree
   pub target_above_zero : 0 < target.degree
-  pub before_prime : before.p ≡ G.table.p
-  pub source_prime : source.kernel.p ≡ G.table.p
-  pub target_prime : target.kernel.p ≡ G.table.p
-  pub before_width : before.width ≡ order G.table * rank
-  pub target_width : (boundary_of target).source.width ≡ order G.table * rank
-  pub fits : order G.table * length before.rows < 2 ^ 64
-  pub images : (i : ℕ) → i < source.rank → IsRow G.table.p (order G.table * length before.rows) (image_row source i)
+  pub before_prime : before.p ≡ prime_of G
+  pub source_prime : source.kernel.p ≡ prime_of G
+  pub target_prime : target.kernel.p ≡ prime_of G
+  pub before_width : before.width ≡ order_of G * rank
+  pub target_width : (boundary_of target).source.width ≡ order_of G * rank
+  pub fits : order_of G * length before.rows < 2 ^ 64
+  pub images : (i : ℕ) → i < source.rank → IsRow (prime_of G) (order_of G * length before.rows) (image_row source i)

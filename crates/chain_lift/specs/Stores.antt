@@ -1,6 +1,6 @@
 -- What a lift keeps.
 use Rattle.std.specs.Prelude.{◌≡◌, ℕ, suc, ◌+◌, ◌<◌, ◌≤◌, ◌^◌, List, length, slice_index_or}
-use Rattle.group_algebra.specs.PGroups.{PGroup}
+use Rattle.group_algebra.specs.PGroups.{PGroup, prime_of}
 use Rattle.min_res.specs.Defined.{IsStageAt}
 use Rattle.chain_lift.specs.Values.{LiftValue}
 use Rattle.chain_lift.specs.Maps.{IsLiftMap}
@@ -14,7 +14,7 @@ pub record IsLevel (G : PGroup) (q : ℕ) (c : List ℕ) (j : ℕ) (l : Level) :
 
 -- the maps of degree 0 to the height of the lift of the class, which is stored modulo p
 pub record IsLiftStore (v : LiftValue) (p : ℕ) (levels : List Level) : Type 0 where
-  pub prime : p ≡ v.group.table.p
+  pub prime : p ≡ prime_of v.group
   pub count : length levels ≡ suc v.height
   pub few : length levels ≤ 2 ^ 32
   pub each : (j : ℕ) (l : Level) → j < length levels → IsLevel v.group v.degree v.class j (slice_index_or levels j l)

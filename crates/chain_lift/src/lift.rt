@@ -6,6 +6,7 @@ ghost use Rattle.fp_rows.specs.Refs.{entries_of, modulus_of};
 ghost use Rattle.min_res.specs.Defined.{IsStageAt};
 ghost use Rattle.min_res.specs.Stages.{rank_of};
 ghost use Rattle.std.specs.Prelude.{◌≡◌, ◌≤◌, ◌<◌, ◌+◌, max, suc, length, IfOk, OnErr, OnOk};
+ghost use Rattle.group_algebra.specs.PGroups.{prime_of};
 
 use crate::level::Level;
 use crate::maps::{first_rows, next_rows};
@@ -65,7 +66,7 @@ impl Lift {
     /// The lift of the class, up to height 0. The class is one of degree q, which is at most the degree of the last stage.
     pub fn new(alloc: Global, res: &Resolution, q: u32, class: RowRef<'_>) -> Result<Lift, Memory>
         requires degree { q ≤ res.now.last }
-        requires prime { modulus_of class ≡ res.now.group.table.p }
+        requires prime { modulus_of class ≡ prime_of res.now.group }
         requires length { length (entries_of class) ≡ rank_of res.now.group q }
         ensures { IfOk result (λ l. l ≡ record { group = res.now.group; degree = q; class = entries_of class.entry; height = 0 }) }
     {
@@ -99,7 +100,7 @@ impl Lift {
     /// The class.
     pub fn class(&self) -> RowRef<'_>
         ensures entries { entries_of result ≡ self.now.class }
-        ensures modulus { modulus_of result ≡ self.now.group.table.p }
+        ensures modulus { modulus_of result ≡ prime_of self.now.group }
     {
         self.class.view()
     }
@@ -185,9 +186,9 @@ impl Lift {
     /// Writes the product of a class a of degree j, which is at most the height, and the class of the lift.
     pub fn product(&self, j: u32, a: RowRef<'_>, out: &mut Row)
         requires degree { j ≤ self.now.height }
-        requires prime { modulus_of a ≡ self.now.group.table.p }
+        requires prime { modulus_of a ≡ prime_of self.now.group }
         requires length { length (entries_of a) ≡ rank_of self.now.group j }
-        requires out_prime { out.old.p ≡ self.now.group.table.p }
+        requires out_prime { out.old.p ≡ prime_of self.now.group }
         requires out_length { length out.old.entries ≡ rank_of self.now.group (j + self.now.degree) }
         ensures prime { out.new.p ≡ out.old.p }
         ensures value { out.new.entries ≡ product_row self.now.group j self.now.degree (entries_of a.entry) self.now.class }

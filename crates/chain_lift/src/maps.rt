@@ -7,6 +7,7 @@ ghost use Rattle.group_table.specs.Tables.{order};
 ghost use Rattle.linear_algebra.specs.Rows.{entry, row, IsRow};
 ghost use Rattle.min_res.specs.RowMaps.{IsBlock};
 ghost use Rattle.std.specs.Prelude.{◌≡◌, ◌<◌, ◌*◌, ◌^◌, ℕ, IfOk, length};
+ghost use Rattle.group_algebra.specs.PGroups.{order_of, prime_of};
 
 use fp_rows::{Matrix, Row, RowRef};
 use group_algebra::Algebra;
@@ -17,10 +18,10 @@ use std::alloc::Global;
 // Writes block k of the row v of `rank` blocks.
 fn write_block(algebra: &Algebra, rank: usize, k: usize, v: RowRef<'_>, block: &mut Row)
     requires below { k < rank }
-    requires fits { order algebra.now.table * rank < 2 ^ 64 }
-    requires argument { length (entries_of v) ≡ order algebra.now.table * rank }
+    requires fits { order_of algebra.now * rank < 2 ^ 64 }
+    requires argument { length (entries_of v) ≡ order_of algebra.now * rank }
     requires argument_prime { modulus_of v ≡ block.old.p }
-    requires block_length { length block.old.entries ≡ order algebra.now.table }
+    requires block_length { length block.old.entries ≡ order_of algebra.now }
     ensures prime { block.new.p ≡ block.old.p }
     ensures length { length block.new.entries ≡ length block.old.entries }
     ensures block { IsBlock algebra.now rank k (entries_of v.entry) block.new.entries }
@@ -39,15 +40,15 @@ fn write_value(
     block: &mut Row,
     out: &mut Row,
 )
-    requires rows_prime { rows.now.p ≡ algebra.now.table.p }
-    requires rows_width { rows.now.width ≡ order algebra.now.table * rank }
-    requires fits { order algebra.now.table * length rows.now.rows < 2 ^ 64 }
-    requires argument { IsRow algebra.now.table.p (order algebra.now.table * length rows.now.rows) (entries_of v) }
-    requires argument_prime { modulus_of v ≡ algebra.now.table.p }
-    requires block_prime { block.old.p ≡ algebra.now.table.p }
-    requires block_length { length block.old.entries ≡ order algebra.now.table }
-    requires out_prime { out.old.p ≡ algebra.now.table.p }
-    requires out_length { length out.old.entries ≡ order algebra.now.table * rank }
+    requires rows_prime { rows.now.p ≡ prime_of algebra.now }
+    requires rows_width { rows.now.width ≡ order_of algebra.now * rank }
+    requires fits { order_of algebra.now * length rows.now.rows < 2 ^ 64 }
+    requires argument { IsRow (prime_of algebra.now) (order_of algebra.now * length rows.now.rows) (entries_of v) }
+    requires argument_prime { modulus_of v ≡ prime_of algebra.now }
+    requires block_prime { block.old.p ≡ prime_of algebra.now }
+    requires block_length { length block.old.entries ≡ order_of algebra.now }
+    requires out_prime { out.old.p ≡ prime_of algebra.now }
+    requires out_length { length out.old.entries ≡ order_of algebra.now * rank }
     ensures block_prime { block.new.p ≡ block.old.p }
     ensures block_length { length block.new.entries ≡ length block.old.entries }
     ensures out_prime { out.new.p ≡ out.old.p }
@@ -72,7 +73,7 @@ pub(crate) fn next_rows(
     target: &Stage,
 ) -> Result<Matrix, Memory>
     requires { FitTogether algebra.now rank before.now source.now target.now }
-    ensures prime { IfOk result (λ m. m.p ≡ algebra.now.table.p) }
+    ensures prime { IfOk result (λ m. m.p ≡ prime_of algebra.now) }
     ensures width { IfOk result (λ m. m.width ≡ target.now.kernel.width) }
     ensures count { IfOk result (λ m. length m.rows ≡ source.now.rank) }
     ensures rows { IfOk result (λ m. (i : ℕ) → i < source.now.rank
@@ -104,9 +105,9 @@ pub(crate) fn first_rows(
     algebra: &Algebra,
     class: RowRef<'_>,
 ) -> Result<Matrix, Memory>
-    requires { modulus_of class ≡ algebra.now.table.p }
-    ensures prime { IfOk result (λ m. m.p ≡ algebra.now.table.p) }
-    ensures width { IfOk result (λ m. m.width ≡ order algebra.now.table) }
+    requires { modulus_of class ≡ prime_of algebra.now }
+    ensures prime { IfOk result (λ m. m.p ≡ prime_of algebra.now) }
+    ensures width { IfOk result (λ m. m.width ≡ order_of algebra.now) }
     ensures count { IfOk result (λ m. length m.rows ≡ length (entries_of class.entry)) }
     ensures rows { IfOk result (λ m. (i : ℕ) → i < length (entries_of class.entry)
         → row m.rows i ≡ row_of algebra.now 1 (multiple_of_one algebra.now (entry (entries_of class.entry) i))) }

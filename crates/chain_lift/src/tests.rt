@@ -1,5 +1,6 @@
 ghost use Rattle.std.specs.Prelude.{◌≡◌, ◌≤◌, ◌*◌, ◌<◌, All, IfOk, length, vec_len};
 ghost use Rattle.min_res.specs.Stages.{rank_of};
+ghost use Rattle.group_algebra.specs.PGroups.{prime_of};
 
 use super::*;
 use fp_rows::{Row, RowRef};
@@ -99,7 +100,7 @@ fn resolved(rt: &impl Abort, alloc: Global, kind: Kind, degree: u32) -> Result<R
 
 // The class 0 of degree d.
 fn zero(alloc: Global, resolution: &Resolution, d: u32) -> Result<Row, Fail>
-    ensures prime { IfOk result (λ r. r.p ≡ resolution.now.group.table.p) }
+    ensures prime { IfOk result (λ r. r.p ≡ prime_of resolution.now.group) }
     ensures length { IfOk result (λ r. length r.entries ≡ rank_of resolution.now.group d) }
 {
     let prime = resolution.algebra().group().prime();
@@ -115,7 +116,7 @@ fn basis(
     d: u32,
     i: usize,
 ) -> Result<Row, Fail>
-    ensures prime { IfOk result (λ r. r.p ≡ resolution.now.group.table.p) }
+    ensures prime { IfOk result (λ r. r.p ≡ prime_of resolution.now.group) }
     ensures length { IfOk result (λ r. length r.entries ≡ rank_of resolution.now.group d) }
 {
     let mut class = zero(alloc, resolution, d)?;
@@ -135,7 +136,7 @@ fn product_with(
     lift: &Lift,
 ) -> Result<Row, Fail>
     requires { resolution.now.group ≡ lift.now.group }
-    ensures { IfOk result (λ r. r.p ≡ resolution.now.group.table.p) }
+    ensures { IfOk result (λ r. r.p ≡ prime_of resolution.now.group) }
 {
     assert!(rt; j <= lift.height() && j <= 24 && lift.degree() <= 24);
     let class = basis(rt, alloc, resolution, j, i)?;
@@ -152,7 +153,7 @@ fn product(
     i: usize,
     k: usize,
 ) -> Result<Row, Fail>
-    ensures { IfOk result (λ r. r.p ≡ resolution.now.group.table.p) }
+    ensures { IfOk result (λ r. r.p ≡ prime_of resolution.now.group) }
 {
     assert!(rt; resolution.last() >= 2);
     let class = basis(rt, alloc, resolution, 1, k)?;
@@ -203,7 +204,7 @@ fn add_product(
     k: usize,
     sum: &mut Row,
 ) -> Result<(), Fail>
-    requires { sum.old.p ≡ resolution.now.group.table.p }
+    requires { sum.old.p ≡ prime_of resolution.now.group }
     ensures { sum.new.p ≡ sum.old.p }
 {
     let p = product(rt, alloc, resolution, i, k)?;

@@ -3,9 +3,8 @@ use Rattle.std.specs.Prelude.{◌≡◌, ℕ, zero, suc, ◌*◌, ◌<◌, ◌�
 use Rattle.std.specs.declared.option.Option.{Option}
 use Rattle.std.specs.declared.option.Option.TheVariants.{None, Some}
 use Rattle.std.specs.Option.{option_map}
-use Rattle.group_table.specs.Tables.{order}
 use Rattle.power_commutator.specs.Presentations.{Presentation}
-use Rattle.group_algebra.specs.PGroups.{PGroup}
+use Rattle.group_algebra.specs.PGroups.{PGroup, order_of}
 use Rattle.min_res.specs.Values.{StageValue}
 use Rattle.min_res.specs.Stages.{stage_rows, rank_of}
 use Rattle.coho_main.specs.Layers.{IsTableOf}
@@ -52,7 +51,7 @@ module _ (G : PGroup) where
 
   -- the dimension of the free module of degree d
   abbrev pub dimension : ℕ → ℕ
-  dimension d = order G.table * rank_of G d
+  dimension d = order_of G * rank_of G d
 
   -- no dimension in the degrees 1 to n is above 4096
   abbrev pub Fit : ℕ → Type 0

@@ -1,7 +1,6 @@
 -- The report on the cohomology ring of a p-group through a degree.
 use Rattle.std.specs.Prelude.{◌≡◌, ℕ, zero, suc, ◌<◌, ◌≤◌, List, [], ◌∷◌, ◌++◌}
-use Rattle.group_table.specs.Tables.{order}
-use Rattle.group_algebra.specs.PGroups.{PGroup, largest_residue}
+use Rattle.group_algebra.specs.PGroups.{PGroup, largest_residue, order_of, prime_of}
 use Rattle.min_res.specs.Stages.{rank_of}
 use Rattle.graded_algebra.specs.Algebras.{Generator, degrees}
 use Rattle.graded_algebra.specs.Vectors.{Vector}
@@ -16,8 +15,8 @@ module _ (G : PGroup) where
 
   -- the report has the ranks of degrees 0 to n, and the generators and relations of degrees 1 to n
   pub record IsReport (n : ℕ) (r : ReportValue) : Type 0 where
-    pub prime : r.prime ≡ G.table.p
-    pub order_is : r.order ≡ order G.table
+    pub prime : r.prime ≡ prime_of G
+    pub order_is : r.order ≡ order_of G
     pub degree : r.degree ≡ n
     pub ranks : r.ranks ≡ ranks_below (suc n)
     pub generators : List (Generator (Vector (largest_residue G)))

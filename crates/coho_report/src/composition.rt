@@ -1,7 +1,7 @@
 //! A report, from a resolution.
 
 ghost use Rattle.std.specs.Prelude.{◌≡◌, ◌+◌, ◌≤◌, ◌<◌, ◌^◌, map, suc, IfOk, IfErr};
-ghost use Rattle.group_algebra.specs.PGroups.{largest_residue};
+ghost use Rattle.group_algebra.specs.PGroups.{largest_residue, prime_of};
 ghost use Rattle.min_res.specs.Stages.{rank_of};
 ghost use Rattle.ring_present.specs.Rings.{IsPresentation};
 ghost use Rattle.ring_present.specs.Values.{generators_of};
@@ -17,7 +17,7 @@ use std::alloc::{AllocError, Global};
 fn ring_through(alloc: Global, res: &Resolution, n: u32, cap: u64) -> Result<Ring, RingFault>
     requires to { n ≤ res.now.last }
     requires high { n ≤ 24 }
-    ensures prime { IfOk result (λ ring. ring.prime ≡ res.now.group.table.p) }
+    ensures prime { IfOk result (λ ring. ring.prime ≡ prime_of res.now.group) }
     ensures degree { IfOk result (λ ring. ring.degree ≡ n) }
     ensures presentation { IfOk result (λ ring. IsPresentation res.now.group n
         (generators_of (largest_residue res.now.group) ring.generators) ring.relations) }

@@ -2,7 +2,7 @@
 use Rattle.std.specs.Prelude.{◌≡◌, ℕ, suc, ◌<◌, ◌^◌, List}
 use Rattle.std.proofs.Common.{arith, sym, ◌∙◌, ap}
 use mathlib.Core.Path.{subst}
-use Rattle.group_table.specs.Tables.{order, order_is}
+use Rattle.group_table.specs.Tables.{order_is}
 use Rattle.linear_algebra.specs.Modular.{IsFieldModulo}
 use Rattle.linear_algebra.specs.Rows.{entry, row, IsRow}
 use Rattle.linear_algebra.proofs.Fields.{field_of_prime}
@@ -16,16 +16,16 @@ use Rattle.radical_layers.proofs.SmallPrimes.{prime-of-field}
 use Rattle.radical_layers.proofs.SumForm.{sum-form, sum-first, sum-others}
 use Rattle.radical_layers.proofs.LayersExist.{layers-exist}
 use Rattle.radical_layers.proofs.FirstLayer.{layer-basis-claims}
-use Rattle.group_algebra.specs.PGroups.{PGroup, largest_residue, group}
+use Rattle.group_algebra.specs.PGroups.{PGroup, largest_residue, group, order_of, prime_of}
 
 module _ (G : PGroup) where
-  pub residues : suc (largest_residue G) ≡ G.table.p
-  residues = let a : 1 < G.table.p = (field_of_prime G.table.p G.law.prime).above_one in omega (arith, a)
+  pub residues : suc (largest_residue G) ≡ prime_of G
+  residues = let a : 1 < prime_of G = (field_of_prime (prime_of G) G.law.prime).above_one in omega (arith, a)
 
   pub field : IsFieldModulo (suc (largest_residue G))
-  field = subst IsFieldModulo (sym residues) (field_of_prime G.table.p G.law.prime)
+  field = subst IsFieldModulo (sym residues) (field_of_prime (prime_of G) G.law.prime)
 
-  pub prime_power : IsPrimePower (largest_residue G) (order G.table)
+  pub prime_power : IsPrimePower (largest_residue G) (order_of G)
   prime_power = record { prime = prime-of-field field; exponent = G.table.n; power = order_is G.table ∙ ap (λ p. p ^ G.table.n) (sym residues) }
 
   -- the free module kG^b, of tables of numbers below p
@@ -33,7 +33,7 @@ module _ (G : PGroup) where
   free_module b = Table (largest_residue G) (group G) b
 
   -- the sum coordinates of a member of kG: the sum of its coefficients, and then the coefficients of the elements 1, 2 and so on
-  pub sum_coordinates : RowForm (order G.table) (free_module 1)
+  pub sum_coordinates : RowForm (order_of G) (free_module 1)
   sum_coordinates = sum-form (largest_residue G) (group G) G.law.law.some
 
   pub sum_coordinates_are : IsSumForm (largest_residue G) (group G) sum_coordinates
@@ -79,5 +79,5 @@ module _ (G : PGroup) where
 
   -- the numbers a are the coefficients of v, by element number
   pub record AreCoefficients (a : List ℕ) (v : (free_module 1).of) : Type 0 where
-    pub is_row : IsRow G.table.p (order G.table) a
-    pub each : (g : Below (order G.table)) → entry a g.0 ≡ (v (residue 0 0) g).0
+    pub is_row : IsRow (prime_of G) (order_of G) a
+    pub each : (g : Below (order_of G)) → entry a g.0 ≡ (v (residue 0 0) g).0

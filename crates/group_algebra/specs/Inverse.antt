@@ -1,8 +1,7 @@
 -- Coefficients and layer coordinates of the members of kG, one from the other.
 use Rattle.std.specs.Prelude.{◌≡◌, ℕ, List}
-use Rattle.group_table.specs.Tables.{order}
 use Rattle.linear_algebra.specs.Rows.{IsRow}
-use Rattle.group_algebra.specs.PGroups.{PGroup}
+use Rattle.group_algebra.specs.PGroups.{PGroup, order_of, prime_of}
 use Rattle.group_algebra.specs.Coordinates.{free_module, row_of, table_of, AreCoefficients}
 
 module _ (G : PGroup) where
@@ -16,5 +15,5 @@ module _ (G : PGroup) where
 
   -- on rows of the length of kG each gives back what the other was given
   pub record AreInverse : Type 0 where
-    pub back : (a x b : List ℕ) → IsRow G.table.p (order G.table) a → AreLayersOf a x → AreCoefficientsOf x b → b ≡ a
-    pub forth : (x a y : List ℕ) → IsRow G.table.p (order G.table) x → AreCoefficientsOf x a → AreLayersOf a y → y ≡ x
+    pub back : (a x b : List ℕ) → IsRow (prime_of G) (order_of G) a → AreLayersOf a x → AreCoefficientsOf x b → b ≡ a
+    pub forth : (x a y : List ℕ) → IsRow (prime_of G) (order_of G) x → AreCoefficientsOf x a → AreLayersOf a y → y ≡ x

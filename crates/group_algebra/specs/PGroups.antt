@@ -15,10 +15,18 @@ pub record PGroup : Type 0 where
   pub table : GroupTable
   pub law : IsPGroup table
 
+-- p
+abbrev pub prime_of : PGroup → ℕ
+prime_of G = G.table.p
+
+-- the number of elements, p^n
+abbrev pub order_of : PGroup → ℕ
+order_of G = order G.table
+
 -- p - 1
 abbrev pub largest_residue : PGroup → ℕ
-largest_residue G = G.table.p - 1
+largest_residue G = prime_of G - 1
 
 -- the group on the numbers below p^n
-abbrev pub group : (G : PGroup) → Group (order G.table)
+abbrev pub group : (G : PGroup) → Group (order_of G)
 group G = group_of (product G.table) G.law.law

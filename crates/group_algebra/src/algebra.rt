@@ -1,11 +1,10 @@
 //! The group algebra of a p-group.
 
 ghost use Rattle.std.specs.Prelude.{◌≡◌, ◌*◌, ◌^◌, ◌<◌, ℕ, length, slice_index, IfOk};
-ghost use Rattle.group_table.specs.Tables.{order};
 ghost use Rattle.group_modules.specs.Maps.{block-sum};
 ghost use Rattle.radical_layers.specs.Placing.{place_of};
 ghost use Rattle.fp_rows.specs.Refs.{entries_of, modulus_of};
-ghost use Rattle.group_algebra.specs.PGroups.{largest_residue, group as group_of};
+ghost use Rattle.group_algebra.specs.PGroups.{largest_residue, group as group_of, order_of, prime_of};
 ghost use Rattle.group_algebra.specs.Coordinates.{free_module, layers, sizes, row_of, table_of, product_with, AreCoefficients};
 
 use crate::combinations::{Images, add_image};
@@ -98,10 +97,10 @@ impl Algebra {
     /// in a block by position. Blocks and members count from 0.
     pub fn place(&self, rank: usize, block: usize, member: usize) -> usize
         requires block { block < rank }
-        requires member { member < order self.now.table }
-        requires small { order self.now.table * rank < 2 ^ 64 }
+        requires member { member < order_of self.now }
+        requires small { order_of self.now * rank < 2 ^ 64 }
         ensures value { result ≡ place_of (sizes self.now) rank block member }
-        ensures inside { result < order self.now.table * rank }
+        ensures inside { result < order_of self.now * rank }
     {
         self.places.place(rank, block, member)
     }
@@ -109,22 +108,22 @@ impl Algebra {
     /// The sum of the coefficients of a block, which is its entry in layer 0.
     pub fn aug(&self, rank: usize, block: usize, v: RowRef<'_>) -> u8
         requires block { block < rank }
-        requires modulus { modulus_of v ≡ self.now.table.p }
-        requires length { length (entries_of v) ≡ order self.now.table * rank }
+        requires modulus { modulus_of v ≡ prime_of self.now }
+        requires length { length (entries_of v) ≡ order_of self.now * rank }
         ensures value { (b : block < rank)
             → result
             ≡ (block-sum (largest_residue self.now) (group_of self.now) rank (table_of self.now rank (entries_of v.entry)) (block, b)).0 }
-        ensures below { result < self.now.table.p }
+        ensures below { result < prime_of self.now }
     {
         v.get(block)
     }
 
     /// Writes the layer coordinates of the member of kG with the coefficients a, by element number.
     pub fn to_layers(&self, a: RowRef<'_>, out: &mut Row)
-        requires modulus { modulus_of a ≡ self.now.table.p }
-        requires prime { out.old.p ≡ self.now.table.p }
-        requires length { length (entries_of a) ≡ order self.now.table }
-        requires out_length { length out.old.entries ≡ order self.now.table }
+        requires modulus { modulus_of a ≡ prime_of self.now }
+        requires prime { out.old.p ≡ prime_of self.now }
+        requires length { length (entries_of a) ≡ order_of self.now }
+        requires out_length { length out.old.entries ≡ order_of self.now }
         ensures prime { out.new.p ≡ out.old.p }
         ensures layers { (v : (free_module self.now 1).of) → AreCoefficients self.now (entries_of a.entry) v
             → out.new.entries ≡ row_of self.now 1 v }
@@ -134,10 +133,10 @@ impl Algebra {
 
     /// Writes the coefficients, by element number, of the member of kG with the layer coordinates v.
     pub fn from_layers(&self, v: RowRef<'_>, out: &mut Row)
-        requires modulus { modulus_of v ≡ self.now.table.p }
-        requires prime { out.old.p ≡ self.now.table.p }
-        requires length { length (entries_of v) ≡ order self.now.table }
-        requires out_length { length out.old.entries ≡ order self.now.table }
+        requires modulus { modulus_of v ≡ prime_of self.now }
+        requires prime { out.old.p ≡ prime_of self.now }
+        requires length { length (entries_of v) ≡ order_of self.now }
+        requires out_length { length out.old.entries ≡ order_of self.now }
         ensures prime { out.new.p ≡ out.old.p }
         ensures coefficients { AreCoefficients self.now out.new.entries (table_of self.now 1 (entries_of v.entry)) }
     {
@@ -146,13 +145,13 @@ impl Algebra {
 
     /// Writes g v: the left action of an element of the group on a member of kG^rank.
     pub fn act(&self, rank: usize, g: u16, v: RowRef<'_>, out: &mut Row)
-        requires element { g < order self.now.table }
-        requires modulus { modulus_of v ≡ self.now.table.p }
-        requires prime { out.old.p ≡ self.now.table.p }
-        requires length { length (entries_of v) ≡ order self.now.table * rank }
-        requires out_length { length out.old.entries ≡ order self.now.table * rank }
+        requires element { g < order_of self.now }
+        requires modulus { modulus_of v ≡ prime_of self.now }
+        requires prime { out.old.p ≡ prime_of self.now }
+        requires length { length (entries_of v) ≡ order_of self.now * rank }
+        requires out_length { length out.old.entries ≡ order_of self.now * rank }
         ensures prime { out.new.p ≡ out.old.p }
-        ensures moved { (b : g < order self.now.table)
+        ensures moved { (b : g < order_of self.now)
             → out.new.entries
             ≡ row_of self.now rank ((free_module self.now rank).act (g, b) (table_of self.now rank (entries_of v.entry))) }
     {
@@ -168,11 +167,11 @@ impl Algebra {
 
     /// Adds a v: the product of a member of kG and one of kG^rank.
     pub fn scale_add(&self, rank: usize, a: RowRef<'_>, v: RowRef<'_>, out: &mut Row)
-        requires moduli { (modulus_of a ≡ self.now.table.p) × (modulus_of v ≡ self.now.table.p) }
-        requires prime { out.old.p ≡ self.now.table.p }
-        requires factor_length { length (entries_of a) ≡ order self.now.table }
-        requires length { length (entries_of v) ≡ order self.now.table * rank }
-        requires out_length { length out.old.entries ≡ order self.now.table * rank }
+        requires moduli { (modulus_of a ≡ prime_of self.now) × (modulus_of v ≡ prime_of self.now) }
+        requires prime { out.old.p ≡ prime_of self.now }
+        requires factor_length { length (entries_of a) ≡ order_of self.now }
+        requires length { length (entries_of v) ≡ order_of self.now * rank }
+        requires out_length { length out.old.entries ≡ order_of self.now * rank }
         ensures prime { out.new.p ≡ out.old.p }
         ensures gained { out.new.entries
             ≡ row_of self.now rank

@@ -1,10 +1,10 @@
 //! The layer basis of the group algebra.
 
 ghost use Rattle.std.specs.Prelude.{◌≡◌, ◌<◌, ◌++◌, ℕ, length, slice_index, OnOk, IfOk};
-ghost use Rattle.group_table.specs.Tables.{order};
 ghost use Rattle.linear_algebra.specs.Choices.{rows_at};
 ghost use Rattle.radical_layers.specs.LayerBasis.{layer_basis as basis_rows};
 ghost use Rattle.group_algebra.specs.Coordinates.{layers, sizes};
+ghost use Rattle.group_algebra.specs.PGroups.{order_of, prime_of};
 
 use crate::p_group::PGroup;
 use crate::powers::{next_power, whole_list};
@@ -34,8 +34,8 @@ fn push_layer(list: &Echelon, taken: &Positions, rows: &mut Matrix) -> Result<()
 
 /// The layer basis: layer i is the greedy complement of J^(i+1) in J^i.
 pub(crate) fn layer_basis(alloc: Global, group: &PGroup) -> Result<LayerBasis, Memory>
-    ensures prime { IfOk result (λ b. b.rows.p ≡ group.now.table.p) }
-    ensures width { IfOk result (λ b. b.rows.width ≡ order group.now.table) }
+    ensures prime { IfOk result (λ b. b.rows.p ≡ prime_of group.now) }
+    ensures width { IfOk result (λ b. b.rows.width ≡ order_of group.now) }
     ensures sizes { IfOk result (λ b. b.sizes.items ≡ sizes group.now) }
     ensures rows { IfOk result (λ b. b.rows.rows ≡ basis_rows (layers group.now)) }
 {

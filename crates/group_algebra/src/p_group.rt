@@ -3,7 +3,7 @@
 ghost use Rattle.std.specs.Prelude.{◌≡◌, ◌≤◌, IfOk};
 ghost use Rattle.group_table.specs.Prime.{prime_value};
 ghost use Rattle.group_table.specs.Tables.{order};
-ghost use Rattle.group_algebra.specs.PGroups.{IsPGroup};
+ghost use Rattle.group_algebra.specs.PGroups.{IsPGroup, order_of, prime_of};
 ghost use Rattle.group_algebra.specs.SameTables.{IsPGroup-prop};
 
 use group_table::{Group, Memory, Prime};
@@ -47,7 +47,7 @@ impl PGroup {
 
     /// How many elements it has.
     pub fn order(&self) -> u16
-        ensures value { result ≡ order self.now.table }
+        ensures value { result ≡ order_of self.now }
         ensures small { result ≤ 256 }
     {
         self.group.order()
@@ -55,7 +55,7 @@ impl PGroup {
 
     /// The prime of which its order is a power.
     pub fn prime(&self) -> Prime
-        ensures { prime_value result ≡ self.now.table.p }
+        ensures { prime_value result ≡ prime_of self.now }
     {
         self.group.prime()
     }

@@ -1,14 +1,14 @@
 //! The powers of the augmentation ideal by their reduced echelon lists, in sum coordinates.
 
 ghost use Rattle.std.specs.Prelude.{◌≡◌, ◌<◌, ◌++◌, ℕ, suc, List, length, map, OnOk, IfOk};
-ghost use Rattle.group_table.specs.Tables.{IsGroupTable, order};
+ghost use Rattle.group_table.specs.Tables.{IsGroupTable};
 ghost use Rattle.linear_algebra.specs.Kernels.{unit_row};
 ghost use Rattle.linear_algebra.specs.Rows.{row, entry, IsRow, IsInSpan};
 ghost use Rattle.group_modules.specs.Module.{sub};
 ghost use Rattle.radical_layers.specs.Layers.{IsPowerList};
 ghost use Rattle.radical_layers.specs.Moves.{move_row, moves};
 ghost use Rattle.fp_rows.specs.Refs.{entries_of, modulus_of};
-ghost use Rattle.group_algebra.specs.PGroups.{largest_residue, group as group_of};
+ghost use Rattle.group_algebra.specs.PGroups.{largest_residue, group as group_of, order_of, prime_of};
 ghost use Rattle.group_algebra.specs.Coordinates.{free_module, sum_coordinates, AreCoefficients};
 
 use crate::coefficients::{write_coefficients, write_sum_coordinates, write_translate};
@@ -19,14 +19,14 @@ use std::alloc::Global;
 
 /// Writes the sum coordinates of (g - 1) v, where v has the coefficients a; `moved` is overwritten.
 fn write_move(group: &PGroup, g: u16, a: RowRef<'_>, moved: &mut Row, out: &mut Row)
-    requires element { g < order group.now.table }
-    requires modulus { modulus_of a ≡ group.now.table.p }
-    requires same_prime { (moved.old.p ≡ group.now.table.p) × (out.old.p ≡ group.now.table.p) }
-    requires length { length (entries_of a) ≡ order group.now.table }
-    requires same_length { (length moved.old.entries ≡ order group.now.table) × (length out.old.entries ≡ order group.now.table) }
+    requires element { g < order_of group.now }
+    requires modulus { modulus_of a ≡ prime_of group.now }
+    requires same_prime { (moved.old.p ≡ prime_of group.now) × (out.old.p ≡ prime_of group.now) }
+    requires length { length (entries_of a) ≡ order_of group.now }
+    requires same_length { (length moved.old.entries ≡ order_of group.now) × (length out.old.entries ≡ order_of group.now) }
     ensures primes { (moved.new.p ≡ moved.old.p) × (out.new.p ≡ out.old.p) }
-    ensures lengths { (length moved.new.entries ≡ order group.now.table) × (length out.new.entries ≡ order group.now.table) }
-    ensures difference { (l : g < order group.now.table) (v : (free_module group.now 1).of)
+    ensures lengths { (length moved.new.entries ≡ order_of group.now) × (length out.new.entries ≡ order_of group.now) }
+    ensures difference { (l : g < order_of group.now) (v : (free_module group.now 1).of)
         → AreCoefficients group.now (entries_of a.entry) v
         → out.new.entries
         ≡ (sum_coordinates group.now).row (sub (free_module group.now 1) ((free_module group.now 1).act (g, l) v) v) }
@@ -45,12 +45,12 @@ fn push_moves(
     list: &Echelon,
     m: &mut Matrix,
 ) -> Result<(), Memory>
-    requires element { g < order group.now.table }
-    requires same_prime { (list.now.p ≡ group.now.table.p) × (m.old.p ≡ group.now.table.p) }
-    requires same_width { (list.now.width ≡ order group.now.table) × (m.old.width ≡ order group.now.table) }
+    requires element { g < order_of group.now }
+    requires same_prime { (list.now.p ≡ prime_of group.now) × (m.old.p ≡ prime_of group.now) }
+    requires same_width { (list.now.width ≡ order_of group.now) × (m.old.width ≡ order_of group.now) }
     ensures kept { OnOk result ((m.new.p ≡ m.old.p) × (m.new.width ≡ m.old.width)) }
     ensures moves { OnOk result (
-        (l : g < order group.now.table)
+        (l : g < order_of group.now)
         → m.new.rows
         ≡ m.old.rows
         ++ map (move_row (group_of group.now) (free_module group.now 1) (sum_coordinates group.now) (g, l)) list.now.rows) }
@@ -70,9 +70,9 @@ fn push_moves(
 
 /// The rows of all (g - 1) v, with v among the rows of the list.
 fn all_moves(alloc: Global, group: &PGroup, list: &Echelon) -> Result<Matrix, Memory>
-    requires same_prime { list.now.p ≡ group.now.table.p }
-    requires same_width { list.now.width ≡ order group.now.table }
-    ensures kept { IfOk result (λ m. (m.p ≡ group.now.table.p) × (m.width ≡ order group.now.table)) }
+    requires same_prime { list.now.p ≡ prime_of group.now }
+    requires same_width { list.now.width ≡ order_of group.now }
+    ensures kept { IfOk result (λ m. (m.p ≡ prime_of group.now) × (m.width ≡ order_of group.now)) }
     ensures moves { IfOk result (λ m.
         m.rows ≡ moves (group_of group.now) (free_module group.now 1) (sum_coordinates group.now) list.now.rows) }
 {
@@ -87,9 +87,9 @@ fn all_moves(alloc: Global, group: &PGroup, list: &Echelon) -> Result<Matrix, Me
 
 /// The list of J^(i+1) from that of J^i, for each i.
 pub(crate) fn next_power(alloc: Global, group: &PGroup, list: &Echelon) -> Result<Echelon, Memory>
-    requires same_prime { list.now.p ≡ group.now.table.p }
-    requires same_width { list.now.width ≡ order group.now.table }
-    ensures kept { IfOk result (λ e. (e.p ≡ group.now.table.p) × (e.width ≡ order group.now.table)) }
+    requires same_prime { list.now.p ≡ prime_of group.now }
+    requires same_width { list.now.width ≡ order_of group.now }
+    ensures kept { IfOk result (λ e. (e.p ≡ prime_of group.now) × (e.width ≡ order_of group.now)) }
     ensures power { IfOk result (λ e.
         (i : ℕ)
         → IsPowerList (largest_residue group.now) (group_of group.now) (sum_coordinates group.now) i list.now.rows
@@ -102,8 +102,8 @@ pub(crate) fn next_power(alloc: Global, group: &PGroup, list: &Echelon) -> Resul
 /// The list of the whole group algebra: the unit rows.
 pub(crate) fn whole_list(alloc: Global, group: &PGroup) -> Result<Echelon, Memory>
     ensures units { IfOk result (λ e.
-        (length e.rows ≡ order group.now.table) × ((k : ℕ) → k < order group.now.table → row e.rows k ≡ unit_row (order group.now.table) k)) }
-    ensures kept { IfOk result (λ e. (e.p ≡ group.now.table.p) × (e.width ≡ order group.now.table)) }
+        (length e.rows ≡ order_of group.now) × ((k : ℕ) → k < order_of group.now → row e.rows k ≡ unit_row (order_of group.now) k)) }
+    ensures kept { IfOk result (λ e. (e.p ≡ prime_of group.now) × (e.width ≡ order_of group.now)) }
     ensures power { IfOk result (λ e.
         IsPowerList (largest_residue group.now) (group_of group.now) (sum_coordinates group.now) 0 e.rows) }
 {

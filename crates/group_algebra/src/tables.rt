@@ -1,12 +1,12 @@
 //! The members of the layer basis, and the products with them.
 
 ghost use Rattle.std.specs.Prelude.{◌≡◌, ◌+◌, ◌*◌, ◌<◌, ◌≤◌, ℕ, length, replicate, IfOk};
-ghost use Rattle.group_table.specs.Tables.{order};
 ghost use Rattle.radical_layers.specs.LayerBasis.{layer_basis as basis_rows};
 ghost use Rattle.fp_rows.specs.Refs.{entries_of, modulus_of};
 ghost use Rattle.group_algebra.specs.Coordinates.{layers};
 ghost use Rattle.group_algebra.specs.Gains.{stepped, GainsCombination};
 ghost use Rattle.group_algebra.specs.Tables.{HasShape, AreMembers, TakesSumsToLayers, IsElementRow, IsTranslateRow, IsProductRow, EachRow};
+ghost use Rattle.group_algebra.specs.PGroups.{order_of};
 
 use crate::coefficients::{write_coefficients, write_sum_coordinates, write_translate};
 use crate::combinations::add_combination;
@@ -31,9 +31,9 @@ pub(crate) fn write_combination(c: RowRef<'_>, rows: &Matrix, first: usize, out:
 
 /// The coefficients of the members of the layer basis, from their sum coordinates.
 pub(crate) fn member_rows(alloc: Global, group: &PGroup, basis: &Matrix) -> Result<Matrix, Memory>
-    requires basis { HasShape group.now (order group.now.table) basis.now }
+    requires basis { HasShape group.now (order_of group.now) basis.now }
     requires rows { basis.now.rows ≡ basis_rows (layers group.now) }
-    ensures shape { IfOk result (λ m. HasShape group.now (order group.now.table) m) }
+    ensures shape { IfOk result (λ m. HasShape group.now (order_of group.now) m) }
     ensures members { IfOk result (λ m. AreMembers group.now m.rows) }
 {
     let p = group.prime();
@@ -53,9 +53,9 @@ pub(crate) fn unit_preimages(
     group: &PGroup,
     basis: &Matrix,
 ) -> Result<Matrix, Memory>
-    requires basis { HasShape group.now (order group.now.table) basis.now }
+    requires basis { HasShape group.now (order_of group.now) basis.now }
     requires rows { basis.now.rows ≡ basis_rows (layers group.now) }
-    ensures shape { IfOk result (λ m. HasShape group.now (order group.now.table) m) }
+    ensures shape { IfOk result (λ m. HasShape group.now (order_of group.now) m) }
     ensures rows { IfOk result (λ m. TakesSumsToLayers group.now m.rows) }
 {
     let whole = whole_list(alloc, group)?;
@@ -65,9 +65,9 @@ pub(crate) fn unit_preimages(
 
 /// The layer coordinates of the elements of the group.
 pub(crate) fn element_rows(alloc: Global, group: &PGroup, units: &Matrix) -> Result<Matrix, Memory>
-    requires units { HasShape group.now (order group.now.table) units.now }
+    requires units { HasShape group.now (order_of group.now) units.now }
     requires rows { TakesSumsToLayers group.now units.now.rows }
-    ensures shape { IfOk result (λ m. HasShape group.now (order group.now.table) m) }
+    ensures shape { IfOk result (λ m. HasShape group.now (order_of group.now) m) }
     ensures rows { IfOk result (λ m. EachRow (IsElementRow group.now) m.rows) }
 {
     let p = group.prime();
@@ -93,11 +93,11 @@ pub(crate) fn translate_rows(
     members: &Matrix,
     elements: &Matrix,
 ) -> Result<Matrix, Memory>
-    requires members { HasShape group.now (order group.now.table) members.now }
+    requires members { HasShape group.now (order_of group.now) members.now }
     requires member_rows { AreMembers group.now members.now.rows }
-    requires elements { HasShape group.now (order group.now.table) elements.now }
+    requires elements { HasShape group.now (order_of group.now) elements.now }
     requires element_rows { EachRow (IsElementRow group.now) elements.now.rows }
-    ensures shape { IfOk result (λ m. HasShape group.now (order group.now.table * order group.now.table) m) }
+    ensures shape { IfOk result (λ m. HasShape group.now (order_of group.now * order_of group.now) m) }
     ensures rows { IfOk result (λ m. EachRow (IsTranslateRow group.now) m.rows) }
 {
     let p = group.prime();
@@ -125,11 +125,11 @@ pub(crate) fn product_rows(
     members: &Matrix,
     translates: &Matrix,
 ) -> Result<Matrix, Memory>
-    requires members { HasShape group.now (order group.now.table) members.now }
+    requires members { HasShape group.now (order_of group.now) members.now }
     requires member_rows { AreMembers group.now members.now.rows }
-    requires translates { HasShape group.now (order group.now.table * order group.now.table) translates.now }
+    requires translates { HasShape group.now (order_of group.now * order_of group.now) translates.now }
     requires translate_rows { EachRow (IsTranslateRow group.now) translates.now.rows }
-    ensures shape { IfOk result (λ m. HasShape group.now (order group.now.table * order group.now.table) m) }
+    ensures shape { IfOk result (λ m. HasShape group.now (order_of group.now * order_of group.now) m) }
     ensures rows { IfOk result (λ m. EachRow (IsProductRow group.now) m.rows) }
 {
     let p = group.prime();

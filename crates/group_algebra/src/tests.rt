@@ -1,6 +1,7 @@
 ghost use Rattle.std.specs.Prelude.{◌≡◌, ◌<◌, ◌*◌, All, IfOk, length, vec_len};
 ghost use Rattle.group_table.specs.Prime.{prime_value};
 ghost use Rattle.group_table.specs.Tables.{order as order_of};
+ghost use Rattle.group_algebra.specs.PGroups.{order_of, prime_of};
 
 use super::*;
 use fp_rows::Row;
@@ -162,7 +163,7 @@ fn layers_of(
     algebra: &Algebra,
     coefficients: &[u8],
 ) -> Result<Row, Fail>
-    ensures { IfOk result (λ r. (r.p ≡ algebra.now.table.p) × (length r.entries ≡ order_of algebra.now.table)) }
+    ensures { IfOk result (λ r. (r.p ≡ prime_of algebra.now) × (length r.entries ≡ order_of algebra.now.table)) }
 {
     let p = algebra.group().prime();
     let n = algebra.group().order() as usize;
@@ -176,7 +177,7 @@ fn layers_of(
 
 // The coefficients of the member with these layer coordinates.
 fn coefficients_of(alloc: Global, algebra: &Algebra, layers: &Row) -> Result<Row, Fail>
-    requires { (layers.now.p ≡ algebra.now.table.p) × (length layers.now.entries ≡ order_of algebra.now.table) }
+    requires { (layers.now.p ≡ prime_of algebra.now) × (length layers.now.entries ≡ order_of algebra.now.table) }
 {
     let mut out = Row::zero(
         alloc,

@@ -1,6 +1,5 @@
 -- The stages by definition, as contracts compare them with values, and the laws that hold of them.
 use Rattle.std.specs.Prelude.{◌≡◌, ℕ, suc, List, map, None, Some, ◌*◌, ◌≤◌}
-use Rattle.group_table.specs.Tables.{order}
 use Rattle.group_modules.specs.Module.{Module, lin}
 use Rattle.group_modules.specs.Field.{Below}
 use Rattle.group_modules.specs.Tables.{monoid, terms}
@@ -9,7 +8,7 @@ use Rattle.resolution_stages.specs.Definitions.{RowInKernel, InKernel, boundary}
 use Rattle.resolution_stages.specs.Chain.{section_row}
 use Rattle.resolution_stages.specs.Computed.{IsMatrixOf}
 use Rattle.fp_rows.specs.Values.{MatrixValue}
-use Rattle.group_algebra.specs.PGroups.{PGroup, largest_residue, group}
+use Rattle.group_algebra.specs.PGroups.{PGroup, largest_residue, group, order_of, prime_of}
 use Rattle.group_algebra.specs.Coordinates.{free_module, layer_coordinates, table_of}
 use Rattle.min_res.specs.Stages.{stage_rows, rank_of}
 use Rattle.min_res.specs.Values.{BoundaryValue, StageValue}
@@ -37,16 +36,16 @@ module _ (G : PGroup) where
 
   -- the reduced echelon list of K_d
   abbrev pub kernel_value : ℕ → MatrixValue
-  kernel_value d = record { p = G.table.p; width = order G.table * rank_of G d; rows = (stage_rows G).kernel d }
+  kernel_value d = record { p = prime_of G; width = order_of G * rank_of G d; rows = (stage_rows G).kernel d }
 
   -- the boundary of degree d + 1 with its section
   pub record IsBoundaryAt (d : ℕ) (B : BoundaryValue) : Type 0 where
     pub source_is : B.source ≡ kernel_value d
     pub positions_are : B.positions ≡ (stage_rows G).positions d
-    pub matrix_prime : B.matrix.p ≡ G.table.p
-    pub matrix_width : B.matrix.width ≡ order G.table * rank_of G d
+    pub matrix_prime : B.matrix.p ≡ prime_of G
+    pub matrix_width : B.matrix.width ≡ order_of G * rank_of G d
     pub matrix_is : IsMatrixOf (layer_coordinates G (rank_of G (suc d))) (layer_coordinates G (rank_of G d)) (∂ d) B.matrix.rows
-    pub sections_are : B.sections ≡ record { p = G.table.p; width = order G.table * rank_of G (suc d); rows = map (σ d) ((stage_rows G).kernel d) }
+    pub sections_are : B.sections ≡ record { p = prime_of G; width = order_of G * rank_of G (suc d); rows = map (σ d) ((stage_rows G).kernel d) }
 
   -- the stage of degree d
   pub record IsStageAt (d : ℕ) (s : StageValue) : Type 0 where
@@ -71,4 +70,4 @@ module _ (G : PGroup) where
   pub record IsSectionOf (d : ℕ) : Type 0 where
     pub boundary_is : (x : List ℕ) → InK d x → ∂ d (table_of G (rank_of G (suc d)) (σ d x)) ≡ table_of G (rank_of G d) x
     pub by_table : (x : List ℕ) → InK d x
-        → σ d x ≡ section_row (suc (largest_residue G)) (order G.table * rank_of G (suc d)) ((stage_rows G).kernel d) (map (σ d) ((stage_rows G).kernel d)) x
+        → σ d x ≡ section_row (suc (largest_residue G)) (order_of G * rank_of G (suc d)) ((stage_rows G).kernel d) (map (σ d) ((stage_rows G).kernel d)) x

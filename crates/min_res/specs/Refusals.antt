@@ -1,12 +1,11 @@
 -- When a resolution is not extended.
 use Rattle.std.specs.Prelude.{◌≡◌, ℕ, ◌*◌, ◌<◌}
-use Rattle.group_table.specs.Tables.{order}
-use Rattle.group_algebra.specs.PGroups.{PGroup}
+use Rattle.group_algebra.specs.PGroups.{PGroup, order_of}
 use Rattle.min_res.specs.Stages.{rank_of}
 use Rattle.min_res.specs.declared.fault.ResFault.{ResFault}
 use Rattle.min_res.specs.declared.fault.ResFault.TheVariants.{TooLarge, Memory}
 
 -- the fault names the degree and the dimension of its free module, which is above the limit; or memory was wanting
 abbrev pub IsRefusal : PGroup → ℕ → ℕ → ResFault → Type 0
-IsRefusal G d limit (TooLarge degree dimension) = (degree ≡ d) × (dimension ≡ order G.table * rank_of G d) × (limit < dimension)
+IsRefusal G d limit (TooLarge degree dimension) = (degree ≡ d) × (dimension ≡ order_of G * rank_of G d) × (limit < dimension)
 IsRefusal G d limit Memory = Unit {0}

@@ -7,6 +7,7 @@ ghost use Rattle.linear_algebra.specs.Rows.{IsRow};
 ghost use Rattle.min_res.specs.RowMaps.{IsBlock, linear_map, value_row};
 ghost use Rattle.resolution_stages.specs.Computed.{IsMatrixOf};
 ghost use Rattle.std.specs.Prelude.{◌≡◌, ◌<◌, ◌*◌, ◌^◌, ℕ, IfOk, OnOk, length, slice_index};
+ghost use Rattle.group_algebra.specs.PGroups.{order_of, prime_of};
 
 use fp_rows::{Echelon, Matrix, Positions, Row, RowRef};
 use group_algebra::Algebra;
@@ -16,10 +17,10 @@ use std::alloc::Global;
 // Writes block i of the row u of `rank` blocks.
 fn write_block(algebra: &Algebra, rank: usize, i: usize, u: RowRef<'_>, block: &mut Row)
     requires below { i < rank }
-    requires fits { order algebra.now.table * rank < 2 ^ 64 }
-    requires argument { length (entries_of u) ≡ order algebra.now.table * rank }
+    requires fits { order_of algebra.now * rank < 2 ^ 64 }
+    requires argument { length (entries_of u) ≡ order_of algebra.now * rank }
     requires argument_prime { modulus_of u ≡ block.old.p }
-    requires block_length { length block.old.entries ≡ order algebra.now.table }
+    requires block_length { length block.old.entries ≡ order_of algebra.now }
     ensures prime { block.new.p ≡ block.old.p }
     ensures length { length block.new.entries ≡ length block.old.entries }
     ensures block { IsBlock algebra.now rank i (entries_of u.entry) block.new.entries }
@@ -40,15 +41,15 @@ fn write_value(
     out: &mut Row,
 )
     requires inside { (i : ℕ) → i < length positions.now → slice_index positions.now i < length list.now.rows }
-    requires list_prime { list.now.p ≡ algebra.now.table.p }
-    requires list_width { list.now.width ≡ order algebra.now.table * target }
-    requires fits { order algebra.now.table * length positions.now < 2 ^ 64 }
-    requires argument { IsRow algebra.now.table.p (order algebra.now.table * length positions.now) (entries_of u) }
-    requires argument_prime { modulus_of u ≡ algebra.now.table.p }
-    requires block_prime { block.old.p ≡ algebra.now.table.p }
-    requires block_length { length block.old.entries ≡ order algebra.now.table }
-    requires out_prime { out.old.p ≡ algebra.now.table.p }
-    requires out_length { length out.old.entries ≡ order algebra.now.table * target }
+    requires list_prime { list.now.p ≡ prime_of algebra.now }
+    requires list_width { list.now.width ≡ order_of algebra.now * target }
+    requires fits { order_of algebra.now * length positions.now < 2 ^ 64 }
+    requires argument { IsRow (prime_of algebra.now) (order_of algebra.now * length positions.now) (entries_of u) }
+    requires argument_prime { modulus_of u ≡ prime_of algebra.now }
+    requires block_prime { block.old.p ≡ prime_of algebra.now }
+    requires block_length { length block.old.entries ≡ order_of algebra.now }
+    requires out_prime { out.old.p ≡ prime_of algebra.now }
+    requires out_length { length out.old.entries ≡ order_of algebra.now * target }
     ensures block_prime { block.new.p ≡ block.old.p }
     ensures block_length { length block.new.entries ≡ length block.old.entries }
     ensures out_prime { out.new.p ≡ out.old.p }
@@ -77,12 +78,12 @@ pub(crate) fn matrix_of(
     positions: &Positions,
 ) -> Result<Matrix, Memory>
     requires inside { (i : ℕ) → i < length positions.now → slice_index positions.now i < length list.now.rows }
-    requires list_prime { list.now.p ≡ algebra.now.table.p }
-    requires list_width { list.now.width ≡ order algebra.now.table * target }
-    requires fits { order algebra.now.table * length positions.now < 2 ^ 64 }
-    ensures prime { IfOk result (λ m. m.p ≡ algebra.now.table.p) }
+    requires list_prime { list.now.p ≡ prime_of algebra.now }
+    requires list_width { list.now.width ≡ order_of algebra.now * target }
+    requires fits { order_of algebra.now * length positions.now < 2 ^ 64 }
+    ensures prime { IfOk result (λ m. m.p ≡ prime_of algebra.now) }
     ensures width { IfOk result (λ m. m.width ≡ list.now.width) }
-    ensures count { IfOk result (λ m. length m.rows ≡ order algebra.now.table * length positions.now) }
+    ensures count { IfOk result (λ m. length m.rows ≡ order_of algebra.now * length positions.now) }
     ensures matrix { IfOk result (λ m. IsMatrixOf (layer_coordinates algebra.now (length positions.now)) (layer_coordinates algebra.now target)
         (linear_map algebra.now target list.now.rows positions.now) m.rows) }
 {

@@ -2,11 +2,11 @@
 
 ghost use Rattle.fp_rows.specs.Refs.{entries_of, modulus_of};
 ghost use Rattle.group_modules.specs.Field.{Below};
-ghost use Rattle.group_table.specs.Tables.{order};
 ghost use Rattle.linear_algebra.specs.Rows.{IsRow};
 ghost use Rattle.min_res.specs.Products.{numbers};
 ghost use Rattle.min_res.specs.RowMaps.{move_of, moves_of};
 ghost use Rattle.std.specs.Prelude.{◌≡◌, ◌++◌, ◌<◌, ◌*◌, ◌^◌, All, IfOk, List, OnOk, length, map};
+ghost use Rattle.group_algebra.specs.PGroups.{order_of, prime_of};
 
 use fp_rows::{Echelon, Matrix, Row, RowRef};
 use group_algebra::Algebra;
@@ -15,14 +15,14 @@ use std::alloc::Global;
 
 // Writes (s - 1) v.
 fn write_move(algebra: &Algebra, rank: usize, s: u16, v: RowRef<'_>, out: &mut Row)
-    requires element { s < order algebra.now.table }
-    requires row { IsRow algebra.now.table.p (order algebra.now.table * rank) (entries_of v) }
-    requires same_prime { modulus_of v ≡ algebra.now.table.p }
-    requires out_prime { out.old.p ≡ algebra.now.table.p }
-    requires out_length { length out.old.entries ≡ order algebra.now.table * rank }
+    requires element { s < order_of algebra.now }
+    requires row { IsRow (prime_of algebra.now) (order_of algebra.now * rank) (entries_of v) }
+    requires same_prime { modulus_of v ≡ prime_of algebra.now }
+    requires out_prime { out.old.p ≡ prime_of algebra.now }
+    requires out_length { length out.old.entries ≡ order_of algebra.now * rank }
     ensures prime { out.new.p ≡ out.old.p }
     ensures length { length out.new.entries ≡ length out.old.entries }
-    ensures moved { (g : Below (order algebra.now.table)) → g.0 ≡ s
+    ensures moved { (g : Below (order_of algebra.now)) → g.0 ≡ s
         → out.new.entries ≡ move_of algebra.now rank g (entries_of v.entry) }
 {
     algebra.act(rank, s, v, out);
@@ -39,14 +39,14 @@ fn push_moves(
     list: &Echelon,
     moves: &mut Matrix,
 ) -> Result<(), Memory>
-    requires element { s < order algebra.now.table }
-    requires list_prime { list.now.p ≡ algebra.now.table.p }
-    requires list_width { list.now.width ≡ order algebra.now.table * rank }
-    requires moves_prime { moves.old.p ≡ algebra.now.table.p }
+    requires element { s < order_of algebra.now }
+    requires list_prime { list.now.p ≡ prime_of algebra.now }
+    requires list_width { list.now.width ≡ order_of algebra.now * rank }
+    requires moves_prime { moves.old.p ≡ prime_of algebra.now }
     requires moves_width { moves.old.width ≡ list.now.width }
     ensures moves_prime { moves.new.p ≡ moves.old.p }
     ensures moves_width { moves.new.width ≡ moves.old.width }
-    ensures pushed { OnOk result ((g : Below (order algebra.now.table)) → g.0 ≡ s
+    ensures pushed { OnOk result ((g : Below (order_of algebra.now)) → g.0 ≡ s
         → moves.new.rows ≡ moves.old.rows ++ map (move_of algebra.now rank g) list.now.rows) }
 {
     let mut moved = Row::zero(alloc, list.prime(), list.width())?;
@@ -65,12 +65,12 @@ pub(crate) fn moves(
     elements: &[u16],
     list: &Echelon,
 ) -> Result<Matrix, Memory>
-    requires elements { All (λ s. s < order algebra.now.table) elements.now }
-    requires list_prime { list.now.p ≡ algebra.now.table.p }
-    requires list_width { list.now.width ≡ order algebra.now.table * rank }
-    ensures prime { IfOk result (λ moves. moves.p ≡ algebra.now.table.p) }
+    requires elements { All (λ s. s < order_of algebra.now) elements.now }
+    requires list_prime { list.now.p ≡ prime_of algebra.now }
+    requires list_width { list.now.width ≡ order_of algebra.now * rank }
+    ensures prime { IfOk result (λ moves. moves.p ≡ prime_of algebra.now) }
     ensures width { IfOk result (λ moves. moves.width ≡ list.now.width) }
-    ensures rows { IfOk result (λ moves. (gs : List (Below (order algebra.now.table))) → numbers gs ≡ elements.now
+    ensures rows { IfOk result (λ moves. (gs : List (Below (order_of algebra.now))) → numbers gs ≡ elements.now
         → moves.rows ≡ moves_of algebra.now rank gs list.now.rows) }
 {
     let mut moves = Matrix::new(alloc, list.prime(), list.width());

@@ -1,11 +1,11 @@
 //! From the stage of degree d to that of degree d + 1.
 
-ghost use Rattle.group_table.specs.Tables.{order};
 ghost use Rattle.min_res.specs.Defined.{IsStageAt};
 ghost use Rattle.min_res.specs.Products.{AreGenerators};
 ghost use Rattle.min_res.specs.Refusals.{IsRefusal};
 ghost use Rattle.min_res.specs.Stages.{rank_of, stage_rows};
 ghost use Rattle.std.specs.Prelude.{◌≡◌, ◌<◌, ◌≤◌, ◌+◌, ◌*◌, ◌^◌, ℕ, suc, IfErr, IfOk, length, slice_index};
+ghost use Rattle.group_algebra.specs.PGroups.{order_of, prime_of};
 
 use crate::boundary::Boundary;
 use crate::fault::ResFault;
@@ -28,8 +28,8 @@ fn next_positions(
     list: &Echelon,
 ) -> Result<Positions, Memory>
     requires generators { AreGenerators algebra.now.table generators.now }
-    requires list_prime { list.now.p ≡ algebra.now.table.p }
-    requires list_width { list.now.width ≡ order algebra.now.table * rank }
+    requires list_prime { list.now.p ≡ prime_of algebra.now }
+    requires list_width { list.now.width ≡ order_of algebra.now * rank }
     requires small { list.now.width ≤ 2 ^ 28 }
     ensures { IfOk result (λ positions. (d : ℕ) → rank ≡ rank_of algebra.now d
         → list.now.rows ≡ (stage_rows algebra.now).kernel d → positions ≡ (stage_rows algebra.now).positions d) }
@@ -51,9 +51,9 @@ fn stage_with(
     requires last { IsStageAt algebra.now last.now.degree last.now }
     requires positions { positions ≡ (stage_rows algebra.now).positions last.now.degree }
     requires degree { last.now.degree + 1 < 2 ^ 32 }
-    requires small { order algebra.now.table * length positions ≤ 2 ^ 28 }
+    requires small { order_of algebra.now * length positions ≤ 2 ^ 28 }
     ensures stage { IfOk result (λ s. IsStageAt algebra.now (suc last.now.degree) s) }
-    ensures width { IfOk result (λ s. s.kernel.width ≡ order algebra.now.table * length positions) }
+    ensures width { IfOk result (λ s. s.kernel.width ≡ order_of algebra.now * length positions) }
 {
     let source = last.list().clone()?;
     let matrix = matrix_of(alloc, algebra, last.rank(), &source, &positions)?;

@@ -1,11 +1,11 @@
 //! A minimal resolution, a stage at a time.
 
 ghost use Rattle.fp_rows.specs.Refs.{entries_of, modulus_of};
-ghost use Rattle.group_table.specs.Tables.{order};
 ghost use Rattle.min_res.specs.Defined.{InK, IsExactMinimal, IsSectionOf, IsStageAt, σ};
 ghost use Rattle.min_res.specs.Refusals.{IsRefusal};
 ghost use Rattle.min_res.specs.Stages.{rank_of};
 ghost use Rattle.std.specs.Prelude.{◌≡◌, ◌≤◌, ◌<◌, ◌+◌, ◌-◌, ◌*◌, ◌^◌, ◌↔◌, suc, length, IfErr, IfOk, IfSome, IsNone, OnErr, OnOk};
+ghost use Rattle.group_algebra.specs.PGroups.{order_of, prime_of};
 
 use crate::fault::ResFault;
 use crate::first::first_stage;
@@ -68,7 +68,7 @@ impl Resolution {
         requires few { self.old.last + 1 < 2 ^ 32 }
         requires limit { limit ≤ 2 ^ 28 }
         ensures grown { OnOk result (self.new ≡ record self.old { last = suc self.old.last }) }
-        ensures within { OnOk result (order self.old.group.table * rank_of self.old.group (suc self.old.last) ≤ limit) }
+        ensures within { OnOk result (order_of self.old.group * rank_of self.old.group (suc self.old.last) ≤ limit) }
         ensures refused { IfErr result (λ e. IsRefusal self.old.group (suc self.old.last) limit e) }
         ensures kept { OnErr result (self.new ≡ self.old) }
 
@@ -136,10 +136,10 @@ impl Resolution {
     pub fn section(&self, d: u32, v: RowRef<'_>, out: &mut Row)
         requires from { 1 ≤ d }
         requires to { d ≤ self.now.last }
-        requires prime { modulus_of v ≡ self.now.group.table.p }
+        requires prime { modulus_of v ≡ prime_of self.now.group }
         requires member { InK self.now.group (d - 1) (entries_of v) }
-        requires out_prime { out.old.p ≡ self.now.group.table.p }
-        requires out_length { length out.old.entries ≡ order self.now.group.table * rank_of self.now.group d }
+        requires out_prime { out.old.p ≡ prime_of self.now.group }
+        requires out_length { length out.old.entries ≡ order_of self.now.group * rank_of self.now.group d }
         ensures prime { out.new.p ≡ out.old.p }
         ensures value { out.new.entries ≡ σ self.now.group (d - 1) (entries_of v.entry) }
     {

@@ -3,6 +3,7 @@ ghost use Rattle.group_table.specs.Tables.{order};
 ghost use Rattle.min_res.specs.Defined.{InK};
 ghost use Rattle.min_res.specs.Stages.{rank_of};
 ghost use Rattle.std.specs.Prelude.{◌≡◌, ◌*◌, ◌<◌, All, IfOk, IsTrue, length, vec_len};
+ghost use Rattle.group_algebra.specs.PGroups.{order_of, prime_of};
 
 use super::*;
 use fp_rows::{Row, RowRef};
@@ -244,7 +245,7 @@ fn row_of(rt: &impl Abort, alloc: Global, p: Prime, entries: &[u8]) -> Result<Ro
 
 // Whether a row is one of the kernel of degree d.
 fn is_in_kernel(resolution: &Resolution, d: u32, v: &Row) -> bool
-    requires { v.now.p ≡ resolution.now.group.table.p }
+    requires { v.now.p ≡ prime_of resolution.now.group }
     ensures { IsTrue result → InK resolution.now.group d v.now.entries }
 {
     let Some(stage) = resolution.stage(d) else {
@@ -258,8 +259,8 @@ fn is_in_kernel(resolution: &Resolution, d: u32, v: &Row) -> bool
 
 // The zero of the free module of degree d.
 fn zero_of(alloc: Global, resolution: &Resolution, d: u32) -> Result<Row, Fail>
-    ensures prime { IfOk result (λ r. r.p ≡ resolution.now.group.table.p) }
-    ensures width { IfOk result (λ r. length r.entries ≡ order resolution.now.group.table * rank_of resolution.now.group d) }
+    ensures prime { IfOk result (λ r. r.p ≡ prime_of resolution.now.group) }
+    ensures width { IfOk result (λ r. length r.entries ≡ order_of resolution.now.group * rank_of resolution.now.group d) }
 {
     let p = resolution.algebra().group().prime();
     let stage = resolution.stage(d).ok_or("no stage")?;

@@ -1,6 +1,6 @@
 -- What the next degree adds to a ring.
 use Rattle.std.specs.Prelude.{◌≡◌, ℕ, suc, List, ◌++◌, All}
-use Rattle.group_algebra.specs.PGroups.{PGroup}
+use Rattle.group_algebra.specs.PGroups.{PGroup, prime_of}
 use Rattle.graded_polynomials.specs.Polynomials.{Polynomial}
 use Rattle.chain_lift.specs.Values.{LiftValue}
 use Rattle.ring_present.specs.Rings.{IsPresentation}
@@ -14,7 +14,7 @@ pub record IsLiftOf (G : PGroup) (d : ℕ) (l : LiftValue) : Type 0 where
 
 -- the new generators and relations with the old ones are those through degree n + 1
 pub record IsNext (G : PGroup) (lifts : List LiftValue) (relations : List Polynomial) (n : ℕ) (x : Next) : Type 0 where
-  pub gens_are : x.gens ≡ record { prime = G.table.p; degrees = degrees_of (lifts ++ x.lifts.items) }
+  pub gens_are : x.gens ≡ record { prime = prime_of G; degrees = degrees_of (lifts ++ x.lifts.items) }
   pub lifts_are : All (IsLiftOf G (suc n)) x.lifts.items
   pub presentation : IsPresentation G (suc n) (classes G (lifts ++ x.lifts.items)) (relations ++ x.relations.items)
   pub degree_is : IsDegree G (suc n) (lifts ++ x.lifts.items) x.degree

@@ -10,6 +10,7 @@ ghost use Rattle.graded_polynomials.specs.Texts.{power};
 ghost use Rattle.presentation_rows.specs.Values.{AreUnitRows};
 ghost use Rattle.min_res.specs.Stages.{rank_of};
 ghost use Rattle.ring_present.specs.Degrees.{AreAll, IsLower, degrees_of, new_lift, kept};
+ghost use Rattle.group_algebra.specs.PGroups.{prime_of};
 
 use crate::degree::Valued;
 use crate::values::Lower;
@@ -128,10 +129,10 @@ fn add_generator(
     requires within { d ≤ res.now.last }
     requires low { 1 ≤ d }
     requires high { d ≤ 24 }
-    requires prime { modulus_of class ≡ res.now.group.table.p }
+    requires prime { modulus_of class ≡ prime_of res.now.group }
     requires length { length (entries_of class) ≡ rank_of res.now.group d }
     requires order { All (λ e. e ≤ d) gens.old.degrees }
-    requires values_prime { all.old.values.p ≡ res.now.group.table.p }
+    requires values_prime { all.old.values.p ≡ prime_of res.now.group }
     requires values_width { all.old.values.width ≡ length (entries_of class) }
     requires greater { All (λ m. IsGreater m (power (length gens.old.degrees) 1)) all.old.monomials }
     ensures lifts { OnOk result (lifts.new.items ≡ lifts.old.items ++ new_lift res.now.group d (entries_of class.entry) ∷ []) }
@@ -166,16 +167,16 @@ impl<'a> Lower<'a> {
         requires lower { IsLower self.now.group.now self.now.lifts.now self.now.degrees.now }
         requires within { suc (length self.now.degrees.now) ≤ res.now.last }
         requires high { length self.now.degrees.now < 24 }
-        requires basis_prime { basis.now.p ≡ res.now.group.table.p }
+        requires basis_prime { basis.now.p ≡ prime_of res.now.group }
         requires basis { AreUnitRows (rank_of res.now.group (suc (length self.now.degrees.now))) basis.now.rows }
         requires basis_width { basis.now.width ≡ rank_of res.now.group (suc (length self.now.degrees.now)) }
         requires places { All (λ k. k < length basis.now.rows) places.now }
-        requires gens { gens.old ≡ record { prime = res.now.group.table.p; degrees = degrees_of self.now.lifts.now } }
+        requires gens { gens.old ≡ record { prime = prime_of res.now.group; degrees = degrees_of self.now.lifts.now } }
         requires all { AreAll res.now.group (suc (length self.now.degrees.now)) self.now.lifts.now all.old }
         ensures lifts { IfOk result (λ lifts. lifts.items
             ≡ map (λ k. new_lift res.now.group (suc (length self.now.degrees.now)) (row basis.now.rows k)) places.now) }
         ensures gens { IfOk result (λ lifts. gens.new
-            ≡ record { prime = res.now.group.table.p; degrees = degrees_of (self.now.lifts.now ++ lifts.items) }) }
+            ≡ record { prime = prime_of res.now.group; degrees = degrees_of (self.now.lifts.now ++ lifts.items) }) }
         ensures all { IfOk result (λ lifts. AreAll res.now.group (suc (length self.now.degrees.now)) (self.now.lifts.now ++ lifts.items) all.new) }
         ensures rows { IfOk result (λ lifts. all.new.values.rows ≡ all.old.values.rows ++ rows_at basis.now.rows places.now) }
     {

@@ -4,7 +4,7 @@ ghost use Rattle.std.specs.Prelude.{◌≡◌, suc, ◌+◌, ◌<◌, ◌≤◌,
 ghost use Rattle.linear_algebra.specs.Rows.{AreInSpan};
 ghost use Rattle.linear_algebra.specs.Kernels.{IsKernelOf};
 ghost use Rattle.linear_algebra.specs.Choices.{ArePreimages};
-ghost use Rattle.group_algebra.specs.PGroups.{largest_residue};
+ghost use Rattle.group_algebra.specs.PGroups.{largest_residue, prime_of};
 ghost use Rattle.graded_algebra.specs.Presentations.{IsSpanGenerators};
 ghost use Rattle.presentation_rows.specs.Values.{AreUnitRows};
 ghost use Rattle.min_res.specs.Stages.{rank_of};
@@ -76,7 +76,7 @@ impl<'a> Lower<'a> {
         requires heights { All (λ l. suc (length self.now.degrees.now) ≤ l.degree + l.height) self.now.lifts.now }
         requires within { suc (length self.now.degrees.now) ≤ res.now.last }
         requires high { length self.now.degrees.now < 24 }
-        requires gens { gens.now ≡ record { prime = res.now.group.table.p; degrees = degrees_of self.now.lifts.now } }
+        requires gens { gens.now ≡ record { prime = prime_of res.now.group; degrees = degrees_of self.now.lifts.now } }
         ensures { IfOk result (λ all. AreAll res.now.group (suc (length self.now.degrees.now)) self.now.lifts.now all) }
     {
         let d = self.degrees.len() as u32 + 1;
@@ -101,14 +101,14 @@ impl<'a> Lower<'a> {
             (length self.now.degrees.now) (classes res.now.group self.now.lifts.now) }
         requires within { suc (length self.now.degrees.now) ≤ res.now.last }
         requires high { length self.now.degrees.now < 24 }
-        requires basis_prime { basis.now.p ≡ res.now.group.table.p }
+        requires basis_prime { basis.now.p ≡ prime_of res.now.group }
         requires basis { AreUnitRows (rank_of res.now.group (suc (length self.now.degrees.now))) basis.now.rows }
         requires basis_width { basis.now.width ≡ rank_of res.now.group (suc (length self.now.degrees.now)) }
-        requires gens { gens.old ≡ record { prime = res.now.group.table.p; degrees = degrees_of self.now.lifts.now } }
+        requires gens { gens.old ≡ record { prime = prime_of res.now.group; degrees = degrees_of self.now.lifts.now } }
         requires all { AreAll res.now.group (suc (length self.now.degrees.now)) self.now.lifts.now all.old }
         ensures lifts { IfOk result (λ lifts. All (IsLiftOf res.now.group (suc (length self.now.degrees.now))) lifts.items) }
         ensures gens { IfOk result (λ lifts. gens.new
-            ≡ record { prime = res.now.group.table.p; degrees = degrees_of (self.now.lifts.now ++ lifts.items) }) }
+            ≡ record { prime = prime_of res.now.group; degrees = degrees_of (self.now.lifts.now ++ lifts.items) }) }
         ensures all { IfOk result (λ lifts. AreAll res.now.group (suc (length self.now.degrees.now)) (self.now.lifts.now ++ lifts.items) all.new) }
         ensures generators { IfOk result (λ lifts. IsSpanGenerators (largest_residue res.now.group) (cohomology res.now.group) (dual_basis res.now.group)
             (suc (length self.now.degrees.now)) (classes res.now.group (self.now.lifts.now ++ lifts.items))) }
@@ -133,7 +133,7 @@ impl<'a> Lower<'a> {
         requires heights { All (λ l. suc (length self.now.degrees.now) ≤ l.degree + l.height) self.now.lifts.now }
         requires within { suc (length self.now.degrees.now) ≤ res.now.last }
         requires high { length self.now.degrees.now < 24 }
-        requires gens { gens ≡ record { prime = res.now.group.table.p; degrees = degrees_of self.now.lifts.now } }
+        requires gens { gens ≡ record { prime = prime_of res.now.group; degrees = degrees_of self.now.lifts.now } }
         ensures { IfOk result (IsNext res.now.group self.now.lifts.now relations.now (length self.now.degrees.now)) }
     {
         let d = self.degrees.len() as u32 + 1;

@@ -7,6 +7,7 @@ ghost use Rattle.ring_present.specs.Degrees.{degrees_of, kept, lifted};
 ghost use Rattle.ring_present.specs.Prefixes.{IsPrefix};
 ghost use Rattle.ring_present.specs.Refusals.{IsRefusal};
 ghost use Rattle.ring_present.specs.Stores.{IsRingOf, IsRingStore};
+ghost use Rattle.group_algebra.specs.PGroups.{prime_of};
 
 use crate::degree::Degree;
 use crate::fault::RingFault;
@@ -74,7 +75,7 @@ impl Presentation {
         ensures relations_grown { OnOk result (IsPrefix self.old.relations.items self.new.relations.items) }
         ensures degrees_grown { OnOk result (IsPrefix self.old.degrees.items self.new.degrees.items) }
         ensures counted { OnOk result ((ms : List (List ℕ))
-            → IsMonomials (res.now.group.table.p - 1) self.old.gens.degrees (suc (length self.old.degrees.items)) ms
+            → IsMonomials ((prime_of res.now.group) - 1) self.old.gens.degrees (suc (length self.old.degrees.items)) ms
             → min (length ms) 18446744073709551615 ≤ cap) }
         ensures refused { IfErr result (λ e. IsRefusal res.now.group (suc (length self.old.degrees.items)) cap e) }
         ensures group_kept { OnErr result (self.new.group ≡ self.old.group) }

@@ -3,7 +3,7 @@
 ghost use Rattle.std.specs.Prelude.{◌≡◌, ℕ, suc, ◌<◌, ◌≤◌, [], List, length, map, min, slice_get, slice_index_or};
 ghost use Rattle.std.specs.Prelude.{OnOk, OnErr, IfOk, IfErr, IfSome, Some, None};
 ghost use Rattle.group_table.specs.Prime.{prime_value};
-ghost use Rattle.group_algebra.specs.PGroups.{PGroup, largest_residue};
+ghost use Rattle.group_algebra.specs.PGroups.{PGroup, largest_residue, prime_of};
 ghost use Rattle.graded_polynomials.specs.Monomials.{IsMonomials};
 ghost use Rattle.graded_algebra.specs.Algebras.{evaluate};
 ghost use Rattle.graded_algebra.specs.Presentations.{IsNormalForm};
@@ -88,7 +88,7 @@ impl Ring {
         requires high { self.old.degree < 24 }
         requires same_group { IfSome self.old.group (λ G. G ≡ res.now.group) }
         ensures group { OnOk result (self.new.group ≡ Some res.now.group) }
-        ensures prime { OnOk result (self.new.prime ≡ res.now.group.table.p) }
+        ensures prime { OnOk result (self.new.prime ≡ prime_of res.now.group) }
         ensures degree { OnOk result (self.new.degree ≡ suc self.old.degree) }
         ensures presentation { OnOk result (IsPresentation res.now.group self.new.degree
             (generators_of (largest_residue res.now.group) self.new.generators) self.new.relations) }

@@ -4,7 +4,7 @@ ghost use Rattle.std.specs.Prelude.{◌≡◌, ℕ, suc, ◌+◌, ◌-◌, ◌<�
 ghost use Rattle.linear_algebra.specs.Rows.{row};
 ghost use Rattle.fp_rows.specs.Refs.{entries_of, modulus_of};
 ghost use Rattle.group_table.specs.Prime.{prime_value};
-ghost use Rattle.group_algebra.specs.PGroups.{largest_residue};
+ghost use Rattle.group_algebra.specs.PGroups.{largest_residue, prime_of};
 ghost use Rattle.graded_polynomials.specs.Monomials.{IsMonomial, IsMonomials, IsTrimmed};
 ghost use Rattle.graded_algebra.specs.Algebras.{degrees, evaluate};
 ghost use Rattle.presentation_rows.specs.Factors.{IsLastFactor};
@@ -72,11 +72,11 @@ fn last_lift<'a>(lifts: &'a [Lift], m: &Mono) -> &'a Lift
 impl<'a> Lower<'a> {
     // The class of a monomial of degree d, which is 0 or a degree that the ring has.
     fn value_of(&self, one: &'a Row, d: u32, m: &Mono) -> RowRef<'a>
-        requires one { (one.now.p ≡ self.now.group.now.table.p) × (one.now.entries ≡ 1 ∷ []) }
+        requires one { (one.now.p ≡ prime_of self.now.group.now) × (one.now.entries ≡ 1 ∷ []) }
         requires lower { IsLower self.now.group.now self.now.lifts.now self.now.degrees.now }
         requires within { d ≤ length self.now.degrees.now }
         requires monomial { IsMonomial (largest_residue self.now.group.now) (degrees (classes self.now.group.now self.now.lifts.now)) d m.now }
-        ensures modulus { modulus_of result ≡ self.now.group.now.table.p }
+        ensures modulus { modulus_of result ≡ prime_of self.now.group.now }
         ensures length { length (entries_of result) ≡ rank_of self.now.group.now d }
         ensures value { vector_of (largest_residue self.now.group.now) (entries_of result)
             ≡ evaluate (cohomology self.now.group.now) (classes self.now.group.now self.now.lifts.now) m.now }
@@ -97,12 +97,12 @@ impl<'a> Lower<'a> {
         m: &Mono,
         out: &mut Row,
     ) -> Result<(), Memory>
-        requires one { (one.now.p ≡ self.now.group.now.table.p) × (one.now.entries ≡ 1 ∷ []) }
+        requires one { (one.now.p ≡ prime_of self.now.group.now) × (one.now.entries ≡ 1 ∷ []) }
         requires lower { IsLower self.now.group.now self.now.lifts.now self.now.degrees.now }
         requires heights { All (λ l. d ≤ l.degree + l.height) self.now.lifts.now }
         requires degree { d ≡ suc (length self.now.degrees.now) }
         requires monomial { IsMonomial (largest_residue self.now.group.now) (degrees (classes self.now.group.now self.now.lifts.now)) d m.now }
-        requires out_prime { out.old.p ≡ self.now.group.now.table.p }
+        requires out_prime { out.old.p ≡ prime_of self.now.group.now }
         requires out_length { length out.old.entries ≡ rank_of self.now.group.now d }
         ensures prime { out.new.p ≡ out.old.p }
         ensures length { length out.new.entries ≡ length out.old.entries }
@@ -129,7 +129,7 @@ impl<'a> Lower<'a> {
         requires degree { d ≡ suc (length self.now.degrees.now) }
         requires rank { rank ≡ rank_of self.now.group.now d }
         requires monomials { IsMonomials (largest_residue self.now.group.now) (degrees (classes self.now.group.now self.now.lifts.now)) d monomials.now }
-        ensures prime { IfOk result (λ m. m.p ≡ self.now.group.now.table.p) }
+        ensures prime { IfOk result (λ m. m.p ≡ prime_of self.now.group.now) }
         ensures width { IfOk result (λ m. m.width ≡ rank) }
         ensures values { IfOk result (λ m. AreValues (largest_residue self.now.group.now) (cohomology self.now.group.now) (classes self.now.group.now self.now.lifts.now)
             monomials.now m.rows) }
