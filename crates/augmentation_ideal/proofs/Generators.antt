@@ -3,11 +3,13 @@ use Rattle.std.specs.Prelude.{◌≡◌, ℕ, suc, refl, List, [], ◌∷◌, �
 use Rattle.std.proofs.Common.{sym, ◌∙◌, ap, ap₂}
 use mathlib.Core.Path.{subst, fun_ext}
 use Rattle.group_modules.specs.Module.{Monoid, Module, sub, times, lin, IsLinear}
-use Rattle.group_modules.specs.Laws.{sub-zero, sub-add, sub-self, sub-back, sub-eq, neg-unique, neg-neg, neg-add, times-add, times-neg, times-mod, times-sum, map-zero}
+use Rattle.group_modules.proofs.Laws.{sub-zero, sub-add, sub-self, sub-back, sub-eq, neg-unique, neg-neg, neg-add, times-add, times-neg, times-mod, times-sum, map-zero}
 use Rattle.group_modules.specs.Field.{Below, residue, Fp, plus, minus}
-use Rattle.group_modules.specs.Tables.{Group, monoid, Table, terms, unit, part, lin-terms}
-use Rattle.group_modules.specs.Maps.{terms-linear, terms-unit, block-sum, total-times}
-use Rattle.group_modules.specs.Sums.{total, total-add, below}
+use Rattle.group_modules.specs.Tables.{Group, monoid, Table, terms, unit, part, block-sum}
+use Rattle.group_modules.proofs.TermLaws.{lin-terms}
+use Rattle.group_modules.proofs.MapLaws.{terms-linear, terms-unit, total-times}
+use Rattle.group_modules.specs.Sums.{total, below}
+use Rattle.group_modules.proofs.SumLaws.{total-add}
 use Rattle.augmentation_ideal.specs.Primes.{IsPrime}
 use Rattle.augmentation_ideal.specs.Radical.{Moved, none, both, moved, IsSubmodule}
 use Rattle.augmentation_ideal.specs.Generators.{combine, IsBasisModuloMoved, Generate}

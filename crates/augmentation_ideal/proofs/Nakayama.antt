@@ -3,7 +3,7 @@ use Rattle.std.specs.Prelude.{◌≡◌, ℕ, zero, suc, ◌^◌, ◌+◌, true}
 use Rattle.std.proofs.Common.{sym, ◌∙◌, ap, ap₂, arith}
 use mathlib.Core.Path.{subst}
 use Rattle.group_modules.specs.Module.{Monoid, Module, sub, times}
-use Rattle.group_modules.specs.Laws.{zero-add, swap, sub-add, neg-unique}
+use Rattle.group_modules.proofs.Laws.{zero-add, swap, sub-add, neg-unique}
 use Rattle.group_modules.specs.Tables.{Group, monoid}
 use Rattle.augmentation_ideal.specs.Primes.{IsPrime}
 use Rattle.augmentation_ideal.specs.Radical.{Moved, none, both, moved, Radical, IsSubmodule}

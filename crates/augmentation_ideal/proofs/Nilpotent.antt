@@ -5,7 +5,7 @@ use Rattle.std.proofs.lemmas.Bool.{and_from, and_parts, false_from_ne_true, true
 use Rattle.std.proofs.Math.Nat.{pow-suc, pow-zero, mod-add-mod, mod-eq_of_lt, le_refl}
 use mathlib.Core.Path.{fun_ext, subst}
 use Rattle.group_modules.specs.Module.{Module, sub, times}
-use Rattle.group_modules.specs.Laws.{zero-add, neg-zero, neg-add, neg-neg, sub-self, sub-zero, sub-add, sub-back, act-zero, act-neg, times-mod, times-sum}
+use Rattle.group_modules.proofs.Laws.{zero-add, neg-zero, neg-add, neg-neg, sub-self, sub-zero, sub-add, sub-back, act-zero, act-neg, times-mod, times-sum}
 use Rattle.group_modules.specs.Field.{Below, Fp, residue, plus, minus}
 use Rattle.group_modules.specs.Tables.{Group, monoid}
 use Rattle.augmentation_ideal.specs.Primes.{IsPrime}

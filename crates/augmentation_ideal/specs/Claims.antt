@@ -2,8 +2,7 @@
 use Rattle.std.specs.Prelude.{◌≡◌, ℕ, suc, ◌≤◌, ◌^◌, Bool, true}
 use Rattle.group_modules.specs.Module.{Module, lin}
 use Rattle.group_modules.specs.Field.{Below, residue}
-use Rattle.group_modules.specs.Tables.{Group, monoid, Table, terms}
-use Rattle.group_modules.specs.Maps.{block-sum}
+use Rattle.group_modules.specs.Tables.{Group, monoid, Table, terms, block-sum}
 use Rattle.augmentation_ideal.specs.Primes.{IsPrime}
 use Rattle.augmentation_ideal.specs.Radical.{Moved, Radical, IsSubmodule}
 use Rattle.augmentation_ideal.specs.Generators.{Generate}

@@ -10,8 +10,9 @@ use Rattle.linear_algebra.specs.Rows.{entry, row}
 use Rattle.resolution_stages.specs.Definitions.{StageRows, images, InKernel}
 use Rattle.resolution_stages.specs.Claims.{row_table}
 use Rattle.fp_rows.specs.Values.{MatrixValue}
-use Rattle.group_algebra.specs.PGroups.{PGroup, largest_residue, group}
-use Rattle.group_algebra.specs.Coordinates.{residues, field, free_module, layer_coordinates, table_of, row_of}
+use Rattle.p_groups.specs.PGroups.{PGroup, largest_residue, group}
+use Rattle.p_groups.proofs.Fields.{residues, field}
+use Rattle.group_algebra.specs.Coordinates.{free_module, layer_coordinates, table_of, row_of}
 use Rattle.min_res.specs.Stages.{stage_rows, stage_rows_are, rank_of}
 use Rattle.min_res.specs.Values.{StageValue}
 use Rattle.min_res.specs.Defined.{InK, IsStageAt, σ}

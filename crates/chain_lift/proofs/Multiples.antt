@@ -6,12 +6,15 @@ use Rattle.std.proofs.Math.Nat.{mod-eq_of_lt, zero-mod}
 use mathlib.Core.Path.{subst}
 use Rattle.group_table.specs.Tables.{order}
 use Rattle.group_modules.specs.Module.{times}
-use Rattle.group_modules.specs.Field.{Below, Fp, residue, plus, times-one}
-use Rattle.group_modules.specs.Laws.{times-zero}
-use Rattle.group_modules.specs.Tables.{Group, monoid, times-at, mark, unit}
+use Rattle.group_modules.specs.Field.{Below, Fp, residue, plus}
+use Rattle.linear_algebra.proofs.Residues.{times-one}
+use Rattle.group_modules.proofs.Laws.{times-zero}
+use Rattle.group_modules.specs.Tables.{Group, monoid, mark, unit}
+use Rattle.numbered_groups.proofs.Entries.{times-at}
 use Rattle.linear_algebra.specs.Rows.{entry, IsRow}
-use Rattle.group_algebra.specs.PGroups.{PGroup, largest_residue, group}
-use Rattle.group_algebra.specs.Coordinates.{residues, AreCoefficients}
+use Rattle.p_groups.specs.PGroups.{PGroup, largest_residue, group}
+use Rattle.p_groups.proofs.Fields.{residues}
+use Rattle.group_algebra.specs.Coordinates.{AreCoefficients}
 use Rattle.chain_lift.specs.RowMaps.{multiple_of_one}
 
 -- the row with c at its first place

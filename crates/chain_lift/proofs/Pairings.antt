@@ -4,15 +4,18 @@ use Rattle.std.proofs.lemmas.List.{ext_get_or}
 use Rattle.std.proofs.Math.Nat.{mod-eq_of_lt}
 use native.Mathlib.Nat.{lt-suc_self}
 use Rattle.group_modules.specs.Module.{times}
-use Rattle.group_modules.specs.Field.{Below, Fp, residue, plus, plus-residue, times-residue}
-use Rattle.group_modules.specs.Sums.{below, up, total, total-map}
-use Rattle.group_modules.specs.Tables.{Group, monoid}
-use Rattle.group_modules.specs.Maps.{block-sum}
+use Rattle.group_modules.specs.Field.{Below, Fp, residue, plus}
+use Rattle.linear_algebra.proofs.Residues.{plus-residue, times-residue}
+use Rattle.group_modules.specs.Sums.{below, up, total}
+use Rattle.group_modules.proofs.SumLaws.{total-map}
+use Rattle.group_modules.specs.Tables.{Group, monoid, block-sum}
 use Rattle.linear_algebra.specs.Modular.{sum_below}
 use Rattle.linear_algebra.specs.Rows.{entry, row, IsRow}
 use Rattle.fp_rows.specs.Values.{MatrixValue}
-use Rattle.group_algebra.specs.PGroups.{PGroup, largest_residue, group}
-use Rattle.group_algebra.specs.Coordinates.{residues, free_module, layer_claims, layer_coordinates, sum_coordinates_are}
+use Rattle.p_groups.specs.PGroups.{PGroup, largest_residue, group}
+use Rattle.p_groups.proofs.Fields.{residues}
+use Rattle.group_algebra.specs.Coordinates.{free_module, layer_coordinates}
+use Rattle.group_algebra.proofs.LayerLaws.{layer_claims, sum_coordinates_are}
 use Rattle.min_res.specs.Stages.{stage_rows, rank_of}
 use Rattle.chain_maps.specs.Lifts.{ahead, lift, pair, product}
 use Rattle.chain_maps.specs.Vectors.{vector}

@@ -3,13 +3,15 @@ use Rattle.std.proofs.Common.{◌≡◌, ℕ, suc, ◌+◌, ◌*◌, List, lengt
 use mathlib.Core.Path.{subst}
 use Rattle.group_table.specs.Tables.{order}
 use Rattle.group_modules.specs.Module.{Monoid, Module}
-use Rattle.group_modules.specs.Sums.{below, up, total, total-map}
+use Rattle.group_modules.specs.Sums.{below, up, total}
+use Rattle.group_modules.proofs.SumLaws.{total-map}
 use Rattle.group_modules.specs.Tables.{monoid}
 use Rattle.linear_algebra.specs.Rows.{entry, row, IsRow}
 use Rattle.radical_layers.specs.Placing.{place_of}
 use Rattle.radical_layers.proofs.BasisForm.{list_of}
-use Rattle.group_algebra.specs.PGroups.{PGroup, largest_residue, group}
-use Rattle.group_algebra.specs.Coordinates.{residues, free_module, layer_coordinates, sizes, table_of, row_of, product_with}
+use Rattle.p_groups.specs.PGroups.{PGroup, largest_residue, group}
+use Rattle.p_groups.proofs.Fields.{residues}
+use Rattle.group_algebra.specs.Coordinates.{free_module, layer_coordinates, sizes, table_of, row_of, product_with}
 use Rattle.min_res.specs.RowMaps.{IsBlock}
 use Rattle.min_res.proofs.BlockSums.{row-zero, block-is, map-is}
 use Rattle.chain_lift.specs.RowMaps.{map_row}

@@ -7,8 +7,8 @@ use Rattle.linear_algebra.specs.Rows.{row, IsRow}
 use Rattle.linear_algebra.specs.Choices.{rows_at}
 use Rattle.resolution_stages.specs.Definitions.{images}
 use Rattle.fp_rows.specs.Values.{MatrixValue}
-use Rattle.group_algebra.specs.PGroups.{PGroup, largest_residue}
-use Rattle.group_algebra.specs.Coordinates.{residues}
+use Rattle.p_groups.specs.PGroups.{PGroup, largest_residue}
+use Rattle.p_groups.proofs.Fields.{residues}
 use Rattle.min_res.specs.Stages.{stage_rows, stage_rows_are, rank_of}
 use Rattle.min_res.specs.Values.{StageValue}
 use Rattle.min_res.specs.Defined.{IsStageAt}

@@ -3,7 +3,7 @@ use Rattle.std.specs.Prelude.{◌≡◌, ℕ, ◌*◌, List, length}
 use Rattle.group_modules.specs.Field.{Below}
 use Rattle.linear_algebra.specs.Rows.{row}
 use Rattle.fp_rows.specs.Values.{MatrixValue}
-use Rattle.group_algebra.specs.PGroups.{PGroup, largest_residue, group, order_of, prime_of}
+use Rattle.p_groups.specs.PGroups.{PGroup, largest_residue, group, order_of, prime_of}
 use Rattle.group_algebra.specs.Coordinates.{layer_coordinates, row_of}
 use Rattle.min_res.specs.Stages.{stage_rows, rank_of}
 use Rattle.chain_maps.specs.Lifts.{ahead, lift}

@@ -1,6 +1,6 @@
 -- The product of classes of a p-group, on vectors and on rows.
 use Rattle.std.specs.Prelude.{ℕ, ◌+◌, List}
-use Rattle.group_algebra.specs.PGroups.{PGroup, largest_residue, group}
+use Rattle.p_groups.specs.PGroups.{PGroup, largest_residue, group}
 use Rattle.group_algebra.specs.Coordinates.{layer_coordinates}
 use Rattle.min_res.specs.Stages.{stage_rows, rank_of}
 use Rattle.chain_maps.specs.Multiply as chain_maps

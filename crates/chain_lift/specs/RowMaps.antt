@@ -7,7 +7,7 @@ use Rattle.linear_algebra.specs.Choices.{rows_at}
 use Rattle.linear_algebra.specs.Rows.{row, IsRow}
 use Rattle.resolution_stages.specs.Chain.{section_row}
 use Rattle.fp_rows.specs.Values.{MatrixValue}
-use Rattle.group_algebra.specs.PGroups.{PGroup, largest_residue, group, order_of, prime_of}
+use Rattle.p_groups.specs.PGroups.{PGroup, largest_residue, group, order_of, prime_of}
 use Rattle.group_algebra.specs.Coordinates.{free_module, table_of, row_of}
 use Rattle.min_res.specs.Values.{StageValue, boundary_of}
 

@@ -1,6 +1,6 @@
 -- What a lift keeps.
 use Rattle.std.specs.Prelude.{◌≡◌, ℕ, suc, ◌+◌, ◌<◌, ◌≤◌, ◌^◌, List, length, slice_index_or}
-use Rattle.group_algebra.specs.PGroups.{PGroup, prime_of}
+use Rattle.p_groups.specs.PGroups.{PGroup, prime_of}
 use Rattle.min_res.specs.Defined.{IsStageAt}
 use Rattle.chain_lift.specs.Values.{LiftValue}
 use Rattle.chain_lift.specs.Maps.{IsLiftMap}

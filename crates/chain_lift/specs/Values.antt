@@ -1,8 +1,8 @@
 -- What contracts see of a lift.
 use Rattle.std.specs.Prelude.{ℕ, List, refl}
 use Rattle.std.specs.Coded.{Coded, code_by, coded×, coded_ℕ, coded_list}
-use Rattle.group_algebra.specs.PGroups.{PGroup}
-use Rattle.group_algebra.specs.SameTables.{coded_p_group}
+use Rattle.p_groups.specs.PGroups.{PGroup}
+use Rattle.group_algebra.specs.Coded.{coded_p_group}
 
 -- a group, the degree of a class and its entries, and the degree up to which its lift is known: the maps are those of the defined lift
 pub record LiftValue : Type 0 where

@@ -6,7 +6,7 @@ ghost use Rattle.fp_rows.specs.Refs.{entries_of, modulus_of};
 ghost use Rattle.min_res.specs.Defined.{IsStageAt};
 ghost use Rattle.min_res.specs.Stages.{rank_of};
 ghost use Rattle.std.specs.Prelude.{◌≡◌, ◌≤◌, ◌<◌, ◌+◌, max, suc, length, IfOk, OnErr, OnOk};
-ghost use Rattle.group_algebra.specs.PGroups.{prime_of};
+ghost use Rattle.p_groups.specs.PGroups.{prime_of};
 
 use crate::level::Level;
 use crate::maps::{first_rows, next_rows};

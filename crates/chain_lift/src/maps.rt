@@ -7,7 +7,7 @@ ghost use Rattle.group_table.specs.Tables.{order};
 ghost use Rattle.linear_algebra.specs.Rows.{entry, row, IsRow};
 ghost use Rattle.min_res.specs.RowMaps.{IsBlock};
 ghost use Rattle.std.specs.Prelude.{◌≡◌, ◌<◌, ◌*◌, ◌^◌, ℕ, IfOk, length};
-ghost use Rattle.group_algebra.specs.PGroups.{order_of, prime_of};
+ghost use Rattle.p_groups.specs.PGroups.{order_of, prime_of};
 
 use fp_rows::{Matrix, Row, RowRef};
 use group_algebra::Algebra;

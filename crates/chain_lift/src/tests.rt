@@ -1,6 +1,6 @@
 ghost use Rattle.std.specs.Prelude.{◌≡◌, ◌≤◌, ◌*◌, ◌<◌, All, IfOk, length, vec_len};
 ghost use Rattle.min_res.specs.Stages.{rank_of};
-ghost use Rattle.group_algebra.specs.PGroups.{prime_of};
+ghost use Rattle.p_groups.specs.PGroups.{prime_of};
 
 use super::*;
 use fp_rows::{Row, RowRef};

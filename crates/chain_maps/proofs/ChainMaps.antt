@@ -2,11 +2,14 @@
 use Rattle.std.proofs.Common.{◌≡◌, ℕ, zero, suc, ap, sym, ◌∙◌}
 use mathlib.Core.Path.{fun_ext}
 use Rattle.group_modules.specs.Module.{Module, lin, times}
-use Rattle.group_modules.specs.Laws.{map-lin, map-zero, map-times, times-mod}
-use Rattle.group_modules.specs.Field.{Below, Fp, residue, plus, times-one, residue-self}
-use Rattle.group_modules.specs.Sums.{below, total, total-zero}
-use Rattle.group_modules.specs.Tables.{Group, monoid, Table, terms, unit, lin-terms}
-use Rattle.group_modules.specs.Maps.{block-sum, augment-sum, terms-linear, terms-unit, total-times}
+use Rattle.group_modules.proofs.Laws.{map-lin, map-zero, map-times, times-mod}
+use Rattle.group_modules.specs.Field.{Below, Fp, residue, plus}
+use Rattle.linear_algebra.proofs.Residues.{times-one, residue-self}
+use Rattle.group_modules.specs.Sums.{below, total}
+use Rattle.group_modules.proofs.SumLaws.{total-zero}
+use Rattle.group_modules.specs.Tables.{Group, monoid, Table, terms, unit, block-sum}
+use Rattle.group_modules.proofs.TermLaws.{lin-terms}
+use Rattle.group_modules.proofs.MapLaws.{augment-sum, terms-linear, terms-unit, total-times}
 use Rattle.group_modules.specs.Resolutions.{rank}
 use Rattle.linear_algebra.specs.Modular.{IsFieldModulo}
 use Rattle.radical_layers.specs.Coordinates.{Coordinates}

@@ -6,7 +6,8 @@ use Rattle.std.proofs.lemmas.List.{get_or_past, ext_get_or}
 use Rattle.std.proofs.Math.Nat.{mod-eq_of_lt}
 use native.Mathlib.Nat.{lt-suc_self}
 use mathlib.Core.Path.{fun_ext, subst}
-use Rattle.group_modules.specs.Field.{Below, below-path, residue, residue-self}
+use Rattle.group_modules.specs.Field.{Below, residue}
+use Rattle.linear_algebra.proofs.Residues.{below-path, residue-self}
 use Rattle.group_modules.specs.Sums.{up}
 use Rattle.group_modules.specs.Tables.{Group}
 use Rattle.group_modules.specs.Resolutions.{rank}

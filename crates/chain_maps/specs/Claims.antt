@@ -2,8 +2,7 @@
 use Rattle.std.specs.Prelude.{◌≡◌, ℕ, suc, ◌+◌, ◌≤◌, List}
 use Rattle.group_modules.specs.Module.{lin}
 use Rattle.group_modules.specs.Field.{Below, residue}
-use Rattle.group_modules.specs.Tables.{Group, terms}
-use Rattle.group_modules.specs.Maps.{block-sum}
+use Rattle.group_modules.specs.Tables.{Group, terms, block-sum}
 use Rattle.group_modules.specs.Resolutions.{rank}
 use Rattle.linear_algebra.specs.Rows.{IsRow}
 use Rattle.radical_layers.specs.Coordinates.{Coordinates}

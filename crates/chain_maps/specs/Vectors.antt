@@ -1,16 +1,9 @@
--- Classes as lists of numbers and as vectors: numbers modulo p = q + 1, 0 from the rank of the degree on.
+-- Classes as vectors: numbers modulo p = q + 1, 0 from the rank of the degree on.
 use Rattle.std.specs.Prelude.{ℕ, zero, suc, cond, eqb, List, [], ◌∷◌}
 use native.Mathlib.Nat.{lt-suc_self}
 use Rattle.group_modules.specs.Field.{Below, residue}
 use Rattle.group_modules.specs.Sums.{up}
-use Rattle.linear_algebra.specs.Rows.{entry}
-
-abbrev pub Vector : ℕ → Type 0
-Vector q = ℕ → Below (suc q)
-
--- the entries of a list modulo p, and 0 past its end
-abbrev pub vector : (q : ℕ) → List ℕ → Vector q
-vector q xs i = residue q (entry xs i)
+pub use Rattle.linear_algebra.specs.Residues.{Vector, vector}
 
 -- the first b entries
 abbrev pub entries : {q : ℕ} → ℕ → Vector q → List ℕ

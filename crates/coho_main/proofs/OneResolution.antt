@@ -1,7 +1,7 @@
 -- A presentation has one list of stages to a degree, or one first stage that does not fit.
 use Rattle.std.proofs.Common.{◌≡◌, ℕ, suc, ◌<◌, List, sym, ◌∙◌, ap, subst, arith}
 use Rattle.power_commutator.specs.Presentations.{Presentation}
-use Rattle.group_algebra.specs.PGroups.{PGroup}
+use Rattle.p_groups.specs.PGroups.{PGroup}
 use Rattle.coho_main.specs.Stages.{Summary, stages_below, dimension, IsFirstAbove, AreStagesOf, IsStageAbove}
 use Rattle.coho_main.proofs.OneTable.{one_table}
 

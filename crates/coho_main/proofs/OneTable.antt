@@ -5,8 +5,8 @@ use Rattle.std.proofs.lemmas.Nat.{div-add-mod'}
 use Rattle.std.proofs.lemmas.Grind.{same_number_lists}
 use Rattle.group_table.specs.Tables.{order, order_is, product, product_is}
 use Rattle.power_commutator.specs.Presentations.{Presentation}
-use Rattle.group_algebra.specs.PGroups.{PGroup}
-use Rattle.group_algebra.specs.SameTables.{same_table}
+use Rattle.p_groups.specs.PGroups.{PGroup}
+use Rattle.p_groups.proofs.SameTables.{same_table}
 use Rattle.group_algebra.specs.Coordinates.{sizes}
 use Rattle.coho_main.specs.Layers.{IsTableOf, AreLayerSizes}
 

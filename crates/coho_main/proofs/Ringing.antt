@@ -1,6 +1,6 @@
 -- The report on the ring of a presentation's group, from its resolution.
 use Rattle.std.proofs.Common.{◌≡◌, ℕ, List, ◌≤◌, ap, subst, sym, ◌∙◌, arith}
-use Rattle.group_algebra.specs.PGroups.{PGroup}
+use Rattle.p_groups.specs.PGroups.{PGroup}
 use Rattle.power_commutator.specs.Presentations.{Presentation}
 use Rattle.min_res.specs.Values.{ResolutionValue}
 use Rattle.coho_report.specs.Values.{ReportValue}

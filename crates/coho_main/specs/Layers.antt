@@ -3,7 +3,7 @@ use Rattle.std.specs.Prelude.{◌≡◌, ℕ, List}
 use Rattle.group_table.specs.Tables.{IsTable}
 use Rattle.power_commutator.specs.Presentations.{Presentation}
 use Rattle.pc_group.specs.GroupOf.{IsGroupOf}
-use Rattle.group_algebra.specs.PGroups.{PGroup}
+use Rattle.p_groups.specs.PGroups.{PGroup}
 use Rattle.group_algebra.specs.Coordinates.{sizes}
 
 -- G is the multiplication table of the group of P

@@ -1,7 +1,7 @@
 -- How a resolution to a degree is found, or refused.
 use Rattle.std.specs.Prelude.{◌≡◌, ℕ, List, ⊤}
 use Rattle.power_commutator.specs.Presentations.{Presentation}
-use Rattle.group_algebra.specs.PGroups.{PGroup}
+use Rattle.p_groups.specs.PGroups.{PGroup}
 use Rattle.min_res.specs.Values.{ResolutionValue}
 use Rattle.min_res.specs.declared.fault.ResFault.{ResFault}
 use Rattle.min_res.specs.declared.fault.ResFault.TheVariants as fault

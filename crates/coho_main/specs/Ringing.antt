@@ -1,7 +1,7 @@
 -- The report on the ring of a presentation's group, or why there is none.
 use Rattle.std.specs.Prelude.{ℕ, ⊤}
 use Rattle.power_commutator.specs.Presentations.{Presentation}
-use Rattle.group_algebra.specs.PGroups.{PGroup}
+use Rattle.p_groups.specs.PGroups.{PGroup}
 use Rattle.coho_report.specs.Values.{ReportValue}
 use Rattle.coho_report.specs.Reports.{IsReport, HasFewMonomials, IsFirstTooMany}
 use Rattle.coho_report.specs.declared.fault.ReportFault.{ReportFault}

@@ -4,7 +4,7 @@ use Rattle.std.specs.declared.option.Option.{Option}
 use Rattle.std.specs.declared.option.Option.TheVariants.{None, Some}
 use Rattle.std.specs.Option.{option_map}
 use Rattle.power_commutator.specs.Presentations.{Presentation}
-use Rattle.group_algebra.specs.PGroups.{PGroup, order_of}
+use Rattle.p_groups.specs.PGroups.{PGroup, order_of}
 use Rattle.min_res.specs.Values.{StageValue}
 use Rattle.min_res.specs.Stages.{stage_rows, rank_of}
 use Rattle.coho_main.specs.Layers.{IsTableOf}

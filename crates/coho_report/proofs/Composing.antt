@@ -1,7 +1,7 @@
 -- A ring, one degree more.
 use Rattle.std.proofs.Common.{◌≡◌, ◌∙◌, ◌⊎◌, inl, inr, ℕ, zero, suc, ◌+◌, ◌-◌, ◌≤◌, ◌<◌, min, List, [], ◌∷◌, ◌++◌, map, length, All, refl, sym, ap, subst, arith}
 use Rattle.std.specs.List.{AllByRecursion as Each}
-use Rattle.group_algebra.specs.PGroups.{PGroup, largest_residue}
+use Rattle.p_groups.specs.PGroups.{PGroup, largest_residue}
 use Rattle.graded_polynomials.specs.Monomials.{IsMonomials}
 use Rattle.graded_polynomials.specs.Polynomials.{Polynomial, IsPolynomial}
 use Rattle.graded_algebra.specs.Algebras.{Algebra, Generator, degrees}

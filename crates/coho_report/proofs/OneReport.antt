@@ -1,6 +1,6 @@
 -- Generators by spans are one list, and so is a report.
 use Rattle.std.proofs.Common.{◌≡◌, ◌∙◌, inl, inr, ℕ, zero, suc, ◌-◌, ◌<◌, min, List, [], ◌∷◌, ◌++◌, map, length, sym, ap, subst, arith}
-use Rattle.group_algebra.specs.PGroups.{PGroup, largest_residue}
+use Rattle.p_groups.specs.PGroups.{PGroup, largest_residue}
 use Rattle.graded_polynomials.specs.Monomials.{IsMonomials}
 use Rattle.graded_polynomials.proofs.MonomialLists.{monomials-unique}
 use Rattle.graded_polynomials.specs.Polynomials.{Polynomial}

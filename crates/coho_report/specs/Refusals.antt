@@ -1,6 +1,6 @@
 -- When a report is not composed.
 use Rattle.std.specs.Prelude.{ℕ, ⊤}
-use Rattle.group_algebra.specs.PGroups.{PGroup}
+use Rattle.p_groups.specs.PGroups.{PGroup}
 use Rattle.ring_present.specs.declared.fault.RingFault.{RingFault}
 use Rattle.ring_present.specs.declared.fault.RingFault.TheVariants as ring
 use Rattle.coho_report.specs.declared.fault.ReportFault.{ReportFault}

@@ -1,6 +1,6 @@
 -- The report on the cohomology ring of a p-group through a degree.
 use Rattle.std.specs.Prelude.{◌≡◌, ℕ, zero, suc, ◌<◌, ◌≤◌, List, [], ◌∷◌, ◌++◌}
-use Rattle.group_algebra.specs.PGroups.{PGroup, largest_residue, order_of, prime_of}
+use Rattle.p_groups.specs.PGroups.{PGroup, largest_residue, order_of, prime_of}
 use Rattle.min_res.specs.Stages.{rank_of}
 use Rattle.graded_algebra.specs.Algebras.{Generator, degrees}
 use Rattle.graded_algebra.specs.Vectors.{Vector}

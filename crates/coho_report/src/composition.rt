@@ -1,7 +1,7 @@
 //! A report, from a resolution.
 
 ghost use Rattle.std.specs.Prelude.{◌≡◌, ◌+◌, ◌≤◌, ◌<◌, ◌^◌, map, suc, IfOk, IfErr};
-ghost use Rattle.group_algebra.specs.PGroups.{largest_residue, prime_of};
+ghost use Rattle.p_groups.specs.PGroups.{largest_residue, prime_of};
 ghost use Rattle.min_res.specs.Stages.{rank_of};
 ghost use Rattle.ring_present.specs.Rings.{IsPresentation};
 ghost use Rattle.ring_present.specs.Values.{generators_of};

@@ -1,7 +1,7 @@
 //! A group has one report through a degree.
 
 ghost use Rattle.std.specs.Prelude.{◌≡◌, ℕ};
-ghost use Rattle.group_algebra.specs.PGroups.{PGroup};
+ghost use Rattle.p_groups.specs.PGroups.{PGroup};
 ghost use Rattle.coho_report.specs.Values.{ReportValue};
 ghost use Rattle.coho_report.specs.Reports.{IsReport};
 

@@ -1,19 +1,7 @@
 -- Class vectors: entries modulo p = q + 1, 0 from the rank of the degree on; and graded algebras of such vectors.
-use Rattle.std.specs.Prelude.{◌≡◌, ℕ, zero, suc, ◌+◌, ◌%◌, ◌<◌, ◌≤◌, cond, eqb, List, [], ◌∷◌}
-use Rattle.std.proofs.Math.Nat.{mod-lt}
-use native.Mathlib.Nat.{zero-lt-suc}
+use Rattle.std.specs.Prelude.{◌≡◌, ℕ, zero, suc, ◌+◌, ◌≤◌, cond, eqb, List, [], ◌∷◌}
 use Rattle.graded_algebra.specs.Algebras.{Algebra, IsGradedCommutative}
-
--- the numbers below n
-abbrev pub Below : ℕ → Type 0
-Below n = (k : ℕ) × k < n
-
--- n modulo p = q + 1
-abbrev pub residue : (q : ℕ) → ℕ → Below (suc q)
-residue q n = (n % suc q, mod-lt n (zero-lt-suc q))
-
-abbrev pub Vector : ℕ → Type 0
-Vector q = ℕ → Below (suc q)
+pub use Rattle.linear_algebra.specs.Residues.{Below, residue, Vector}
 
 -- 1 at place k alone
 abbrev pub unit : (q : ℕ) → ℕ → Vector q

@@ -1,7 +1,8 @@
 -- The numbers below a bound, from the greatest down.
 use Rattle.std.proofs.Common.{◌≡◌, ℕ, zero, suc, ◌<◌, ◌≤◌, List, [], ◌∷◌, map, refl, ap, ap₂, sym, ◌∙◌, arith}
 use mathlib.Core.Path.{subst}
-use Rattle.group_modules.specs.Field.{Below, below-path}
+use Rattle.group_modules.specs.Field.{Below}
+use Rattle.linear_algebra.proofs.Residues.{below-path}
 use Rattle.group_modules.specs.Sums.{below, up}
 
 -- those below g, as numbers below n

@@ -17,14 +17,19 @@ use Rattle.linear_algebra.proofs.Independence.{combine_combinations}
 use Rattle.linear_algebra.proofs.Sums.{sum_below-same, sum_below-congruent}
 use Rattle.radical_layers.proofs.UnitRow.{unit-is-row}
 use Rattle.group_modules.specs.Module.{Module, lin, times}
-use Rattle.group_modules.specs.Field.{Below, Fp, residue, below-path, times-residue}
-use Rattle.group_modules.specs.Laws.{map-times}
-use Rattle.group_modules.specs.Sums.{below, total, total-only, map-total}
-use Rattle.group_modules.specs.Tables.{monoid, mark, unit, terms, part, lin-terms, inv-inv-mul}
-use Rattle.group_modules.specs.Maps.{terms-sum}
+use Rattle.group_modules.specs.Field.{Below, Fp, residue}
+use Rattle.linear_algebra.proofs.Residues.{below-path, times-residue}
+use Rattle.group_modules.proofs.Laws.{map-times}
+use Rattle.group_modules.specs.Sums.{below, total}
+use Rattle.group_modules.proofs.SumLaws.{total-only, map-total}
+use Rattle.group_modules.specs.Tables.{monoid, mark, unit, terms, part}
+use Rattle.group_modules.proofs.TermLaws.{lin-terms}
+use Rattle.numbered_groups.proofs.GroupLaws.{inv-inv-mul}
+use Rattle.group_modules.proofs.MapLaws.{terms-sum}
 use Rattle.radical_layers.specs.LayerBasis.{layer_basis}
-use Rattle.group_algebra.specs.PGroups.{PGroup, largest_residue, group}
-use Rattle.group_algebra.specs.Coordinates.{residues, field, layers, layer_coordinates, free_module, row_of, table_of, member, product_with, AreCoefficients}
+use Rattle.p_groups.specs.PGroups.{PGroup, largest_residue, group}
+use Rattle.p_groups.proofs.Fields.{residues, field}
+use Rattle.group_algebra.specs.Coordinates.{layers, layer_coordinates, free_module, row_of, table_of, member, product_with, AreCoefficients}
 use Rattle.group_algebra.specs.Coefficients.{AreSumCoordinates}
 use Rattle.group_algebra.specs.Gains.{stepped, GainsCombination}
 use Rattle.group_algebra.proofs.Members.{residue-row, sum-is, total-sum}

@@ -12,8 +12,10 @@ use Rattle.radical_layers.proofs.LayerForm.{size-at-most}
 use Rattle.radical_layers.proofs.SameDimension.{echelon-independent}
 use Rattle.radical_layers.proofs.LayerLaws.{layer-claims}
 use Rattle.radical_layers.proofs.LayersExist.{layers-one, layers-of-lists}
-use Rattle.group_algebra.specs.PGroups.{PGroup, largest_residue, group}
-use Rattle.group_algebra.specs.Coordinates.{residues, field, prime_power, sum_coordinates, layers, layers_are}
+use Rattle.p_groups.specs.PGroups.{PGroup, largest_residue, group}
+use Rattle.p_groups.proofs.Fields.{residues, field, prime_power}
+use Rattle.group_algebra.specs.Coordinates.{sum_coordinates, layers}
+use Rattle.group_algebra.proofs.LayerLaws.{layers_are}
 
 -- the member before the last one and the last one
 get-before : {A : Type 0} (xs : List A) (x d : A) (i : ℕ) → i < length xs → get_or (xs ++ x ∷ []) i d ≡ get_or xs i d

@@ -10,13 +10,16 @@ use Rattle.linear_algebra.specs.Rows.{entry, IsRow}
 use Rattle.linear_algebra.proofs.Congruences.{same_below}
 use Rattle.group_modules.specs.Module.{Module, times, IsAdditive}
 use Rattle.group_modules.specs.Field.{Below, residue}
-use Rattle.group_modules.specs.Laws.{zero-add, lin-add, map-times}
-use Rattle.group_modules.specs.Sums.{below, up, total, total-map, map-total}
-use Rattle.group_modules.specs.Tables.{monoid, terms, terms-add}
+use Rattle.group_modules.proofs.Laws.{zero-add, lin-add, map-times}
+use Rattle.group_modules.specs.Sums.{below, up, total}
+use Rattle.group_modules.proofs.SumLaws.{total-map, map-total}
+use Rattle.group_modules.specs.Tables.{monoid, terms}
+use Rattle.group_modules.proofs.TermLaws.{terms-add}
 use Rattle.radical_layers.specs.Placing.{place_of, size_of}
 use Rattle.radical_layers.proofs.Bridge.{at-zero}
-use Rattle.group_algebra.specs.PGroups.{PGroup, largest_residue, group}
-use Rattle.group_algebra.specs.Coordinates.{residues, layer_coordinates, free_module, row_of, table_of, member, product_with, sizes}
+use Rattle.p_groups.specs.PGroups.{PGroup, largest_residue, group}
+use Rattle.p_groups.proofs.Fields.{residues}
+use Rattle.group_algebra.specs.Coordinates.{layer_coordinates, free_module, row_of, table_of, member, product_with, sizes}
 use Rattle.group_algebra.specs.Gains.{stepped, GainsImage}
 use Rattle.group_algebra.specs.Tables.{IsTranslateRow, IsProductRow, EachRow}
 use Rattle.group_algebra.proofs.Members.{residue-row}

@@ -8,9 +8,11 @@ use Rattle.linear_algebra.specs.Modular.{IsCongruent, sum_below}
 use Rattle.linear_algebra.specs.Rows.{entry, IsRow, IsCombination}
 use Rattle.linear_algebra.proofs.Congruences.{congruent_trans, congruent_eq, congruent_sym, congruent_add, congruent_mul_left, same_below}
 use Rattle.group_modules.specs.Module.{Module, times, IsAdditive}
-use Rattle.group_modules.specs.Laws.{map-times}
-use Rattle.group_modules.specs.Field.{Below, residue, below-path}
-use Rattle.group_modules.specs.Sums.{below, total, map-total}
+use Rattle.group_modules.proofs.Laws.{map-times}
+use Rattle.group_modules.specs.Field.{Below, residue}
+use Rattle.linear_algebra.proofs.Residues.{below-path}
+use Rattle.group_modules.specs.Sums.{below, total}
+use Rattle.group_modules.proofs.SumLaws.{map-total}
 use Rattle.group_modules.specs.Tables.{monoid}
 use Rattle.radical_layers.specs.Placing.{place_of, size_of}
 use Rattle.radical_layers.specs.LayerBasis.{layer_basis}
@@ -18,8 +20,10 @@ use Rattle.radical_layers.proofs.Places.{placing, placing-place}
 use Rattle.radical_layers.proofs.BlockForm.{tab, length-tab, entry-tab}
 use Rattle.radical_layers.proofs.Bridge.{at-total, at-times, from-span}
 use Rattle.radical_layers.proofs.LayerForm.{basis-size, size, joined-matrix}
-use Rattle.group_algebra.specs.PGroups.{PGroup, largest_residue, group}
-use Rattle.group_algebra.specs.Coordinates.{field, sum_coordinates, layers, layers_are, layer_claims, layer_coordinates, free_module, row_of, table_of, sizes, member}
+use Rattle.p_groups.specs.PGroups.{PGroup, largest_residue, group}
+use Rattle.p_groups.proofs.Fields.{field}
+use Rattle.group_algebra.specs.Coordinates.{sum_coordinates, layers, layer_coordinates, free_module, row_of, table_of, sizes, member}
+use Rattle.group_algebra.proofs.LayerLaws.{layers_are, layer_claims}
 
 -- the places of one block
 pub place-one : (ss : List ℕ) (k : ℕ) → k < size_of ss → place_of ss 1 0 k ≡ k

@@ -3,10 +3,12 @@ use Rattle.std.proofs.Common.{◌≡◌, ℕ, zero, suc, ◌+◌, ◌*◌, ◌<�
 use mathlib.Core.Path.{subst}
 use Rattle.group_table.specs.Tables.{order}
 use Rattle.linear_algebra.specs.Rows.{entry, IsRow}
-use Rattle.group_modules.specs.Maps.{block-sum}
+use Rattle.group_modules.specs.Tables.{block-sum}
 use Rattle.radical_layers.specs.LayerBasis.{sizes_from}
-use Rattle.group_algebra.specs.PGroups.{PGroup, largest_residue, group}
-use Rattle.group_algebra.specs.Coordinates.{residues, layers, layer_claims, layer_coordinates, table_of, sizes, sum_coordinates_are}
+use Rattle.p_groups.specs.PGroups.{PGroup, largest_residue, group}
+use Rattle.p_groups.proofs.Fields.{residues}
+use Rattle.group_algebra.specs.Coordinates.{layers, layer_coordinates, table_of, sizes}
+use Rattle.group_algebra.proofs.LayerLaws.{layer_claims, sum_coordinates_are}
 
 sizes-count : (P : ℕ → List ℕ) (i c : ℕ) → length (sizes_from P i c) ≡ c
 sizes-count P i zero = refl

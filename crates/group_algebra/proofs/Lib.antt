@@ -1,3 +1,4 @@
+pub mod LayerLaws
 pub mod CoefficientLemmas
 pub mod Members
 pub mod Descending

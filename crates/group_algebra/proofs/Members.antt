@@ -11,11 +11,16 @@ use Rattle.linear_algebra.proofs.Congruences.{congruent_trans, congruent_eq, con
 use Rattle.linear_algebra.proofs.Reducing.{add_multiple_is_row}
 use Rattle.linear_algebra.proofs.RowLemmas.{entry-add_multiple}
 use Rattle.group_modules.specs.Module.{Module, Monoid, sub}
-use Rattle.group_modules.specs.Field.{Below, Fp, residue, below-path}
-use Rattle.group_modules.specs.Sums.{below, up, total, total-map}
-use Rattle.group_modules.specs.Tables.{monoid, inv-unique}
-use Rattle.group_algebra.specs.PGroups.{PGroup, largest_residue, group}
-use Rattle.group_algebra.specs.Coordinates.{residues, sum_coordinates, sum_coordinates_are, free_module, AreCoefficients}
+use Rattle.group_modules.specs.Field.{Below, Fp, residue}
+use Rattle.linear_algebra.proofs.Residues.{below-path}
+use Rattle.group_modules.specs.Sums.{below, up, total}
+use Rattle.group_modules.proofs.SumLaws.{total-map}
+use Rattle.group_modules.specs.Tables.{monoid}
+use Rattle.numbered_groups.proofs.GroupLaws.{inv-unique}
+use Rattle.p_groups.specs.PGroups.{PGroup, largest_residue, group}
+use Rattle.p_groups.proofs.Fields.{residues}
+use Rattle.group_algebra.specs.Coordinates.{sum_coordinates, free_module, AreCoefficients}
+use Rattle.group_algebra.proofs.LayerLaws.{sum_coordinates_are}
 use Rattle.group_algebra.specs.Coefficients.{AreSumCoordinates, IsTranslate}
 
 -- a sum of numbers below p, as a sum of numbers

@@ -4,7 +4,8 @@ use Rattle.std.proofs.lemmas.Bool.{cases_lt}
 use Rattle.std.proofs.lemmas.Bool.Decides.{nat_tests}
 use Rattle.std.proofs.lemmas.List.{get_or_default}
 use mathlib.Core.Path.{subst}
-use Rattle.group_modules.specs.Field.{Below, below-path}
+use Rattle.group_modules.specs.Field.{Below}
+use Rattle.linear_algebra.proofs.Residues.{below-path}
 use Rattle.radical_layers.specs.Placing.{place_of, size_of}
 use Rattle.radical_layers.proofs.Places.{placing, placing-place}
 use Rattle.group_algebra.specs.Places.{start_of, span_of, AreSpots}

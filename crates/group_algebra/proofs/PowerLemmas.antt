@@ -17,9 +17,10 @@ use Rattle.linear_algebra.proofs.Sums.{sum_below-one, sum_below-vanishes}
 use Rattle.radical_layers.specs.Layers.{IsPowerList}
 use Rattle.radical_layers.specs.Moves.{move_row, moves_by, moves}
 use Rattle.radical_layers.proofs.LayerLaws.{next-layer}
-use Rattle.group_algebra.specs.PGroups.{PGroup, largest_residue, group}
+use Rattle.p_groups.specs.PGroups.{PGroup, largest_residue, group}
 use Rattle.group_algebra.proofs.Descending.{down, below-is-down, same-down, down-next}
-use Rattle.group_algebra.specs.Coordinates.{residues, sum_coordinates, free_module}
+use Rattle.p_groups.proofs.Fields.{residues}
+use Rattle.group_algebra.specs.Coordinates.{sum_coordinates, free_module}
 
 -- each row is the combination of the unit rows with its entries
 module _ (p n : ℕ) (M : List (List ℕ)) (len : length M ≡ n) (units : (k : ℕ) → k < n → row M k ≡ unit_row n k) where

@@ -14,8 +14,10 @@ use Rattle.fp_rows.specs.Values.{MatrixValue}
 use Rattle.radical_layers.specs.LayerBasis.{layer_basis}
 use Rattle.radical_layers.proofs.LayerForm.{basis-spans}
 use Rattle.radical_layers.proofs.UnitRow.{unit-is-row}
-use Rattle.group_algebra.specs.PGroups.{PGroup, largest_residue, group}
-use Rattle.group_algebra.specs.Coordinates.{residues, field, sum_coordinates, layers, layers_are, free_module, row_of, member, AreCoefficients}
+use Rattle.p_groups.specs.PGroups.{PGroup, largest_residue, group}
+use Rattle.p_groups.proofs.Fields.{residues, field}
+use Rattle.group_algebra.specs.Coordinates.{sum_coordinates, layers, free_module, row_of, member, AreCoefficients}
+use Rattle.group_algebra.proofs.LayerLaws.{layers_are}
 use Rattle.group_algebra.specs.Coefficients.{AreSumCoordinates, IsTranslate}
 use Rattle.group_algebra.specs.Gains.{stepped, GainsCombination}
 use Rattle.group_algebra.specs.Tables.{HasShape, AreMembers, TakesSumsToLayers, IsElementRow, IsTranslateRow, IsProductRow, EachRow, element}

@@ -1,62 +1,32 @@
 -- The group algebra kG in sum coordinates, its radical layers, and the free modules kG^b in layer coordinates.
-use Rattle.std.specs.Prelude.{◌≡◌, ℕ, suc, ◌<◌, ◌^◌, List}
-use Rattle.std.proofs.Common.{arith, sym, ◌∙◌, ap}
-use mathlib.Core.Path.{subst}
-use Rattle.group_table.specs.Tables.{order_is}
-use Rattle.linear_algebra.specs.Modular.{IsFieldModulo}
+-- The sum coordinates, the layers and the layer coordinates are members of existence proofs. There is one family of layers (`one_layers_law` of `radical_layers`),
+-- and sum and layer coordinates are fixed by what they must satisfy.
+use Rattle.std.specs.Prelude.{◌≡◌, ℕ, suc, List}
 use Rattle.linear_algebra.specs.Rows.{entry, row, IsRow}
-use Rattle.linear_algebra.proofs.Fields.{field_of_prime}
 use Rattle.group_modules.specs.Module.{Module, lin}
 use Rattle.group_modules.specs.Field.{Below, residue}
 use Rattle.group_modules.specs.Tables.{monoid, Table, terms}
-use Rattle.augmentation_ideal.specs.Claims.{IsPrimePower}
 use Rattle.radical_layers.specs.Coordinates.{RowForm, Coordinates}
-use Rattle.radical_layers.specs.LayerBasis.{Layers, IsSumForm, AreLayers, LayerBasisClaims, layer_basis, layer_sizes}
-use Rattle.radical_layers.proofs.SmallPrimes.{prime-of-field}
-use Rattle.radical_layers.proofs.SumForm.{sum-form, sum-first, sum-others}
-use Rattle.radical_layers.proofs.LayersExist.{layers-exist}
-use Rattle.radical_layers.proofs.FirstLayer.{layer-basis-claims}
-use Rattle.group_algebra.specs.PGroups.{PGroup, largest_residue, group, order_of, prime_of}
+use Rattle.radical_layers.specs.LayerBasis.{Layers, layer_basis, layer_sizes}
+use Rattle.p_groups.specs.PGroups.{PGroup, largest_residue, group, order_of, prime_of}
+use Rattle.p_groups.proofs.Layers.{sum_coordinates_exist, layers_exist, layer_claims_of}
 
 module _ (G : PGroup) where
-  pub residues : suc (largest_residue G) ≡ prime_of G
-  residues = let a : 1 < prime_of G = (field_of_prime (prime_of G) G.law.prime).above_one in omega (arith, a)
-
-  pub field : IsFieldModulo (suc (largest_residue G))
-  field = subst IsFieldModulo (sym residues) (field_of_prime (prime_of G) G.law.prime)
-
-  pub prime_power : IsPrimePower (largest_residue G) (order_of G)
-  prime_power = record { prime = prime-of-field field; exponent = G.table.n; power = order_is G.table ∙ ap (λ p. p ^ G.table.n) (sym residues) }
-
   -- the free module kG^b, of tables of numbers below p
   abbrev pub free_module : (b : ℕ) → Module (suc (largest_residue G)) (monoid (group G))
   free_module b = Table (largest_residue G) (group G) b
 
   -- the sum coordinates of a member of kG: the sum of its coefficients, and then the coefficients of the elements 1, 2 and so on
-  pub sum_coordinates : RowForm (order_of G) (free_module 1)
-  sum_coordinates = sum-form (largest_residue G) (group G) G.law.law.some
-
-  pub sum_coordinates_are : IsSumForm (largest_residue G) (group G) sum_coordinates
-  unfolding sum_coordinates
-  sum_coordinates_are = record {
-    first = sum-first (largest_residue G) (group G) G.law.law.some;
-    others = sum-others (largest_residue G) (group G) G.law.law.some;
-  }
+  abbrev pub sum_coordinates : RowForm (order_of G) (free_module 1)
+  sum_coordinates = (sum_coordinates_exist G).0
 
   -- the radical layers of kG, in sum coordinates
-  pub layers : Layers
-  layers = (layers-exist (largest_residue G) field (group G) sum_coordinates prime_power).0
-
-  pub layers_are : AreLayers (largest_residue G) (group G) sum_coordinates layers
-  unfolding layers
-  layers_are = (layers-exist (largest_residue G) field (group G) sum_coordinates prime_power).1
-
-  pub layer_claims : LayerBasisClaims (largest_residue G) (group G) sum_coordinates layers
-  layer_claims = layer-basis-claims (largest_residue G) field (group G) sum_coordinates layers layers_are
+  abbrev pub layers : Layers
+  layers = (layers_exist G sum_coordinates).0
 
   -- the layer coordinates of the members of kG^b, for each b
   abbrev pub layer_coordinates : Coordinates (largest_residue G) (group G)
-  layer_coordinates b = layer_claims.coordinates b
+  layer_coordinates b = (layer_claims_of G sum_coordinates layers (layers_exist G sum_coordinates).1).coordinates b
 
   -- the layer coordinates of the table v of kG^b, and the table with the layer coordinates x
   abbrev pub row_of : (b : ℕ) → (free_module b).of → List ℕ

@@ -1,7 +1,7 @@
 -- Coefficients and layer coordinates of the members of kG, one from the other.
 use Rattle.std.specs.Prelude.{◌≡◌, ℕ, List}
 use Rattle.linear_algebra.specs.Rows.{IsRow}
-use Rattle.group_algebra.specs.PGroups.{PGroup, order_of, prime_of}
+use Rattle.p_groups.specs.PGroups.{PGroup, order_of, prime_of}
 use Rattle.group_algebra.specs.Coordinates.{free_module, row_of, table_of, AreCoefficients}
 
 module _ (G : PGroup) where

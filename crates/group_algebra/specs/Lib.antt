@@ -1,5 +1,4 @@
-pub mod PGroups
-pub mod SameTables
+pub mod Coded
 pub mod Coordinates
 pub mod Inverse
 pub mod Coefficients

@@ -1,7 +1,7 @@
 -- What an algebra keeps.
 use Rattle.std.specs.Prelude.{◌≡◌, ℕ, List, ◌*◌, ◌≤◌}
 use Rattle.fp_rows.specs.Values.{MatrixValue}
-use Rattle.group_algebra.specs.PGroups.{PGroup, order_of}
+use Rattle.p_groups.specs.PGroups.{PGroup, order_of}
 use Rattle.group_algebra.specs.Coordinates.{sizes}
 use Rattle.group_algebra.specs.Tables.{HasShape, AreMembers, IsElementRow, IsTranslateRow, IsProductRow, EachRow}
 

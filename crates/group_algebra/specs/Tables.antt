@@ -4,7 +4,7 @@ use Rattle.linear_algebra.specs.Rows.{row}
 use Rattle.group_modules.specs.Field.{Below, residue}
 use Rattle.group_modules.specs.Tables.{unit}
 use Rattle.fp_rows.specs.Values.{MatrixValue}
-use Rattle.group_algebra.specs.PGroups.{PGroup, largest_residue, group, order_of, prime_of}
+use Rattle.p_groups.specs.PGroups.{PGroup, largest_residue, group, order_of, prime_of}
 use Rattle.group_algebra.specs.Coefficients.{AreSumCoordinates}
 use Rattle.group_algebra.specs.Gains.{stepped, GainsCombination}
 use Rattle.group_algebra.specs.Coordinates.{free_module, row_of, member, product_with, AreCoefficients}

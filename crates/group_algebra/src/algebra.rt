@@ -1,10 +1,10 @@
 //! The group algebra of a p-group.
 
 ghost use Rattle.std.specs.Prelude.{◌≡◌, ◌*◌, ◌^◌, ◌<◌, ℕ, length, slice_index, IfOk};
-ghost use Rattle.group_modules.specs.Maps.{block-sum};
+ghost use Rattle.group_modules.specs.Tables.{block-sum};
 ghost use Rattle.radical_layers.specs.Placing.{place_of};
 ghost use Rattle.fp_rows.specs.Refs.{entries_of, modulus_of};
-ghost use Rattle.group_algebra.specs.PGroups.{largest_residue, group as group_of, order_of, prime_of};
+ghost use Rattle.p_groups.specs.PGroups.{largest_residue, group as group_of, order_of, prime_of};
 ghost use Rattle.group_algebra.specs.Coordinates.{free_module, layers, sizes, row_of, table_of, product_with, AreCoefficients};
 
 use crate::combinations::{Images, add_image};
@@ -35,8 +35,8 @@ pub struct Algebra {
 }
 
 impl Model for Algebra {
-    ghost use Rattle.group_algebra.specs.PGroups.{PGroup};
-    ghost use Rattle.group_algebra.specs.SameTables.{coded_p_group};
+    ghost use Rattle.p_groups.specs.PGroups.{PGroup};
+    ghost use Rattle.group_algebra.specs.Coded.{coded_p_group};
     ghost use Rattle.group_algebra.specs.Stores.{IsStore};
 
     ghost Value = { PGroup };

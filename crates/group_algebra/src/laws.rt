@@ -1,6 +1,6 @@
 //! Laws of the group algebra.
 
-ghost use Rattle.group_algebra.specs.PGroups.{PGroup};
+ghost use Rattle.p_groups.specs.PGroups.{PGroup};
 ghost use Rattle.group_algebra.specs.Inverse.{AreInverse};
 
 /// The maps between coefficients and layer coordinates are inverse to each other: what `Algebra::to_layers` wrote of a row of coefficients

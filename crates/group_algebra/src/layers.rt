@@ -4,7 +4,7 @@ ghost use Rattle.std.specs.Prelude.{◌≡◌, ◌<◌, ◌++◌, ℕ, length, s
 ghost use Rattle.linear_algebra.specs.Choices.{rows_at};
 ghost use Rattle.radical_layers.specs.LayerBasis.{layer_basis as basis_rows};
 ghost use Rattle.group_algebra.specs.Coordinates.{layers, sizes};
-ghost use Rattle.group_algebra.specs.PGroups.{order_of, prime_of};
+ghost use Rattle.p_groups.specs.PGroups.{order_of, prime_of};
 
 use crate::p_group::PGroup;
 use crate::powers::{next_power, whole_list};

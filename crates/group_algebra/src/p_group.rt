@@ -3,8 +3,8 @@
 ghost use Rattle.std.specs.Prelude.{◌≡◌, ◌≤◌, IfOk};
 ghost use Rattle.group_table.specs.Prime.{prime_value};
 ghost use Rattle.group_table.specs.Tables.{order};
-ghost use Rattle.group_algebra.specs.PGroups.{IsPGroup, order_of, prime_of};
-ghost use Rattle.group_algebra.specs.SameTables.{IsPGroup-prop};
+ghost use Rattle.p_groups.specs.PGroups.{IsPGroup, order_of, prime_of};
+ghost use Rattle.p_groups.proofs.SameTables.{IsPGroup-prop};
 
 use group_table::{Group, Memory, Prime};
 use std::alloc::Global;
@@ -18,8 +18,8 @@ pub struct PGroup {
 }
 
 impl Model for PGroup {
-    ghost use Rattle.group_algebra.specs.PGroups.{PGroup as PGroupValue};
-    ghost use Rattle.group_algebra.specs.SameTables.{coded_p_group};
+    ghost use Rattle.p_groups.specs.PGroups.{PGroup as PGroupValue};
+    ghost use Rattle.group_algebra.specs.Coded.{coded_p_group};
 
     ghost Value = { PGroupValue };
 

@@ -8,7 +8,7 @@ ghost use Rattle.group_modules.specs.Module.{sub};
 ghost use Rattle.radical_layers.specs.Layers.{IsPowerList};
 ghost use Rattle.radical_layers.specs.Moves.{move_row, moves};
 ghost use Rattle.fp_rows.specs.Refs.{entries_of, modulus_of};
-ghost use Rattle.group_algebra.specs.PGroups.{largest_residue, group as group_of, order_of, prime_of};
+ghost use Rattle.p_groups.specs.PGroups.{largest_residue, group as group_of, order_of, prime_of};
 ghost use Rattle.group_algebra.specs.Coordinates.{free_module, sum_coordinates, AreCoefficients};
 
 use crate::coefficients::{write_coefficients, write_sum_coordinates, write_translate};

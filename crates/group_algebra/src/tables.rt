@@ -6,7 +6,7 @@ ghost use Rattle.fp_rows.specs.Refs.{entries_of, modulus_of};
 ghost use Rattle.group_algebra.specs.Coordinates.{layers};
 ghost use Rattle.group_algebra.specs.Gains.{stepped, GainsCombination};
 ghost use Rattle.group_algebra.specs.Tables.{HasShape, AreMembers, TakesSumsToLayers, IsElementRow, IsTranslateRow, IsProductRow, EachRow};
-ghost use Rattle.group_algebra.specs.PGroups.{order_of};
+ghost use Rattle.p_groups.specs.PGroups.{order_of};
 
 use crate::coefficients::{write_coefficients, write_sum_coordinates, write_translate};
 use crate::combinations::add_combination;

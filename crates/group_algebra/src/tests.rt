@@ -1,7 +1,7 @@
 ghost use Rattle.std.specs.Prelude.{◌≡◌, ◌<◌, ◌*◌, All, IfOk, length, vec_len};
 ghost use Rattle.group_table.specs.Prime.{prime_value};
 ghost use Rattle.group_table.specs.Tables.{order as order_of};
-ghost use Rattle.group_algebra.specs.PGroups.{order_of, prime_of};
+ghost use Rattle.p_groups.specs.PGroups.{order_of, prime_of};
 
 use super::*;
 use fp_rows::Row;

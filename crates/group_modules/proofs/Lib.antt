@@ -1,0 +1,4 @@
+pub mod Laws
+pub mod SumLaws
+pub mod TermLaws
+pub mod MapLaws

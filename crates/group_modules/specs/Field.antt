@@ -1,64 +1,23 @@
 -- The integers modulo p = q + 1, as a module with the trivial action.
-use Rattle.std.specs.Prelude.{◌≡◌, ℕ, zero, suc, refl, ◌+◌, ◌*◌, ◌%◌}
-use Rattle.std.proofs.Common.{sym, ◌∙◌, ap, arith, add_assoc, add_comm}
-use Rattle.std.proofs.Math.Nat.{mod-eq_of_lt, add-mod-mod, mod-add-mod, mul-mod_right, zero-mod}
-use mathlib.Core.HLevel.{Σ_prop_path, Σ_set, prop→set}
-use native.Mathlib.Bridge.{le_prop}
-use native.Mathlib.Nat.{ℕ_set}
-use Rattle.group_modules.specs.Module.{Monoid, Module, times}
-use Rattle.group_modules.specs.Operations as Defs
+use Rattle.std.specs.Prelude.{ℕ, suc, refl}
+use Rattle.group_modules.specs.Module.{Monoid, Module}
+use Rattle.linear_algebra.proofs.Residues.{below-set, plus-assoc, plus-comm, plus-zero, plus-minus, times-p}
+pub use Rattle.linear_algebra.specs.Residues.{Below, residue, plus, minus}
 
--- the numbers below n
-abbrev pub Below : ℕ → Type 0
-Below n = Defs.Below n
-
-pub below-path : {n : ℕ} (a b : Below n) → a.0 ≡ b.0 → a ≡ b
-below-path {n} a b e = Σ_prop_path (λ (k : ℕ). le_prop {n = suc k} {m = n}) {u = a} {v = b} e
-
-pub below-set : (n : ℕ) → IsSet (Below n)
-below-set n = Σ_set ℕ_set (λ k. prop→set (le_prop {n = suc k} {m = n}))
-
-module _ (q : ℕ) where
-  abbrev pub residue : ℕ → Below (suc q)
-  residue n = Defs.residue q n
-
-  pub residue-self : (a : Below (suc q)) → residue a.0 ≡ a
-  residue-self a = below-path (residue a.0) a (mod-eq_of_lt a.1)
-
-  abbrev pub plus : Below (suc q) → Below (suc q) → Below (suc q)
-  plus a b = residue (a.0 + b.0)
-
-  pub plus-residue : (m n : ℕ) → plus (residue m) (residue n) ≡ residue (m + n)
-  plus-residue m n = below-path (plus (residue m) (residue n)) (residue (m + n)) (add-mod-mod (m % suc q) n (suc q) ∙ mod-add-mod m (suc q) n)
-
-  pub times-residue : (n : ℕ) (a : Below (suc q)) → times plus (residue 0) n a ≡ residue (n * a.0)
-  times-residue zero a = ap residue (omega arith)
-  times-residue (suc n) a =
-      ap (plus a) (times-residue n a) ∙ ap (λ b. plus b (residue (n * a.0))) (sym (residue-self a))
-      ∙ plus-residue a.0 (n * a.0) ∙ ap residue (omega arith)
-
-  pub times-one : (c : ℕ) → times plus (residue 0) c (residue 1) ≡ residue c
-  times-one zero = refl
-  times-one (suc c) = ap (plus (residue 1)) (times-one c) ∙ plus-residue 1 c ∙ ap residue (omega arith)
-
-  abbrev pub minus : Below (suc q) → Below (suc q)
-  minus a = residue (q * a.0)
-
-  abbrev pub Fp : (G : Monoid) → Module (suc q) G
-  Fp G = record {
-    of = Below (suc q);
-    is_set = below-set (suc q);
-    zero = residue 0;
-    add = plus;
-    neg = minus;
-    act = λ g a. a;
-    add-assoc = λ a b c. below-path _ _ (mod-add-mod (a.0 + b.0) (suc q) c.0 ∙ ap (λ n. n % suc q) (add_assoc a.0 b.0 c.0) ∙ sym (add-mod-mod a.0 (b.0 + c.0) (suc q)));
-    add-comm = λ a b. ap residue (add_comm a.0 b.0);
-    add-zero = λ a. ap (λ b. plus b (residue 0)) (sym (residue-self a)) ∙ plus-residue a.0 0 ∙ ap residue (omega arith) ∙ residue-self a;
-    add-neg = λ a. ap (λ b. plus b (residue (q * a.0))) (sym (residue-self a)) ∙ plus-residue a.0 (q * a.0)
-        ∙ below-path _ _ (ap (λ n. n % suc q) (let e : a.0 + q * a.0 ≡ suc q * a.0 = omega arith in e) ∙ mul-mod_right (suc q) a.0 ∙ sym (zero-mod (suc q)));
-    times-p = λ a. times-residue (suc q) a ∙ below-path _ _ (mul-mod_right (suc q) a.0 ∙ sym (zero-mod (suc q)));
-    act-add = λ g a b. refl;
-    act-one = λ a. refl;
-    act-mul = λ g h a. refl;
-  }
+abbrev pub Fp : (q : ℕ) (G : Monoid) → Module (suc q) G
+Fp q G = record {
+  of = Below (suc q);
+  is_set = below-set (suc q);
+  zero = residue q 0;
+  add = plus q;
+  neg = minus q;
+  act = λ g a. a;
+  add-assoc = plus-assoc q;
+  add-comm = plus-comm q;
+  add-zero = plus-zero q;
+  add-neg = plus-minus q;
+  times-p = times-p q;
+  act-add = λ g a b. refl;
+  act-one = λ a. refl;
+  act-mul = λ g h a. refl;
+}

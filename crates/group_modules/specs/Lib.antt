@@ -1,9 +1,6 @@
 pub mod Operations
 pub mod Module
-pub mod Laws
 pub mod Field
 pub mod Sums
 pub mod Tables
-pub mod Maps
 pub mod Resolutions
-pub mod NumberedGroups

@@ -1,15 +1,7 @@
--- The numbers below n, the operations of a module, and formal sums over a group algebra.
-use Rattle.std.specs.Prelude.{ℕ, zero, suc, List, [], ◌∷◌, map, ◌<◌, ◌%◌}
-use Rattle.std.proofs.Math.Nat.{mod-lt}
-use native.Mathlib.Nat.{zero-lt-suc, lt-suc_self, le-suc, le_trans}
-
--- the numbers below n
-abbrev pub Below : ℕ → Type 0
-Below n = (k : ℕ) × k < n
-
--- n modulo p = q + 1
-abbrev pub residue : (q : ℕ) → ℕ → Below (suc q)
-residue q n = (n % suc q, mod-lt n (zero-lt-suc q))
+-- The operations of a module, formal sums over a group algebra, and the list of the numbers below n.
+use Rattle.std.specs.Prelude.{ℕ, zero, suc, List, [], ◌∷◌, map}
+use native.Mathlib.Nat.{lt-suc_self, le-suc, le_trans}
+pub use Rattle.linear_algebra.specs.Residues.{Below, residue, times}
 
 -- the operations of a module on which the members of E act
 pub record Ops (E : Type 0) : Type 1 where
@@ -17,11 +9,6 @@ pub record Ops (E : Type 0) : Type 1 where
   pub zero : of
   pub add : of → of → of
   pub act : E → of → of
-
--- n copies of x, added
-abbrev pub times : {A : Type 0} → (A → A → A) → A → ℕ → A → A
-times add o zero x = o
-times add o (suc n) x = add x (times add o n x)
 
 -- one term `c g x` of a formal sum
 pub record Term (E X : Type 0) : Type 0 where

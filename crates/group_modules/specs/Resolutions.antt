@@ -2,8 +2,7 @@
 use Rattle.std.specs.Prelude.{◌≡◌, ℕ, zero, suc}
 use Rattle.group_modules.specs.Module.{lin}
 use Rattle.group_modules.specs.Field.{Below, residue}
-use Rattle.group_modules.specs.Tables.{Group, Table, terms}
-use Rattle.group_modules.specs.Maps.{block-sum}
+use Rattle.group_modules.specs.Tables.{Group, Table, terms, block-sum}
 
 module _ {n : ℕ} (q : ℕ) (Γ : Group n) where
   abbrev pub rank : (ℕ → ℕ) → ℕ → ℕ

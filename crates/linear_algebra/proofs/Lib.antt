@@ -12,6 +12,8 @@ pub mod EliminationLemmas
 pub mod GreedyLemmas
 pub mod GreedyChoice
 pub mod Reducing
+pub mod CombinationRows
+pub mod Residues
 pub mod Insertion
 pub mod AddedRow
 pub mod Existence

@@ -3,5 +3,6 @@ pub mod Rows
 pub mod Elimination
 pub mod Kernels
 pub mod Choices
+pub mod Residues
 pub mod Ranks
 pub mod Maps

@@ -1,5 +1,5 @@
 -- Rows, combinations, spans and reduced row echelon form (Hoffman and Kunze, "Linear Algebra", sections 1.4 and 2.5).
-use Rattle.std.specs.Prelude.{◌≡◌, ◌≢◌, ℕ, zero, suc, ◌+◌, ◌-◌, ◌*◌, ◌%◌, ◌<◌, List, [], ◌∷◌, length, slice_index_or}
+use Rattle.std.specs.Prelude.{◌≡◌, ◌≢◌, ℕ, zero, suc, ◌+◌, ◌-◌, ◌*◌, ◌%◌, ◌<◌, Bool, false, ◌||◌, eqb, List, [], ◌∷◌, length, replicate, slice_index_or}
 use Rattle.linear_algebra.specs.Modular.{IsCongruent, sum_below}
 
 -- the entry of a row at place j, and 0 past its end
@@ -29,6 +29,15 @@ add_multiple p c (x ∷ xs) (y ∷ ys) = ((x + c * y) % p) ∷ add_multiple p c 
 abbrev pub combination : (ℕ → ℕ) → List (List ℕ) → ℕ → ℕ
 combination u rows j = sum_below (length rows) (λ i. u i * entry (row rows i) j)
 
+-- the row of these numbers, each reduced modulo p
+abbrev pub combination_row : ℕ → ℕ → (ℕ → ℕ) → List (List ℕ) → List ℕ
+combination_row p width u [] = replicate width 0
+combination_row p width u (r ∷ rows) = add_multiple p (u 0) (combination_row p width (λ i. u (suc i)) rows) r
+
+-- x_0 y_0 + x_1 y_1 + .. for two rows of one length, modulo p
+abbrev pub pairing : ℕ → List ℕ → List ℕ → ℕ
+pairing p x y = sum_below (length x) (λ i. entry x i * entry y i) % p
+
 -- the vector with the entries v is the combination of the rows with the coefficients u
 pub record IsCombination (p : ℕ) (u : ℕ → ℕ) (rows : List (List ℕ)) (v : ℕ → ℕ) : Type 0 where
   pub each : (j : ℕ) → IsCongruent p (combination u rows j) (v j)
@@ -46,6 +55,15 @@ abbrev pub pivot : List ℕ → ℕ
 pivot [] = 0
 pivot (zero ∷ xs) = suc (pivot xs)
 pivot (suc x ∷ xs) = 0
+
+-- k is the pivot of one of the rows
+abbrev pub IsPivot : List (List ℕ) → ℕ → Type 0
+IsPivot rows k = (i : ℕ) × (i < length rows) × (pivot (row rows i) ≡ k)
+
+-- the same as a test
+abbrev pub is_pivot : List (List ℕ) → ℕ → Bool
+is_pivot [] k = false
+is_pivot (r ∷ rows) k = eqb (pivot r) k || is_pivot rows k
 
 -- a reduced row echelon list: no row is 0, the pivots ascend, and each pivot's column is 1 in its own row and 0 elsewhere
 pub record IsEchelon (rows : List (List ℕ)) : Type 0 where

@@ -6,9 +6,12 @@ use native.Mathlib.Nat.{lt-suc_self}
 use mathlib.Core.Path.{subst, fun_ext}
 use Rattle.group_table.specs.Tables.{order}
 use Rattle.group_modules.specs.Module.{Module, times, lin}
-use Rattle.group_modules.specs.Field.{Below, residue, below-path}
-use Rattle.group_modules.specs.Sums.{below, up, total, total-map}
-use Rattle.group_modules.specs.Tables.{Group, monoid, terms, part, lin-terms}
+use Rattle.group_modules.specs.Field.{Below, residue}
+use Rattle.linear_algebra.proofs.Residues.{below-path}
+use Rattle.group_modules.specs.Sums.{below, up, total}
+use Rattle.group_modules.proofs.SumLaws.{total-map}
+use Rattle.group_modules.specs.Tables.{Group, monoid, terms, part}
+use Rattle.group_modules.proofs.TermLaws.{lin-terms}
 use Rattle.linear_algebra.specs.Rows.{entry, row, IsRow}
 use Rattle.linear_algebra.specs.Choices.{rows_at}
 use Rattle.linear_algebra.proofs.Congruences.{same_below}
@@ -17,8 +20,10 @@ use Rattle.radical_layers.specs.LayerBasis.{layer_basis}
 use Rattle.radical_layers.proofs.Bridge.{at-zero}
 use Rattle.radical_layers.proofs.BasisForm.{list_of, length-list_of, entry-list_of}
 use Rattle.radical_layers.proofs.LayerForm.{basis-size}
-use Rattle.group_algebra.specs.PGroups.{PGroup, largest_residue, group}
-use Rattle.group_algebra.specs.Coordinates.{residues, field, free_module, layer_coordinates, layer_claims, layers, layers_are, sum_coordinates, sizes, table_of, row_of, member, product_with}
+use Rattle.p_groups.specs.PGroups.{PGroup, largest_residue, group}
+use Rattle.p_groups.proofs.Fields.{residues, field}
+use Rattle.group_algebra.specs.Coordinates.{free_module, layer_coordinates, layers, sum_coordinates, sizes, table_of, row_of, member, product_with}
+use Rattle.group_algebra.proofs.LayerLaws.{layer_claims, layers_are}
 use Rattle.min_res.specs.RowMaps.{value_row, IsBlock}
 
 -- in one block the place of a member is its number

@@ -11,8 +11,10 @@ use Rattle.radical_layers.proofs.UnitRow.{unit-is-row}
 use Rattle.resolution_stages.specs.Chain.{IsFirstList, IsUnitList}
 use Rattle.resolution_stages.proofs.FirstLists.{first-of-units}
 use Rattle.resolution_stages.proofs.ChainLaws.{stage-claims}
-use Rattle.group_algebra.specs.PGroups.{PGroup, largest_residue, group}
-use Rattle.group_algebra.specs.Coordinates.{residues, field, layer_coordinates, layer_claims, sum_coordinates_are}
+use Rattle.p_groups.specs.PGroups.{PGroup, largest_residue, group}
+use Rattle.p_groups.proofs.Fields.{residues, field}
+use Rattle.group_algebra.specs.Coordinates.{layer_coordinates}
+use Rattle.group_algebra.proofs.LayerLaws.{layer_claims, sum_coordinates_are}
 use Rattle.fp_rows.specs.Values.{MatrixValue}
 use Rattle.min_res.specs.Stages.{stage_rows, stage_rows_are}
 use Rattle.min_res.specs.Defined.{kernel_value}

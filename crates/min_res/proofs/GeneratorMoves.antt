@@ -4,10 +4,12 @@ use Rattle.std.proofs.lemmas.Bool.{cases_lt}
 use Rattle.std.proofs.lemmas.List.{get_or_append_left, get_or-append-add, length-append, length-map, get_or-map}
 use mathlib.Core.Path.{subst, fun_ext}
 use Rattle.group_modules.specs.Module.{Module, sub, times}
-use Rattle.group_modules.specs.Laws.{sub-add, map-times, sub-self, sub-back}
-use Rattle.group_modules.specs.Field.{Below, below-path}
+use Rattle.group_modules.proofs.Laws.{sub-add, map-times, sub-self, sub-back}
+use Rattle.group_modules.specs.Field.{Below}
+use Rattle.linear_algebra.proofs.Residues.{below-path}
 use Rattle.group_modules.specs.Tables.{Group, monoid}
-use Rattle.group_modules.specs.Sums.{below, total, map-total}
+use Rattle.group_modules.specs.Sums.{below, total}
+use Rattle.group_modules.proofs.SumLaws.{map-total}
 use Rattle.augmentation_ideal.specs.Radical.{Moved, none, both, moved, IsSubmodule}
 use Rattle.linear_algebra.specs.Rows.{entry, row, IsMatrix, IsInSpan, AreInSpan, IsEchelonOf}
 use Rattle.linear_algebra.specs.Choices.{IsGreedy}

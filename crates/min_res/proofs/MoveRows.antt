@@ -10,9 +10,10 @@ use Rattle.linear_algebra.specs.Rows.{entry, row, add_multiple, IsRow}
 use Rattle.linear_algebra.proofs.Congruences.{congruent_trans, congruent_eq, congruent_sym}
 use Rattle.linear_algebra.proofs.Reducing.{add_multiple_is_row, entry_congruent}
 use Rattle.radical_layers.proofs.Bridge.{at-sub}
-use Rattle.resolution_stages.proofs.SectionSum.{same-row}
-use Rattle.group_algebra.specs.PGroups.{PGroup, largest_residue, group}
-use Rattle.group_algebra.specs.Coordinates.{residues, free_module, layer_coordinates, row_of, table_of}
+use Rattle.linear_algebra.proofs.CombinationRows.{same-row}
+use Rattle.p_groups.specs.PGroups.{PGroup, largest_residue, group}
+use Rattle.p_groups.proofs.Fields.{residues}
+use Rattle.group_algebra.specs.Coordinates.{free_module, layer_coordinates, row_of, table_of}
 use Rattle.min_res.specs.Products.{numbers}
 use Rattle.min_res.specs.RowMaps.{move_of, moves_of}
 

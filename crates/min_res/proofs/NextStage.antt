@@ -15,8 +15,9 @@ use Rattle.resolution_stages.specs.Checks.{StageParts}
 use Rattle.resolution_stages.specs.Chain.{parts_of}
 use Rattle.resolution_stages.specs.Computed.{IsMatrixOf}
 use Rattle.resolution_stages.proofs.Computed.{computed-claims}
-use Rattle.group_algebra.specs.PGroups.{PGroup, largest_residue, group}
-use Rattle.group_algebra.specs.Coordinates.{residues, field, prime_power, layer_coordinates}
+use Rattle.p_groups.specs.PGroups.{PGroup, largest_residue, group}
+use Rattle.p_groups.proofs.Fields.{residues, field, prime_power}
+use Rattle.group_algebra.specs.Coordinates.{layer_coordinates}
 use Rattle.min_res.specs.Products.{AreGenerators, numbers}
 use Rattle.min_res.specs.Stages.{stage_rows, stage_rows_are, rank_of}
 use Rattle.min_res.specs.Defined.{free, ∂}

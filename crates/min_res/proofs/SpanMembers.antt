@@ -7,8 +7,9 @@ use Rattle.group_modules.specs.Sums.{below}
 use Rattle.augmentation_ideal.proofs.Nakayama.{times-in}
 use Rattle.radical_layers.specs.Moves.{IsEchelonFor}
 use Rattle.radical_layers.proofs.Bridge.{from-span}
-use Rattle.group_algebra.specs.PGroups.{PGroup, largest_residue, group}
-use Rattle.group_algebra.specs.Coordinates.{residues, layer_coordinates, table_of, row_of}
+use Rattle.p_groups.specs.PGroups.{PGroup, largest_residue, group}
+use Rattle.p_groups.proofs.Fields.{residues}
+use Rattle.group_algebra.specs.Coordinates.{layer_coordinates, table_of, row_of}
 use Rattle.fp_rows.specs.Values.{MatrixValue}
 use Rattle.min_res.specs.Stages.{stage_rows, stage_rows_are, rank_of}
 use Rattle.min_res.specs.Defined.{free, K, InK, kernel_value}

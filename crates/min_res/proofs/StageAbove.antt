@@ -14,7 +14,7 @@ use Rattle.resolution_stages.specs.Definitions.{StageRows}
 use Rattle.resolution_stages.specs.Checks.{StageParts}
 use Rattle.resolution_stages.specs.Computed.{IsMatrixOf}
 use Rattle.fp_rows.specs.Values.{MatrixValue}
-use Rattle.group_algebra.specs.PGroups.{PGroup, largest_residue}
+use Rattle.p_groups.specs.PGroups.{PGroup, largest_residue}
 use Rattle.group_algebra.specs.Coordinates.{layer_coordinates}
 use Rattle.min_res.specs.Products.{AreGenerators, numbers}
 use Rattle.min_res.specs.RowMaps.{linear_map, moves_of}

@@ -3,11 +3,13 @@ use Rattle.std.proofs.Common.{◌≡◌, ℕ, suc, ◌*◌, List, [], ◌∷◌,
 use mathlib.Core.Path.{subst}
 use Rattle.group_table.specs.Tables.{order}
 use Rattle.group_modules.specs.Module.{Module, sub, times, lin}
-use Rattle.group_modules.specs.Laws.{times-mod, sub-zero}
+use Rattle.group_modules.proofs.Laws.{times-mod, sub-zero}
 use Rattle.group_modules.specs.Field.{Below, residue}
-use Rattle.group_modules.specs.Sums.{below, total, total-zero}
-use Rattle.group_modules.specs.Tables.{Group, monoid, Table, terms, part, lin-terms, unit}
-use Rattle.group_modules.specs.Maps.{block-sum, terms-sum}
+use Rattle.group_modules.specs.Sums.{below, total}
+use Rattle.group_modules.proofs.SumLaws.{total-zero}
+use Rattle.group_modules.specs.Tables.{Group, monoid, Table, terms, part, unit, block-sum}
+use Rattle.group_modules.proofs.TermLaws.{lin-terms}
+use Rattle.group_modules.proofs.MapLaws.{terms-sum}
 use Rattle.augmentation_ideal.specs.Radical.{Moved, Radical, IsSubmodule}
 use Rattle.augmentation_ideal.specs.Generators.{combine}
 use Rattle.augmentation_ideal.proofs.Generators.{split, kernel-minimal}
@@ -19,8 +21,9 @@ use Rattle.resolution_stages.proofs.NextList.{list-of-submodule}
 use Rattle.resolution_stages.proofs.ChainLaws.{next-of, stage-claims}
 use Rattle.resolution_stages.proofs.Unique.{next-is-one}
 use Rattle.resolution_stages.proofs.FromDefinitions.{kernel-is-submodule, stage-basis, onto, fewest-rows, rows}
-use Rattle.group_algebra.specs.PGroups.{PGroup, largest_residue, group}
-use Rattle.group_algebra.specs.Coordinates.{field, prime_power, layer_coordinates}
+use Rattle.p_groups.specs.PGroups.{PGroup, largest_residue, group}
+use Rattle.p_groups.proofs.Fields.{field, prime_power}
+use Rattle.group_algebra.specs.Coordinates.{layer_coordinates}
 use Rattle.min_res.specs.Stages.{stage_rows, stage_rows_are, rank_of}
 use Rattle.min_res.specs.Defined.{free, K, IsExactMinimal, IsSectionOf}
 

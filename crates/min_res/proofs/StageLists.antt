@@ -4,7 +4,7 @@ use Rattle.std.proofs.lemmas.Bool.{cases_lt}
 use Rattle.std.proofs.lemmas.List.{get_or_append_left, get_or_push, length_push, length-map, get_or-map, map-append}
 use Rattle.std.specs.declared.rc.Rc.{Rc}
 use mathlib.Core.Path.{subst}
-use Rattle.group_algebra.specs.PGroups.{PGroup}
+use Rattle.p_groups.specs.PGroups.{PGroup}
 use Rattle.group_table.specs.Tables.{GroupTable}
 use Rattle.min_res.specs.Products.{AreGenerators}
 use Rattle.min_res.specs.Values.{StageValue}

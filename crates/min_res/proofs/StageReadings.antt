@@ -5,8 +5,8 @@ use mathlib.Core.Path.{subst}
 use Rattle.group_table.specs.Tables.{order}
 use Rattle.resolution_stages.specs.Chain.{section_row}
 use Rattle.fp_rows.specs.Values.{MatrixValue}
-use Rattle.group_algebra.specs.PGroups.{PGroup, largest_residue}
-use Rattle.group_algebra.specs.Coordinates.{residues}
+use Rattle.p_groups.specs.PGroups.{PGroup, largest_residue}
+use Rattle.p_groups.proofs.Fields.{residues}
 use Rattle.min_res.specs.Stages.{rank_of}
 use Rattle.min_res.specs.Values.{BoundaryValue, StageValue, boundary_of, no_rows}
 use Rattle.min_res.specs.Defined.{InK, σ, IsBoundaryAt, IsStageAt}

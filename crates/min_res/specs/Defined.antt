@@ -8,7 +8,7 @@ use Rattle.resolution_stages.specs.Definitions.{RowInKernel, InKernel, boundary}
 use Rattle.resolution_stages.specs.Chain.{section_row}
 use Rattle.resolution_stages.specs.Computed.{IsMatrixOf}
 use Rattle.fp_rows.specs.Values.{MatrixValue}
-use Rattle.group_algebra.specs.PGroups.{PGroup, largest_residue, group, order_of, prime_of}
+use Rattle.p_groups.specs.PGroups.{PGroup, largest_residue, group, order_of, prime_of}
 use Rattle.group_algebra.specs.Coordinates.{free_module, layer_coordinates, table_of}
 use Rattle.min_res.specs.Stages.{stage_rows, rank_of}
 use Rattle.min_res.specs.Values.{BoundaryValue, StageValue}

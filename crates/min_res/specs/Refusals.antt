@@ -1,6 +1,6 @@
 -- When a resolution is not extended.
 use Rattle.std.specs.Prelude.{◌≡◌, ℕ, ◌*◌, ◌<◌}
-use Rattle.group_algebra.specs.PGroups.{PGroup, order_of}
+use Rattle.p_groups.specs.PGroups.{PGroup, order_of}
 use Rattle.min_res.specs.Stages.{rank_of}
 use Rattle.min_res.specs.declared.fault.ResFault.{ResFault}
 use Rattle.min_res.specs.declared.fault.ResFault.TheVariants.{TooLarge, Memory}

@@ -7,7 +7,7 @@ use Rattle.linear_algebra.specs.Rows.{entry, row}
 use Rattle.linear_algebra.specs.Choices.{rows_at}
 use Rattle.radical_layers.specs.Placing.{place_of}
 use Rattle.radical_layers.specs.Moves.{move_row, moves_by}
-use Rattle.group_algebra.specs.PGroups.{PGroup, largest_residue, group, order_of}
+use Rattle.p_groups.specs.PGroups.{PGroup, largest_residue, group, order_of}
 use Rattle.group_algebra.specs.Coordinates.{free_module, layer_coordinates, sizes, table_of, row_of}
 
 module _ (G : PGroup) where

@@ -5,8 +5,9 @@ use mathlib.Core.Path.{subst, fun_ext}
 use Rattle.group_modules.specs.Resolutions.{rank}
 use Rattle.resolution_stages.specs.Definitions.{StageRows, AreStages}
 use Rattle.resolution_stages.proofs.ChainLaws.{stages-exist}
-use Rattle.group_algebra.specs.PGroups.{PGroup, largest_residue, group}
-use Rattle.group_algebra.specs.Coordinates.{field, prime_power, layer_coordinates}
+use Rattle.p_groups.specs.PGroups.{PGroup, largest_residue, group}
+use Rattle.p_groups.proofs.Fields.{field, prime_power}
+use Rattle.group_algebra.specs.Coordinates.{layer_coordinates}
 
 -- the stages with the lengths of the positions as ranks
 abbrev pub with_ranks : StageRows → StageRows

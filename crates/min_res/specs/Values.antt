@@ -2,8 +2,8 @@
 use Rattle.std.specs.Prelude.{ℕ, List, [], Option, unwrap_or, refl}
 use Rattle.std.specs.Coded.{Coded, code_by, coded×, coded_ℕ}
 use Rattle.fp_rows.specs.Values.{MatrixValue}
-use Rattle.group_algebra.specs.PGroups.{PGroup}
-use Rattle.group_algebra.specs.SameTables.{coded_p_group}
+use Rattle.p_groups.specs.PGroups.{PGroup}
+use Rattle.group_algebra.specs.Coded.{coded_p_group}
 
 -- a boundary map and its section
 pub record BoundaryValue : Type 0 where

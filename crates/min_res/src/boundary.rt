@@ -2,9 +2,9 @@
 
 ghost use Rattle.fp_rows.specs.Refs.{entries_of, modulus_of};
 ghost use Rattle.linear_algebra.specs.Choices.{rows_at};
-ghost use Rattle.linear_algebra.specs.Rows.{entry, row};
+ghost use Rattle.linear_algebra.specs.Rows.{entry, row, combination_row};
 ghost use Rattle.min_res.specs.Shapes.{HasBoundaryShape};
-ghost use Rattle.resolution_stages.specs.Chain.{section_row, sum_row};
+ghost use Rattle.resolution_stages.specs.Chain.{section_row};
 ghost use Rattle.std.specs.Prelude.{◌≡◌, ◌<◌, length, slice_index};
 
 use crate::combine::{write_combination, write_section};
@@ -68,7 +68,7 @@ impl Boundary {
         requires out_length { length out.old.entries ≡ self.now.source.width }
         requires out_prime { out.old.p ≡ self.now.source.p }
         ensures prime { out.new.p ≡ out.old.p }
-        ensures value { out.new.entries ≡ sum_row self.now.source.p self.now.source.width (entry (entries_of u.entry)) self.now.matrix.rows }
+        ensures value { out.new.entries ≡ combination_row self.now.source.p self.now.source.width (entry (entries_of u.entry)) self.now.matrix.rows }
     {
         write_combination(u, &self.matrix, out);
     }

@@ -1,8 +1,8 @@
 //! Combinations of the rows of a matrix.
 
 ghost use Rattle.fp_rows.specs.Refs.{entries_of, modulus_of};
-ghost use Rattle.linear_algebra.specs.Rows.{add_multiple, entry};
-ghost use Rattle.resolution_stages.specs.Chain.{section_row, sum_row};
+ghost use Rattle.linear_algebra.specs.Rows.{add_multiple, entry, combination_row};
+ghost use Rattle.resolution_stages.specs.Chain.{section_row};
 ghost use Rattle.std.specs.Prelude.{◌≡◌, ◌≤◌, ◌<◌, length};
 
 use fp_rows::{Echelon, Matrix, Row, RowRef};
@@ -27,7 +27,7 @@ pub(crate) fn write_combination(u: RowRef<'_>, rows: &Matrix, out: &mut Row)
     requires out_length { length out.old.entries ≡ rows.now.width }
     requires out_prime { out.old.p ≡ rows.now.p }
     ensures prime { out.new.p ≡ out.old.p }
-    ensures sum { out.new.entries ≡ sum_row rows.now.p rows.now.width (entry (entries_of u.entry)) rows.now.rows }
+    ensures sum { out.new.entries ≡ combination_row rows.now.p rows.now.width (entry (entries_of u.entry)) rows.now.rows }
 {
     out.clear();
     for k in 0..rows.rows() {

@@ -7,7 +7,7 @@ ghost use Rattle.linear_algebra.specs.Rows.{IsRow};
 ghost use Rattle.min_res.specs.RowMaps.{IsBlock, linear_map, value_row};
 ghost use Rattle.resolution_stages.specs.Computed.{IsMatrixOf};
 ghost use Rattle.std.specs.Prelude.{◌≡◌, ◌<◌, ◌*◌, ◌^◌, ℕ, IfOk, OnOk, length, slice_index};
-ghost use Rattle.group_algebra.specs.PGroups.{order_of, prime_of};
+ghost use Rattle.p_groups.specs.PGroups.{order_of, prime_of};
 
 use fp_rows::{Echelon, Matrix, Positions, Row, RowRef};
 use group_algebra::Algebra;

@@ -6,7 +6,7 @@ ghost use Rattle.linear_algebra.specs.Rows.{IsRow};
 ghost use Rattle.min_res.specs.Products.{numbers};
 ghost use Rattle.min_res.specs.RowMaps.{move_of, moves_of};
 ghost use Rattle.std.specs.Prelude.{◌≡◌, ◌++◌, ◌<◌, ◌*◌, ◌^◌, All, IfOk, List, OnOk, length, map};
-ghost use Rattle.group_algebra.specs.PGroups.{order_of, prime_of};
+ghost use Rattle.p_groups.specs.PGroups.{order_of, prime_of};
 
 use fp_rows::{Echelon, Matrix, Row, RowRef};
 use group_algebra::Algebra;

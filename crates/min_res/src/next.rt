@@ -5,7 +5,7 @@ ghost use Rattle.min_res.specs.Products.{AreGenerators};
 ghost use Rattle.min_res.specs.Refusals.{IsRefusal};
 ghost use Rattle.min_res.specs.Stages.{rank_of, stage_rows};
 ghost use Rattle.std.specs.Prelude.{◌≡◌, ◌<◌, ◌≤◌, ◌+◌, ◌*◌, ◌^◌, ℕ, suc, IfErr, IfOk, length, slice_index};
-ghost use Rattle.group_algebra.specs.PGroups.{order_of, prime_of};
+ghost use Rattle.p_groups.specs.PGroups.{order_of, prime_of};
 
 use crate::boundary::Boundary;
 use crate::fault::ResFault;

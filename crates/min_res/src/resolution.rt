@@ -5,7 +5,7 @@ ghost use Rattle.min_res.specs.Defined.{InK, IsExactMinimal, IsSectionOf, IsStag
 ghost use Rattle.min_res.specs.Refusals.{IsRefusal};
 ghost use Rattle.min_res.specs.Stages.{rank_of};
 ghost use Rattle.std.specs.Prelude.{◌≡◌, ◌≤◌, ◌<◌, ◌+◌, ◌-◌, ◌*◌, ◌^◌, ◌↔◌, suc, length, IfErr, IfOk, IfSome, IsNone, OnErr, OnOk};
-ghost use Rattle.group_algebra.specs.PGroups.{order_of, prime_of};
+ghost use Rattle.p_groups.specs.PGroups.{order_of, prime_of};
 
 use crate::fault::ResFault;
 use crate::first::first_stage;

@@ -2,10 +2,10 @@
 
 ghost use Rattle.fp_rows.specs.Refs.{entries_of, modulus_of};
 ghost use Rattle.linear_algebra.specs.Choices.{rows_at};
-ghost use Rattle.linear_algebra.specs.Rows.{entry, row};
+ghost use Rattle.linear_algebra.specs.Rows.{entry, row, combination_row};
 ghost use Rattle.min_res.specs.Shapes.{AgreesWith};
 ghost use Rattle.min_res.specs.Values.{boundary_of};
-ghost use Rattle.resolution_stages.specs.Chain.{section_row, sum_row};
+ghost use Rattle.resolution_stages.specs.Chain.{section_row};
 ghost use Rattle.std.specs.Prelude.{◌≡◌, ◌<◌, ◌↔◌, length, slice_index, IsNone, IfSome};
 
 use crate::boundary::Boundary;
@@ -128,7 +128,7 @@ impl Stage {
         requires out_prime { out.old.p ≡ self.now.kernel.p }
         ensures prime { out.new.p ≡ out.old.p }
         ensures value { out.new.entries
-            ≡ sum_row self.now.kernel.p (boundary_of self.now).source.width (entry (entries_of u.entry)) (boundary_of self.now).matrix.rows }
+            ≡ combination_row self.now.kernel.p (boundary_of self.now).source.width (entry (entries_of u.entry)) (boundary_of self.now).matrix.rows }
     {
         self.map().write_value(u, out);
     }

@@ -3,7 +3,7 @@ ghost use Rattle.group_table.specs.Tables.{order};
 ghost use Rattle.min_res.specs.Defined.{InK};
 ghost use Rattle.min_res.specs.Stages.{rank_of};
 ghost use Rattle.std.specs.Prelude.{◌≡◌, ◌*◌, ◌<◌, All, IfOk, IsTrue, length, vec_len};
-ghost use Rattle.group_algebra.specs.PGroups.{order_of, prime_of};
+ghost use Rattle.p_groups.specs.PGroups.{order_of, prime_of};
 
 use super::*;
 use fp_rows::{Row, RowRef};

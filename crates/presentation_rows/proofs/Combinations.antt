@@ -9,7 +9,7 @@ use Rattle.linear_algebra.proofs.Spans.{in_span_row, in_span_congruent, are_in_s
 use Rattle.graded_algebra.specs.Presentations.{IsCombination}
 use Rattle.graded_algebra.specs.Vectors.{Below, Vector, residue, vectors}
 use Rattle.graded_algebra.proofs.VectorLemmas.{below-path, plus-residue}
-use Rattle.presentation_rows.specs.Values.{vector_of}
+use Rattle.presentation_rows.specs.Values.{vector}
 use Rattle.presentation_rows.proofs.RowValues.{sum_below-first, times-residue}
 
 abbrev prepend : ℕ → (ℕ → ℕ) → ℕ → ℕ
@@ -17,19 +17,19 @@ prepend c u zero = c
 prepend c u (suc i) = u i
 
 module _ (q : ℕ) (mul : ℕ → ℕ → Vector q → Vector q → Vector q) where
-  combination-from-rows : (R : List (List ℕ)) (u : ℕ → ℕ) → IsCombination (vectors q mul) (map (vector_of q) R) (λ j. residue q (combination u R j))
+  combination-from-rows : (R : List (List ℕ)) (u : ℕ → ℕ) → IsCombination (vectors q mul) (map (vector q) R) (λ j. residue q (combination u R j))
   combination-from-rows [] u = refl
   combination-from-rows (r ∷ R) u = (
     u 0,
     (λ j. residue q (combination (λ i. u (suc i)) R j)),
     combination-from-rows R (λ i. u (suc i)),
     fun_ext (λ j. sym (ap (λ (x : Below (suc q)). residue q (x.0 + (residue q (combination (λ i. u (suc i)) R j)).0))
-        (times-residue q mul (u 0) (vector_of q r) j (entry r j) refl)
+        (times-residue q mul (u 0) (vector q r) j (entry r j) refl)
         ∙ plus-residue q (u 0 * entry r j) (combination (λ i. u (suc i)) R j)
         ∙ ap (residue q) (sym (sum_below-first (length R) (λ i. u i * entry (row (r ∷ R) i) j))))),
   )
 
-  rows-from-combination : (R : List (List ℕ)) (v : Vector q) → IsCombination (vectors q mul) (map (vector_of q) R) v
+  rows-from-combination : (R : List (List ℕ)) (v : Vector q) → IsCombination (vectors q mul) (map (vector q) R) v
       → IsInSpan (suc q) R (λ j. (v j).0)
   rows-from-combination [] v h = (
     (λ i. 0),
@@ -42,7 +42,7 @@ module _ (q : ℕ) (mul : ℕ → ℕ → Vector q → Vector q → Vector q) wh
           congruent_trans (congruent_eq (sum_below-first (length R) (λ i. prepend h.0 s.0 i * entry (row (r ∷ R) i) j)))
           (congruent_trans (congruent_add (congruent_refl (h.0 * entry r j)) (s.1.each j))
           (congruent_sym (congruent_trans (congruent_eq (ap (λ (v : Vector q). (v j).0) h.3
-          ∙ ap (λ (x : Below (suc q)). (x.0 + (h.1 j).0) % suc q) (times-residue q mul h.0 (vector_of q r) j (entry r j) refl)))
+          ∙ ap (λ (x : Below (suc q)). (x.0 + (h.1 j).0) % suc q) (times-residue q mul h.0 (vector q r) j (entry r j) refl)))
           (congruent_trans (congruent_mod (h.0 * entry r j % suc q + (h.1 j).0))
           (congruent_add (congruent_mod (h.0 * entry r j)) (congruent_refl (h.1 j).0))))));
     },
@@ -50,9 +50,9 @@ module _ (q : ℕ) (mul : ℕ → ℕ → Vector q → Vector q → Vector q) wh
 
   -- a vector is a combination of vectors exactly where its row is in the span of their rows
   pub combination-span : (R : List (List ℕ)) (w : List ℕ)
-      → IsCombination (vectors q mul) (map (vector_of q) R) (vector_of q w) ↔ IsInSpan (suc q) R (entry w)
+      → IsCombination (vectors q mul) (map (vector q) R) (vector q w) ↔ IsInSpan (suc q) R (entry w)
   combination-span R w = (
-    (λ h. in_span_congruent (λ j. congruent_mod (entry w j)) (rows-from-combination R (vector_of q w) h)),
+    (λ h. in_span_congruent (λ j. congruent_mod (entry w j)) (rows-from-combination R (vector q w) h)),
     (λ s. rw (fun_ext (λ j. below-path (residue q (combination s.0 R j)) (residue q (entry w j)) (s.1.each j).same_remainder)) at
         (combination-from-rows R s.0)),
   )

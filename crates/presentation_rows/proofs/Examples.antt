@@ -15,7 +15,7 @@ use Rattle.graded_algebra.specs.Presentations.{IsSpanGenerators, IsRelations, Is
 use Rattle.graded_algebra.specs.Vectors.{Vector, vectors, residue, unit, units}
 use Rattle.graded_algebra.proofs.Relations.{defining}
 use Rattle.presentation_rows.specs.RowPolynomials.{row_of}
-use Rattle.presentation_rows.specs.Values.{vector_of, AreValues, AreUnitRows}
+use Rattle.presentation_rows.specs.Values.{vector, AreValues, AreUnitRows}
 use Rattle.presentation_rows.specs.Multiples.{terms_of, AreMultiples}
 use Rattle.presentation_rows.proofs.UnitRows.{unit-vector, unit-matrix, unit-echelon}
 use Rattle.presentation_rows.proofs.NewGenerators.{chosen-units}
@@ -139,7 +139,7 @@ relations-one = (
 values-two : AreValues 1 (vectors 1 multiply) (x ∷ []) ((2 ∷ []) ∷ []) ([] ∷ [])
 values-two = record { count = refl; each = each }
   where
-    each : (i : ℕ) → i < 1 → vector_of 1 (row ([] ∷ []) i) ≡ evaluate (vectors 1 multiply) (x ∷ []) (slice_index_or ((2 ∷ []) ∷ []) i [])
+    each : (i : ℕ) → i < 1 → vector 1 (row ([] ∷ []) i) ≡ evaluate (vectors 1 multiply) (x ∷ []) (slice_index_or ((2 ∷ []) ∷ []) i [])
     each zero l = refl
     each (suc i) l = absurd (omega (arith, l))
 
@@ -182,7 +182,7 @@ relations-two = (
 values-three : AreValues 1 (vectors 1 multiply) (x ∷ []) ((3 ∷ []) ∷ []) ([] ∷ [])
 values-three = record { count = refl; each = each }
   where
-    each : (i : ℕ) → i < 1 → vector_of 1 (row ([] ∷ []) i) ≡ evaluate (vectors 1 multiply) (x ∷ []) (slice_index_or ((3 ∷ []) ∷ []) i [])
+    each : (i : ℕ) → i < 1 → vector 1 (row ([] ∷ []) i) ≡ evaluate (vectors 1 multiply) (x ∷ []) (slice_index_or ((3 ∷ []) ∷ []) i [])
     each zero l = refl
     each (suc i) l = absurd (omega (arith, l))
 
@@ -251,7 +251,7 @@ preimages-one = record { count = refl; each = each }
     each zero l = preimage-one
     each (suc i) l = absurd (omega (arith, l))
 
-pub normal-form-one : IsNormalForm 1 (vectors 1 multiply) (x ∷ []) 1 (vector_of 1 (1 ∷ [])) (record { scalar = 1; monomial = 1 ∷ [] } ∷ [])
+pub normal-form-one : IsNormalForm 1 (vectors 1 multiply) (x ∷ []) 1 (vector 1 (1 ∷ [])) (record { scalar = 1; monomial = 1 ∷ [] } ∷ [])
 normal-form-one = normal-form-of 1 1 multiply (x ∷ []) ((1 ∷ []) ∷ []) ((1 ∷ []) ∷ []) [] (omega arith) (powers-of-x 0) values-one kernel-one
     (1 ∷ []) (1 ∷ [])
     (preimage-of-combination (omega arith) unit-rows preimages-one kernel-one (1 ∷ [])

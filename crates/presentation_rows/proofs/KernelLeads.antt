@@ -1,7 +1,7 @@
 -- The relations lead at the pivots of the kernel of the values.
 use Rattle.std.proofs.Common.{ℕ, suc, ◌<◌, ◌↔◌, List, [], length, sym, ◌∙◌}
 use Rattle.std.specs.Prelude.{slice_index_or}
-use Rattle.linear_algebra.specs.Rows.{entry, row, IsRow, IsInSpan}
+use Rattle.linear_algebra.specs.Rows.{entry, row, IsRow, IsInSpan, IsPivot}
 use Rattle.linear_algebra.specs.Kernels.{IsKernelOf}
 use Rattle.graded_polynomials.specs.Monomials.{IsMonomials}
 use Rattle.graded_polynomials.specs.Polynomials.{Term}
@@ -12,7 +12,6 @@ use Rattle.graded_algebra.proofs.Values.{linear-same}
 use Rattle.graded_algebra.proofs.VectorLemmas.{vector-space}
 use Rattle.presentation_rows.specs.RowPolynomials.{polynomial_of, row_of}
 use Rattle.presentation_rows.specs.Values.{AreValues}
-use Rattle.presentation_rows.specs.Pivots.{IsPivot}
 use Rattle.presentation_rows.proofs.RowTerms.{over-row, same-as-row, row-of-is-row}
 use Rattle.presentation_rows.proofs.RowValues.{value-of-kernel, kernel-of-value}
 use Rattle.presentation_rows.proofs.Leads.{pivot-of-leading, leading-of-pivot}

@@ -3,7 +3,7 @@ use Rattle.std.proofs.Common.{◌≡◌, ℕ, suc, ◌%◌, ◌<◌, List, [], l
 use Rattle.std.specs.Prelude.{slice_index_or}
 use Rattle.std.proofs.Math.Nat.{mod-eq_of_lt}
 use Rattle.linear_algebra.specs.Modular.{IsCongruent}
-use Rattle.linear_algebra.specs.Rows.{entry, row, pivot, IsEchelon, IsInSpan}
+use Rattle.linear_algebra.specs.Rows.{entry, row, pivot, IsEchelon, IsInSpan, IsPivot}
 use Rattle.linear_algebra.proofs.Congruences.{congruent_eq, congruent_trans, congruent_sym, congruent_mod}
 use Rattle.linear_algebra.proofs.PivotLemmas.{before_pivot}
 use Rattle.linear_algebra.proofs.Pivots.{first_place_is_pivot}
@@ -15,7 +15,6 @@ use Rattle.graded_algebra.specs.Presentations.{IsLeading}
 use Rattle.graded_algebra.proofs.Leading.{not-zero}
 use Rattle.graded_algebra.proofs.Places.{leading-at}
 use Rattle.presentation_rows.specs.RowPolynomials.{polynomial_of, row_of}
-use Rattle.presentation_rows.specs.Pivots.{IsPivot}
 use Rattle.presentation_rows.proofs.RowTerms.{monomials-apart, coefficient-at, entry-row-of}
 
 module _ {q d : ℕ} {ds : List ℕ} {ms : List (List ℕ)} (one : 1 < suc q) (M : IsMonomials q ds d ms) {V : Type 0} (A : Algebra V)

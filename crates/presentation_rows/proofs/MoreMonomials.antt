@@ -12,7 +12,7 @@ use Rattle.graded_algebra.specs.Algebras.{Generator, degrees, evaluate}
 use Rattle.graded_algebra.specs.Vectors.{Vector, vectors, unit}
 use Rattle.graded_algebra.proofs.Ideals.{degree-nil}
 use Rattle.graded_algebra.proofs.MoreGenerators.{single, monomial-single, monomial-more, last-case, fits-more, degree-more, degrees-append, from-more}
-use Rattle.presentation_rows.specs.Values.{vector_of, AreValues}
+use Rattle.presentation_rows.specs.Values.{vector, AreValues}
 use Rattle.presentation_rows.specs.Factors.{IsLastFactor}
 use Rattle.presentation_rows.proofs.LastFactor.{value-by-factor, from-nil}
 
@@ -150,7 +150,7 @@ module _ (q : ℕ) (mul : ℕ → ℕ → Vector q → Vector q → Vector q) (g
           (last-factor (length (degrees gs))) (place-of-last gs g)
 
   pub values-with-last : (ms values : List (List ℕ)) (w : List ℕ) → IsMonomials q (degrees gs) g.degree ms → AreValues q (vectors q mul) gs ms values
-      → vector_of q w ≡ g.class → mul 0 g.degree (unit q 0) g.class ≡ g.class
+      → vector q w ≡ g.class → mul 0 g.degree (unit q 0) g.class ≡ g.class
       → AreValues q (vectors q mul) (gs ++ g ∷ []) (ms ++ power (length (degrees gs)) 1 ∷ []) (values ++ w ∷ [])
   values-with-last ms values w M V e h = record {
     count = length-append values (w ∷ []) ∙ ap (λ n. n + 1) V.count ∙ sym (length-append ms (power (length (degrees gs)) 1 ∷ []));
@@ -161,7 +161,7 @@ module _ (q : ℕ) (mul : ℕ → ℕ → Vector q → Vector q → Vector q) (g
       last = power (length (degrees gs)) 1
 
       go : (i : ℕ) → i < length (ms ++ last ∷ []) → (i < length ms) ⊎ (length ms ≤ i)
-          → vector_of q (row (values ++ w ∷ []) i) ≡ evaluate (vectors q mul) (gs ++ g ∷ []) (slice_index_or (ms ++ last ∷ []) i [])
+          → vector q (row (values ++ w ∷ []) i) ≡ evaluate (vectors q mul) (gs ++ g ∷ []) (slice_index_or (ms ++ last ∷ []) i [])
       go i l (inl b) = rw (row_before_push values w i (omega (arith, b, V.count)), get_or_append_left ms (last ∷ []) [] i b)
           ((values-stay q g.degree mul gs (g ∷ []) ms values M V).each i b)
       go i l (inr b) = let f : i ≡ length ms = (let z = length-append ms (last ∷ []) in omega (arith, l, b, z)) in

@@ -3,7 +3,7 @@ use Rattle.std.proofs.Common.{◌≡◌, ℕ, zero, suc, ◌*◌, ◌<◌, ◌�
 use Rattle.std.specs.Prelude.{slice_index_or}
 use Rattle.std.specs.List.{AllByRecursion as Each}
 use Rattle.linear_algebra.specs.Modular.{IsCongruent, sum_below}
-use Rattle.linear_algebra.specs.Rows.{entry, row, IsEchelonOf, IsInSpan}
+use Rattle.linear_algebra.specs.Rows.{entry, row, IsEchelonOf, IsInSpan, IsPivot}
 use Rattle.linear_algebra.proofs.Congruences.{congruent_add, congruent_eq, congruent_trans, congruent_sym}
 use Rattle.linear_algebra.proofs.Spans.{in_span_congruent, in_span_zero, in_span_add}
 use Rattle.graded_polynomials.specs.Monomials.{IsMonomial, IsMonomials}
@@ -15,7 +15,6 @@ use Rattle.graded_algebra.specs.Presentations.{IsConsequence, IsLeading}
 use Rattle.graded_algebra.proofs.Ideals.{multiple-scaled, ideal-same, ideal-zero, ideal-append, ideal-scaled}
 use Rattle.presentation_rows.specs.RowPolynomials.{polynomial_of, row_of}
 use Rattle.presentation_rows.specs.Multiples.{terms_of, AreMultiples}
-use Rattle.presentation_rows.specs.Pivots.{IsPivot}
 use Rattle.presentation_rows.proofs.RowTerms.{monomials-apart, coefficient-at, over-row, same-at-places}
 use Rattle.presentation_rows.proofs.RowSums.{row-of-same, entry-congruent, row-plus, row-append, row-empty, row-times}
 use Rattle.presentation_rows.proofs.Leads.{pivot-of-leading, leading-of-pivot}

@@ -8,12 +8,12 @@ use Rattle.linear_algebra.proofs.Spans.{in_span_trans}
 use Rattle.graded_algebra.specs.Algebras.{Generator, evaluate}
 use Rattle.graded_algebra.specs.Presentations.{IsCombination, IsChosen}
 use Rattle.graded_algebra.specs.Vectors.{Vector, vectors, unit, units}
-use Rattle.presentation_rows.specs.Values.{vector_of, AreValues, AreUnitRows}
+use Rattle.presentation_rows.specs.Values.{vector, AreValues, AreUnitRows}
 use Rattle.presentation_rows.proofs.Combinations.{combination-span, span-with}
 use Rattle.presentation_rows.proofs.UnitRows.{unit-vector}
 
 map-values : {q : ℕ} (ev : List ℕ → Vector q) (ms values : List (List ℕ)) → length values ≡ length ms
-    → ((i : ℕ) → i < length ms → vector_of q (row values i) ≡ ev (slice_index_or ms i [])) → map ev ms ≡ map (vector_of q) values
+    → ((i : ℕ) → i < length ms → vector q (row values i) ≡ ev (slice_index_or ms i [])) → map ev ms ≡ map (vector q) values
 map-values ev [] [] c h = refl
 map-values ev [] (v ∷ vs) c h = absurd (omega (arith, c))
 map-values ev (m ∷ ms) [] c h = absurd (omega (arith, c))
@@ -25,24 +25,24 @@ module _ (q n : ℕ) (mul : ℕ → ℕ → Vector q → Vector q → Vector q) 
   abbrev us : List (Vector q)
   us = map (evaluate (vectors q mul) gs) ms
 
-  unit-at : (k : ℕ) → k < n → vector_of q (row basis k) ≡ unit q k
-  unit-at k l = ap (vector_of q) (U.each k l) ∙ unit-vector q n k l
+  unit-at : (k : ℕ) → k < n → vector q (row basis k) ≡ unit q k
+  unit-at k l = ap (vector q) (U.each k l) ∙ unit-vector q n k l
 
   taken-units : (k : ℕ) (positions : List ℕ) → k ≤ n → IsGreedyBelow (suc q) basis span k positions
-      → map (vector_of q) (rows_at basis positions) ≡ map (unit q) positions
+      → map (vector q) (rows_at basis positions) ≡ map (unit q) positions
   taken-units zero positions l g = rw g refl
   taken-units (suc k) positions l (inl g) = taken-units k positions (omega arith) g.0
   taken-units (suc k) positions l (inr g) = rw g.3
-      (ap (map (vector_of q)) (map-append (row basis) g.0 (k ∷ [])) ∙ map-append (vector_of q) (rows_at basis g.0) (row basis k ∷ [])
+      (ap (map (vector q)) (map-append (row basis) g.0 (k ∷ [])) ∙ map-append (vector q) (rows_at basis g.0) (row basis k ∷ [])
       ∙ ap₂ (λ (xs : List (Vector q)) (x : Vector q). xs ++ x ∷ []) (taken-units k g.0 (omega arith) g.1) (unit-at k (omega arith))
       ∙ sym (map-append (unit q) g.0 (k ∷ [])))
 
   all-rows : (k : ℕ) (positions : List ℕ) → k ≤ n → IsGreedyBelow (suc q) basis span k positions
-      → us ++ map (unit q) positions ≡ map (vector_of q) (values ++ rows_at basis positions)
+      → us ++ map (unit q) positions ≡ map (vector q) (values ++ rows_at basis positions)
   all-rows k positions l g =
       ap₂ (λ (xs ys : List (Vector q)). xs ++ ys) (map-values (evaluate (vectors q mul) gs) ms values V.count V.each)
       (sym (taken-units k positions l g))
-      ∙ sym (map-append (vector_of q) values (rows_at basis positions))
+      ∙ sym (map-append (vector q) values (rows_at basis positions))
 
   combination-in-span : (k : ℕ) (positions : List ℕ) → k < n → IsGreedyBelow (suc q) basis span k positions
       → IsCombination (vectors q mul) (us ++ map (unit q) positions) (unit q k) ↔ IsInSpan (suc q) (span ++ rows_at basis positions)

@@ -3,7 +3,7 @@ use Rattle.std.proofs.Common.{◌≡◌, ◌≢◌, ℕ, suc, ◌+◌, ◌<◌, 
 use Rattle.std.specs.Prelude.{slice_index_or}
 use Rattle.std.proofs.lemmas.Bool.{cases_Bool, cases_order, cases_lt}
 use Rattle.linear_algebra.specs.Modular.{IsCongruent}
-use Rattle.linear_algebra.specs.Rows.{entry, row, pivot, IsRow}
+use Rattle.linear_algebra.specs.Rows.{entry, row, pivot, IsRow, IsPivot, is_pivot}
 use Rattle.linear_algebra.specs.Kernels.{IsKernelOf}
 use Rattle.linear_algebra.proofs.Congruences.{congruent_eq}
 use Rattle.graded_polynomials.specs.Monomials.{IsMonomial, IsMonomials}
@@ -14,7 +14,7 @@ use Rattle.graded_algebra.specs.Presentations.{IsLeading, IsConsequence, IsStand
 use Rattle.graded_algebra.specs.Vectors.{Vector, vectors}
 use Rattle.presentation_rows.specs.RowPolynomials.{polynomial_of}
 use Rattle.presentation_rows.specs.Values.{AreValues}
-use Rattle.presentation_rows.specs.Pivots.{IsPivot, is_pivot, new_relations}
+use Rattle.presentation_rows.specs.Pivots.{new_relations}
 use Rattle.presentation_rows.proofs.RowTerms.{monomials-apart, coefficient-at, polynomial-of-row, over-row}
 use Rattle.presentation_rows.proofs.KernelLeads.{row-relation, relation-pivots, standard-pivots}
 use Rattle.presentation_rows.proofs.PivotTests.{pivot-if-found, none-if-not-found}

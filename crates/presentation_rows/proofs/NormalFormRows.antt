@@ -3,7 +3,7 @@ use Rattle.std.proofs.Common.{◌≡◌, ℕ, suc, ◌*◌, ◌<◌, ◌≤◌, 
 use Rattle.std.proofs.lemmas.Bool.{cases_lt}
 use Rattle.std.proofs.lemmas.List.{get_or_past}
 use Rattle.linear_algebra.specs.Modular.{IsCongruent, sum_below}
-use Rattle.linear_algebra.specs.Rows.{entry, row, pivot, combination, IsRow, IsCombination}
+use Rattle.linear_algebra.specs.Rows.{entry, row, pivot, combination, IsRow, IsCombination, IsPivot}
 use Rattle.linear_algebra.specs.Kernels.{IsKernelOf}
 use Rattle.linear_algebra.specs.Choices.{IsPreimage, ArePreimages}
 use Rattle.linear_algebra.proofs.AugmentLemmas.{entry_unit_same, entry_unit_other}
@@ -16,8 +16,7 @@ use Rattle.graded_algebra.specs.Algebras.{Generator, degrees}
 use Rattle.graded_algebra.specs.Presentations.{IsStandard, IsNormalForm}
 use Rattle.graded_algebra.specs.Vectors.{Vector, vectors}
 use Rattle.presentation_rows.specs.RowPolynomials.{polynomial_of}
-use Rattle.presentation_rows.specs.Values.{vector_of, AreValues, AreUnitRows}
-use Rattle.presentation_rows.specs.Pivots.{IsPivot}
+use Rattle.presentation_rows.specs.Values.{vector, AreValues, AreUnitRows}
 use Rattle.presentation_rows.proofs.RowTerms.{each-term, polynomial-of-row}
 use Rattle.presentation_rows.proofs.RowValues.{value-of-combination}
 use Rattle.presentation_rows.proofs.KernelLeads.{standard-pivots}
@@ -26,7 +25,7 @@ module _ (q d : ℕ) (mul : ℕ → ℕ → Vector q → Vector q → Vector q) 
     (one : 1 < suc q) (M : IsMonomials q (degrees gs) d ms) (V : AreValues q (vectors q mul) gs ms values)
     (K : IsKernelOf (suc q) values kernel) where
   pub normal-form-of : (w u : List ℕ) → IsPreimage (suc q) values kernel w u
-      → IsNormalForm q (vectors q mul) gs d (vector_of q w) (polynomial_of ms u)
+      → IsNormalForm q (vectors q mul) gs d (vector q w) (polynomial_of ms u)
   normal-form-of w u P = record {
     polynomial = polynomial-of-row M u (rw (← V.count) P.is_row);
     standard = each-term (λ t. IsStandard q (vectors q mul) gs d t.monomial) ms u

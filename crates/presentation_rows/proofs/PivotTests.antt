@@ -1,9 +1,8 @@
 -- The test for a pivot.
 use Rattle.std.proofs.Common.{◌≡◌, ℕ, zero, suc, List, [], ◌∷◌, Bool, true, false, ◌||◌, eqb, ◌⊎◌, inl, inr, arith, sym, ◌∙◌, refl}
 use Rattle.std.proofs.lemmas.Bool.{cases_Bool}
-use Rattle.linear_algebra.specs.Rows.{pivot}
+use Rattle.linear_algebra.specs.Rows.{pivot, IsPivot, is_pivot}
 use Rattle.graded_polynomials.proofs.Terms.{eqb-self, eqb-true, false≢true}
-use Rattle.presentation_rows.specs.Pivots.{IsPivot, is_pivot}
 
 pub pivot-if-found : (rows : List (List ℕ)) (k : ℕ) → is_pivot rows k ≡ true → IsPivot rows k
 pivot-if-found [] k h = false≢true h

@@ -11,7 +11,7 @@ use Rattle.graded_algebra.specs.Algebras.{Generator, evaluate, value, linear, ti
 use Rattle.graded_algebra.specs.Vectors.{Below, Vector, residue, vectors}
 use Rattle.graded_algebra.proofs.VectorLemmas.{below-path, times-at, plus-residue}
 use Rattle.presentation_rows.specs.RowPolynomials.{polynomial_of}
-use Rattle.presentation_rows.specs.Values.{vector_of, AreValues}
+use Rattle.presentation_rows.specs.Values.{vector, AreValues}
 
 -- a sum from its first term on
 pub sum_below-first : (n : ℕ) (f : ℕ → ℕ) → sum_below (suc n) f ≡ f 0 + sum_below n (λ i. f (suc i))
@@ -49,7 +49,7 @@ module _ (q : ℕ) (mul : ℕ → ℕ → Vector q → Vector q → Vector q) wh
         ∙ ap (λ n. residue q (sum_below n (λ i. entry u i * entry (row values i) j))) (sym V.count)
 
     pub value-of-combination : (u c : List ℕ) → IsCombination (suc q) (entry u) values (entry c)
-        → value (vectors q mul) gs (polynomial_of ms u) ≡ vector_of q c
+        → value (vectors q mul) gs (polynomial_of ms u) ≡ vector q c
     value-of-combination u c h = fun_ext (λ j. value-row u j
         ∙ below-path (residue q (combination (entry u) values j)) (residue q (entry c j)) (h.each j).same_remainder)
 

@@ -9,9 +9,9 @@ use Rattle.linear_algebra.proofs.PivotLemmas.{pivot_is}
 use Rattle.linear_algebra.proofs.EchelonLists.{same_echelon}
 use Rattle.graded_polynomials.proofs.Terms.{eqb-self, eqb-false}
 use Rattle.graded_algebra.specs.Vectors.{residue, unit}
-use Rattle.presentation_rows.specs.Values.{vector_of, AreUnitRows}
+use Rattle.presentation_rows.specs.Values.{vector, AreUnitRows}
 
-pub unit-vector : (q n i : ℕ) → i < n → vector_of q (unit_row n i) ≡ unit q i
+pub unit-vector : (q n i : ℕ) → i < n → vector q (unit_row n i) ≡ unit q i
 unit-vector q n i l = fun_ext (λ j. go j (cases_eq j i))
   where
     go : (j : ℕ) → (j ≡ i) ⊎ (j ≡ i → ⊥) → residue q (entry (unit_row n i) j) ≡ residue q (cond (eqb j i) 1 0)

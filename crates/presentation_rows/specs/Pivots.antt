@@ -1,17 +1,8 @@
--- The pivots of a reduced echelon list of rows over a list of monomials, and the relations that its rows stand for.
-use Rattle.std.specs.Prelude.{◌≡◌, ℕ, ◌<◌, Bool, false, cond, ◌||◌, eqb, List, [], ◌∷◌, length}
-use Rattle.linear_algebra.specs.Rows.{row, pivot}
+-- The relations that the rows of a reduced echelon list over a list of monomials stand for.
+use Rattle.std.specs.Prelude.{ℕ, cond, List, [], ◌∷◌}
+use Rattle.linear_algebra.specs.Rows.{pivot, is_pivot}
 use Rattle.graded_polynomials.specs.Polynomials.{Polynomial}
 use Rattle.presentation_rows.specs.RowPolynomials.{polynomial_of}
-
--- k is the pivot of one of the rows
-abbrev pub IsPivot : List (List ℕ) → ℕ → Type 0
-IsPivot rows k = (i : ℕ) × (i < length rows) × (pivot (row rows i) ≡ k)
-
--- the same as a test
-abbrev pub is_pivot : List (List ℕ) → ℕ → Bool
-is_pivot [] k = false
-is_pivot (r ∷ rows) k = eqb (pivot r) k || is_pivot rows k
 
 -- the rows of the kernel whose pivot is none of those of the multiples, as polynomials of degree d over the monomials ms
 abbrev pub new_relations : ℕ → List (List ℕ) → List (List ℕ) → List (List ℕ) → List Polynomial

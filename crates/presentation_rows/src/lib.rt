@@ -5,7 +5,7 @@
 
 ghost use Rattle.std.specs.Prelude.{◌≡◌, ℕ, suc, ◌+◌, ◌*◌, ◌<◌, ◌↔◌, List, [], ◌∷◌, ◌++◌, length, map, slice_index_or};
 ghost use Rattle.std.specs.List.{AllByRecursion as Each};
-ghost use Rattle.linear_algebra.specs.Rows.{entry, IsRow, IsEchelonOf, IsCombination};
+ghost use Rattle.linear_algebra.specs.Rows.{entry, IsRow, IsEchelonOf, IsCombination, IsPivot};
 ghost use Rattle.linear_algebra.specs.Kernels.{IsKernelOf};
 ghost use Rattle.linear_algebra.specs.Choices.{IsGreedy, IsPreimage, ArePreimages};
 ghost use Rattle.graded_polynomials.specs.Monomials.{IsMonomial, IsMonomials, IsTrimmed};
@@ -16,9 +16,9 @@ ghost use Rattle.graded_algebra.specs.Presentations.{IsRelation, IsConsequence, 
 ghost use Rattle.graded_algebra.specs.Presentations.{IsSpanGenerators, IsRelations, IsNormalForm, generators_of};
 ghost use Rattle.graded_algebra.specs.Vectors.{Vector, vectors, unit, units};
 ghost use Rattle.presentation_rows.specs.RowPolynomials.{polynomial_of, row_of};
-ghost use Rattle.presentation_rows.specs.Values.{vector_of, AreValues, AreUnitRows};
+ghost use Rattle.presentation_rows.specs.Values.{vector, AreValues, AreUnitRows};
 ghost use Rattle.presentation_rows.specs.Factors.{IsLastFactor};
-ghost use Rattle.presentation_rows.specs.Pivots.{IsPivot, new_relations};
+ghost use Rattle.presentation_rows.specs.Pivots.{new_relations};
 ghost use Rattle.presentation_rows.specs.Multiples.{AreMultiples};
 
 /// A row over the monomials of a degree stands for a stored polynomial of that degree.
@@ -38,7 +38,7 @@ pub fn values_of_rows()
     ensures { (q : ℕ) (mul : ℕ → ℕ → Vector q → Vector q → Vector q) (gs : List (Generator (Vector q))) (ms values : List (List ℕ))
         → AreValues q (vectors q mul) gs ms values
         → (u c : List ℕ) → IsCombination (suc q) (entry u) values (entry c)
-        → value (vectors q mul) gs (polynomial_of ms u) ≡ vector_of q c }
+        → value (vectors q mul) gs (polynomial_of ms u) ≡ vector q c }
 {}
 
 /// The value of a monomial is the value of its quotient by its last factor, times the class of that generator.
@@ -98,7 +98,7 @@ pub fn normal_forms_of_preimages()
     ensures { (q d : ℕ) (mul : ℕ → ℕ → Vector q → Vector q → Vector q) (gs : List (Generator (Vector q)))
         (ms values kernel : List (List ℕ)) (c u : List ℕ) → 1 < suc q → IsMonomials q (degrees gs) d ms
         → AreValues q (vectors q mul) gs ms values → IsKernelOf (suc q) values kernel → IsPreimage (suc q) values kernel c u
-        → IsNormalForm q (vectors q mul) gs d (vector_of q c) (polynomial_of ms u) }
+        → IsNormalForm q (vectors q mul) gs d (vector q c) (polynomial_of ms u) }
 {}
 
 /// The combination of the preimages of the unit rows with the entries of a class is the preimage of the class.
@@ -124,6 +124,6 @@ pub fn one_more_generator()
         → IsMonomials q ds d ms → IsMonomials q (ds ++ d ∷ []) d (ms ++ power (length ds) 1 ∷ []) }
     ensures values { (q : ℕ) (mul : ℕ → ℕ → Vector q → Vector q → Vector q) (gs : List (Generator (Vector q))) (g : Generator (Vector q))
         (ms values : List (List ℕ)) (w : List ℕ) → IsMonomials q (degrees gs) g.degree ms → AreValues q (vectors q mul) gs ms values
-        → vector_of q w ≡ g.class → mul 0 g.degree (unit q 0) g.class ≡ g.class
+        → vector q w ≡ g.class → mul 0 g.degree (unit q 0) g.class ≡ g.class
         → AreValues q (vectors q mul) (gs ++ g ∷ []) (ms ++ power (length (degrees gs)) 1 ∷ []) (values ++ w ∷ []) }
 {}

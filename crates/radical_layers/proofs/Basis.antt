@@ -5,7 +5,8 @@ use Rattle.std.proofs.lemmas.List.{get_or_append_left, get_or-append-add, length
 use Rattle.std.proofs.Math.Nat.{mod-eq_of_lt}
 use mathlib.Core.Path.{subst}
 use Rattle.group_modules.specs.Module.{Module, sub, times}
-use Rattle.group_modules.specs.Field.{Below, residue, below-path}
+use Rattle.group_modules.specs.Field.{Below, residue}
+use Rattle.linear_algebra.proofs.Residues.{below-path}
 use Rattle.group_modules.specs.Tables.{Group, monoid}
 use Rattle.augmentation_ideal.specs.Radical.{Moved}
 use Rattle.augmentation_ideal.specs.Generators.{combine, IsBasisModuloMoved}

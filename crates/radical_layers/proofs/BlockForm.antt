@@ -5,7 +5,8 @@ use Rattle.std.proofs.lemmas.List.{get_or_past}
 use Rattle.std.proofs.lemmas.Grind.{same_number_lists}
 use mathlib.Core.Path.{subst, fun_ext}
 use Rattle.group_modules.specs.Module.{Module}
-use Rattle.group_modules.specs.Field.{Below, below-path}
+use Rattle.group_modules.specs.Field.{Below}
+use Rattle.linear_algebra.proofs.Residues.{below-path}
 use Rattle.group_modules.specs.Tables.{Group, monoid, Table}
 use Rattle.linear_algebra.specs.Modular.{IsCongruent}
 use Rattle.linear_algebra.specs.Rows.{entry, IsRow}

@@ -3,11 +3,14 @@ use Rattle.std.proofs.Common.{◌≡◌, ◌≢◌, ℕ, suc, ◌⊎◌, true, f
 use Rattle.std.proofs.lemmas.Bool.Decides.{eqb_tells}
 use mathlib.Core.Path.{subst, fun_ext}
 use Rattle.group_modules.specs.Module.{Module, sub, times, lin, IsLinear}
-use Rattle.group_modules.specs.Laws.{sub-self, map-zero, map-sub, map-times, times-zero}
-use Rattle.group_modules.specs.Field.{Below, residue, Fp, times-one, residue-self}
-use Rattle.group_modules.specs.Tables.{Group, monoid, Table, terms, unit, mark, part, lin-terms}
-use Rattle.group_modules.specs.Maps.{terms-linear, terms-unit, block-sum, total-times}
-use Rattle.group_modules.specs.Sums.{total, total-only, map-total, below}
+use Rattle.group_modules.proofs.Laws.{sub-self, map-zero, map-sub, map-times, times-zero}
+use Rattle.group_modules.specs.Field.{Below, residue, Fp}
+use Rattle.linear_algebra.proofs.Residues.{times-one, residue-self}
+use Rattle.group_modules.specs.Tables.{Group, monoid, Table, terms, unit, mark, part, block-sum}
+use Rattle.group_modules.proofs.TermLaws.{lin-terms}
+use Rattle.group_modules.proofs.MapLaws.{terms-linear, terms-unit, total-times}
+use Rattle.group_modules.specs.Sums.{total, below}
+use Rattle.group_modules.proofs.SumLaws.{total-only, map-total}
 use Rattle.augmentation_ideal.specs.Radical.{Moved, none, both, moved}
 use Rattle.augmentation_ideal.specs.Generators.{combine}
 

@@ -5,10 +5,12 @@ use Rattle.std.proofs.lemmas.List.{get_or_append_left, get_or-append-add, length
 use Rattle.std.proofs.lemmas.Grind.{same_number_lists}
 use mathlib.Core.Path.{subst, fun_ext}
 use Rattle.group_modules.specs.Module.{Module, sub, times}
-use Rattle.group_modules.specs.Laws.{sub-add, map-times}
-use Rattle.group_modules.specs.Field.{Below, below-path}
+use Rattle.group_modules.proofs.Laws.{sub-add, map-times}
+use Rattle.group_modules.specs.Field.{Below}
+use Rattle.linear_algebra.proofs.Residues.{below-path}
 use Rattle.group_modules.specs.Tables.{Group, monoid}
-use Rattle.group_modules.specs.Sums.{below, up, total, total-map, map-total}
+use Rattle.group_modules.specs.Sums.{below, up, total}
+use Rattle.group_modules.proofs.SumLaws.{total-map, map-total}
 use Rattle.augmentation_ideal.specs.Radical.{Moved, none, both, moved}
 use Rattle.augmentation_ideal.proofs.Nakayama.{moved-times, neg-times}
 use Rattle.linear_algebra.specs.Modular.{IsCongruent, sum_below}

@@ -5,11 +5,13 @@ use Rattle.std.proofs.Math.Nat.{zero-mod, mod-eq_of_lt}
 use Rattle.std.proofs.lemmas.List.{get_or_past}
 use mathlib.Core.Path.{subst, fun_ext}
 use Rattle.group_modules.specs.Module.{Module, sub, times, lin}
-use Rattle.group_modules.specs.Laws.{sub-self, sub-zero, map-sub, map-zero, map-times, times-zero, times-mod}
-use Rattle.group_modules.specs.Field.{Below, residue, below-path, Fp, times-one}
-use Rattle.group_modules.specs.Tables.{Group, monoid, Table, terms, unit}
-use Rattle.group_modules.specs.Maps.{block-sum, terms-sum}
-use Rattle.group_modules.specs.Sums.{below, total, total-only, map-total}
+use Rattle.group_modules.proofs.Laws.{sub-self, sub-zero, map-sub, map-zero, map-times, times-zero, times-mod}
+use Rattle.group_modules.specs.Field.{Below, residue, Fp}
+use Rattle.linear_algebra.proofs.Residues.{below-path, times-one}
+use Rattle.group_modules.specs.Tables.{Group, monoid, Table, terms, unit, block-sum}
+use Rattle.group_modules.proofs.MapLaws.{terms-sum}
+use Rattle.group_modules.specs.Sums.{below, total}
+use Rattle.group_modules.proofs.SumLaws.{total-only, map-total}
 use Rattle.augmentation_ideal.specs.Radical.{Moved, none, both, moved, Radical}
 use Rattle.augmentation_ideal.specs.Generators.{combine}
 use Rattle.augmentation_ideal.proofs.Generators.{split}

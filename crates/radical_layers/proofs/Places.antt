@@ -4,7 +4,8 @@ use Rattle.std.proofs.lemmas.Bool.{cases_lt, lt-ltb, le-ltb}
 use Rattle.std.proofs.lemmas.Nat.{div-mul-add, mod-mul-add, div_below, div-add-mod', mul-le, mod_below}
 use Rattle.std.proofs.Math.Nat.{le_refl}
 use mathlib.Core.Path.{subst}
-use Rattle.group_modules.specs.Field.{Below, below-path}
+use Rattle.group_modules.specs.Field.{Below}
+use Rattle.linear_algebra.proofs.Residues.{below-path}
 use Rattle.radical_layers.specs.Placing.{Placing, size_of, place_of, block_at, member_at}
 
 -- a test that holds, and one that does not

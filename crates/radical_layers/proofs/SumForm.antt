@@ -7,11 +7,12 @@ use Rattle.std.proofs.lemmas.Grind.{same_number_lists}
 use Rattle.std.proofs.Math.Nat.{mod-eq_of_lt}
 use mathlib.Core.Path.{subst, fun_ext}
 use Rattle.group_modules.specs.Module.{Module, sub}
-use Rattle.group_modules.specs.Laws.{zero-add, sub-back}
-use Rattle.group_modules.specs.Field.{Below, residue, below-path, Fp, residue-self}
-use Rattle.group_modules.specs.Tables.{Group, monoid, Table}
-use Rattle.group_modules.specs.Maps.{block-sum}
-use Rattle.group_modules.specs.Sums.{below, total, total-add, total-only}
+use Rattle.group_modules.proofs.Laws.{zero-add, sub-back}
+use Rattle.group_modules.specs.Field.{Below, residue, Fp}
+use Rattle.linear_algebra.proofs.Residues.{below-path, residue-self}
+use Rattle.group_modules.specs.Tables.{Group, monoid, Table, block-sum}
+use Rattle.group_modules.specs.Sums.{below, total}
+use Rattle.group_modules.proofs.SumLaws.{total-add, total-only}
 use Rattle.linear_algebra.specs.Modular.{IsCongruent}
 use Rattle.linear_algebra.specs.Rows.{entry, IsRow}
 use Rattle.linear_algebra.proofs.Congruences.{congruent_trans, congruent_eq, congruent_mod}

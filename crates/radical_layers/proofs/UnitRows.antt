@@ -2,10 +2,13 @@
 use Rattle.std.proofs.Common.{◌≡◌, ◌≢◌, ℕ, suc, ◌*◌, ◌<◌, List, length, ap, sym, ◌∙◌}
 use mathlib.Core.Path.{subst, fun_ext}
 use Rattle.group_modules.specs.Module.{Module, lin, times}
-use Rattle.group_modules.specs.Laws.{times-mod}
-use Rattle.group_modules.specs.Field.{Below, residue, below-path}
-use Rattle.group_modules.specs.Sums.{below, total, total-zero, total-only}
-use Rattle.group_modules.specs.Tables.{Group, monoid, Table, terms, part, lin-terms}
+use Rattle.group_modules.proofs.Laws.{times-mod}
+use Rattle.group_modules.specs.Field.{Below, residue}
+use Rattle.linear_algebra.proofs.Residues.{below-path}
+use Rattle.group_modules.specs.Sums.{below, total}
+use Rattle.group_modules.proofs.SumLaws.{total-zero, total-only}
+use Rattle.group_modules.specs.Tables.{Group, monoid, Table, terms, part}
+use Rattle.group_modules.proofs.TermLaws.{lin-terms}
 use Rattle.linear_algebra.specs.Modular.{IsFieldModulo}
 use Rattle.linear_algebra.specs.Rows.{entry, row}
 use Rattle.linear_algebra.specs.Kernels.{unit_row}

@@ -1,10 +1,9 @@
 -- The layer basis: the joined greedy lists of the powers of the augmentation ideal.
 use Rattle.std.specs.Prelude.{◌≡◌, ◌≢◌, ℕ, zero, suc, List, [], ◌∷◌, ◌++◌, length, get_or, ◌<◌}
-use Rattle.group_modules.specs.Tables.{Group, Table}
+use Rattle.group_modules.specs.Tables.{Group, Table, block-sum}
 use Rattle.linear_algebra.specs.Choices.{rows_at, IsGreedy}
 use Rattle.group_modules.specs.Module.{times}
 use Rattle.group_modules.specs.Field.{Below, residue}
-use Rattle.group_modules.specs.Maps.{block-sum}
 use Rattle.group_modules.specs.Sums.{total, below}
 use Rattle.linear_algebra.specs.Rows.{entry, row}
 use Rattle.radical_layers.specs.Coordinates.{RowForm, Coordinates}

@@ -3,10 +3,10 @@ use Rattle.std.proofs.Common.{◌≡◌, ℕ, zero, suc, ◌+◌, ◌*◌, ◌<�
 use Rattle.std.proofs.lemmas.Bool.{cases_eq}
 use Rattle.std.proofs.lemmas.List.{length-map, get_or-map}
 use mathlib.Core.Path.{subst, fun_ext}
-use Rattle.group_modules.specs.Field.{Below, residue, below-path, Fp}
-use Rattle.group_modules.specs.Tables.{Group, monoid, Table}
+use Rattle.group_modules.specs.Field.{Below, residue, Fp}
+use Rattle.linear_algebra.proofs.Residues.{below-path}
+use Rattle.group_modules.specs.Tables.{Group, monoid, Table, block-sum}
 use Rattle.group_modules.specs.Resolutions.{rank}
-use Rattle.group_modules.specs.Maps.{block-sum}
 use Rattle.augmentation_ideal.specs.Claims.{IsPrimePower}
 use Rattle.linear_algebra.specs.Modular.{IsFieldModulo}
 use Rattle.linear_algebra.specs.Rows.{row}

@@ -6,11 +6,11 @@ use Rattle.std.proofs.Math.Seq.{take-suc, take-length}
 use Rattle.std.proofs.Math.Nat.{zero-mod, mod-eq_of_lt, le_refl}
 use mathlib.Core.Path.{subst, fun_ext}
 use Rattle.group_modules.specs.Module.{Module, sub, times, IsLinear}
-use Rattle.group_modules.specs.Laws.{zero-add, sub-self, sub-zero, map-zero, map-sub, map-times, times-zero}
+use Rattle.group_modules.proofs.Laws.{zero-add, sub-self, sub-zero, map-zero, map-sub, map-times, times-zero}
 use Rattle.group_modules.specs.Field.{Below, residue, Fp}
-use Rattle.group_modules.specs.Tables.{Group, monoid, Table}
-use Rattle.group_modules.specs.Maps.{block-sum}
-use Rattle.group_modules.specs.Sums.{below, total, total-zero, map-total}
+use Rattle.group_modules.specs.Tables.{Group, monoid, Table, block-sum}
+use Rattle.group_modules.specs.Sums.{below, total}
+use Rattle.group_modules.proofs.SumLaws.{total-zero, map-total}
 use Rattle.augmentation_ideal.specs.Radical.{Moved, IsSubmodule}
 use Rattle.augmentation_ideal.specs.Generators.{combine}
 use Rattle.augmentation_ideal.proofs.Generators.{split}

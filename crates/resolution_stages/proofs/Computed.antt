@@ -4,11 +4,12 @@ use Rattle.std.proofs.lemmas.Bool.{cases_lt}
 use Rattle.std.proofs.lemmas.List.{get_or_past}
 use mathlib.Core.Path.{subst, fun_ext}
 use Rattle.group_modules.specs.Module.{Module, IsLinear, times}
-use Rattle.group_modules.specs.Laws.{map-times}
+use Rattle.group_modules.proofs.Laws.{map-times}
 use Rattle.group_modules.specs.Field.{Below}
-use Rattle.group_modules.specs.Sums.{below, total, map-total}
+use Rattle.group_modules.specs.Sums.{below, total}
+use Rattle.group_modules.proofs.SumLaws.{map-total}
 use Rattle.group_modules.specs.Tables.{Group, monoid, Table}
-use Rattle.group_modules.specs.Maps.{terms-linear}
+use Rattle.group_modules.proofs.MapLaws.{terms-linear}
 use Rattle.linear_algebra.specs.Modular.{IsCongruent, IsFieldModulo, sum_below}
 use Rattle.linear_algebra.specs.Rows.{entry, row, combination, IsRow, IsMatrix, IsInSpan, AreInSpan}
 use Rattle.linear_algebra.specs.Choices.{IsGreedy, IsPreimage}

@@ -3,9 +3,9 @@ use Rattle.std.proofs.Common.{◌≡◌, ◌≢◌, ℕ, zero, suc, ◌*◌, ◌
 use Rattle.std.proofs.lemmas.Bool.{cases_lt}
 use Rattle.std.proofs.lemmas.List.{get_or_past}
 use Rattle.std.proofs.Math.Nat.{zero-mod}
-use Rattle.group_modules.specs.Field.{Below, residue, below-path}
-use Rattle.group_modules.specs.Tables.{Group, Table}
-use Rattle.group_modules.specs.Maps.{block-sum}
+use Rattle.group_modules.specs.Field.{Below, residue}
+use Rattle.linear_algebra.proofs.Residues.{below-path}
+use Rattle.group_modules.specs.Tables.{Group, Table, block-sum}
 use Rattle.group_modules.specs.Resolutions.{Resolution}
 use Rattle.augmentation_ideal.specs.Radical.{Radical}
 use Rattle.augmentation_ideal.specs.Claims.{IsPrimePower}

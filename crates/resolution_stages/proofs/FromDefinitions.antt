@@ -4,11 +4,12 @@ use Rattle.std.proofs.lemmas.Bool.{cases_eq}
 use Rattle.std.proofs.Math.Nat.{zero-mod}
 use mathlib.Core.Path.{subst, fun_ext}
 use Rattle.group_modules.specs.Module.{Monoid, Module, lin, IsLinear}
-use Rattle.group_modules.specs.Laws.{map-zero, act-zero}
-use Rattle.group_modules.specs.Field.{Below, residue, below-path, Fp}
-use Rattle.group_modules.specs.Tables.{Group, monoid, Table, terms}
+use Rattle.group_modules.proofs.Laws.{map-zero, act-zero}
+use Rattle.group_modules.specs.Field.{Below, residue, Fp}
+use Rattle.linear_algebra.proofs.Residues.{below-path}
+use Rattle.group_modules.specs.Tables.{Group, monoid, Table, terms, block-sum}
 use Rattle.group_modules.specs.Resolutions.{Resolution, rank}
-use Rattle.group_modules.specs.Maps.{block-sum, augment-sum, terms-linear}
+use Rattle.group_modules.proofs.MapLaws.{augment-sum, terms-linear}
 use Rattle.augmentation_ideal.specs.Primes.{IsPrime}
 use Rattle.augmentation_ideal.specs.Radical.{IsSubmodule}
 use Rattle.augmentation_ideal.specs.Claims.{IsPrimePower}

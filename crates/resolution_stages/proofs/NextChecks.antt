@@ -4,10 +4,10 @@ use Rattle.std.proofs.lemmas.Bool.{cases_lt}
 use Rattle.std.proofs.lemmas.List.{length-append}
 use mathlib.Core.Path.{subst}
 use Rattle.group_modules.specs.Module.{Term, Module, sub, lin}
-use Rattle.group_modules.specs.Laws.{sub-self, map-sub}
-use Rattle.group_modules.specs.Field.{Below, residue, below-path}
-use Rattle.group_modules.specs.Tables.{Group, monoid, Table, terms}
-use Rattle.group_modules.specs.Maps.{block-sum}
+use Rattle.group_modules.proofs.Laws.{sub-self, map-sub}
+use Rattle.group_modules.specs.Field.{Below, residue}
+use Rattle.linear_algebra.proofs.Residues.{below-path}
+use Rattle.group_modules.specs.Tables.{Group, monoid, Table, terms, block-sum}
 use Rattle.augmentation_ideal.specs.Radical.{Moved, IsSubmodule}
 use Rattle.augmentation_ideal.specs.Generators.{combine, IsBasisModuloMoved}
 use Rattle.augmentation_ideal.proofs.Generators.{kernel-minimal, same-coefficients, close-sym, close-trans}

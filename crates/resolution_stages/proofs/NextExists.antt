@@ -2,9 +2,9 @@
 use Rattle.std.proofs.Common.{◌≡◌, ℕ, zero, suc, ◌+◌, ◌*◌, ◌-◌, ◌<◌, List, [], ◌∷◌, length, arith, ap, sym, ◌∙◌, refl}
 use mathlib.Core.Path.{subst}
 use Rattle.group_modules.specs.Module.{Module, sub}
-use Rattle.group_modules.specs.Laws.{map-sub, sub-eq}
+use Rattle.group_modules.proofs.Laws.{map-sub, sub-eq}
 use Rattle.group_modules.specs.Tables.{Group, monoid, Table}
-use Rattle.group_modules.specs.Maps.{terms-linear}
+use Rattle.group_modules.proofs.MapLaws.{terms-linear}
 use Rattle.augmentation_ideal.specs.Radical.{IsSubmodule}
 use Rattle.augmentation_ideal.specs.Claims.{IsPrimePower}
 use Rattle.augmentation_ideal.specs.Generators.{Generate}

@@ -2,10 +2,9 @@
 use Rattle.std.proofs.Common.{◌≡◌, ℕ, suc, ◌*◌, List, [], ◌∷◌, length, sym}
 use mathlib.Core.Path.{subst}
 use Rattle.group_modules.specs.Module.{Module, times}
-use Rattle.group_modules.specs.Field.{residue}
-use Rattle.group_modules.specs.Tables.{Group, monoid, Table}
-use Rattle.group_modules.specs.Maps.{block-sum, terms-linear}
-use Rattle.group_modules.specs.Field.{Fp}
+use Rattle.group_modules.specs.Field.{residue, Fp}
+use Rattle.group_modules.specs.Tables.{Group, monoid, Table, block-sum}
+use Rattle.group_modules.proofs.MapLaws.{terms-linear}
 use Rattle.group_modules.specs.Sums.{below, total}
 use Rattle.augmentation_ideal.specs.Radical.{IsSubmodule}
 use Rattle.augmentation_ideal.proofs.Nakayama.{times-in}

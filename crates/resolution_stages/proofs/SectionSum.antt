@@ -1,86 +1,24 @@
 -- The section by its table: the sum over the pivots.
-use Rattle.std.proofs.Common.{◌≡◌, ℕ, zero, suc, ◌+◌, ◌*◌, ◌<◌, ◌≤◌, ◌⊎◌, List, [], ◌∷◌, length, replicate, inl, inr, arith, ap, ap₂, sym, ◌∙◌, refl}
-use Rattle.std.proofs.lemmas.Bool.{cases_lt}
-use Rattle.std.proofs.lemmas.List.{length-replicate, get_or-replicate, get_or_past, ext_get_or}
+use Rattle.std.proofs.Common.{◌≡◌, ℕ, suc, ◌+◌, ◌*◌, ◌<◌, List, length, arith, ap, ap₂, sym, ◌∙◌, refl}
 use mathlib.Core.Path.{subst, fun_ext}
 use Rattle.group_modules.specs.Module.{Module, sub, times}
-use Rattle.group_modules.specs.Laws.{map-times, map-sub, sub-self, sub-eq}
+use Rattle.group_modules.proofs.Laws.{map-times, map-sub, sub-self, sub-eq}
 use Rattle.group_modules.specs.Field.{Below}
-use Rattle.group_modules.specs.Sums.{below, total, map-total}
+use Rattle.group_modules.specs.Sums.{below, total}
+use Rattle.group_modules.proofs.SumLaws.{map-total}
 use Rattle.group_modules.specs.Tables.{Group, monoid, Table}
-use Rattle.group_modules.specs.Maps.{terms-linear}
-use Rattle.linear_algebra.specs.Modular.{IsCongruent, IsFieldModulo, sum_below}
-use Rattle.linear_algebra.specs.Rows.{entry, row, pivot, add_multiple, combination, IsRow, IsMatrix, IsEchelon, IsInSpan}
+use Rattle.group_modules.proofs.MapLaws.{terms-linear}
+use Rattle.radical_layers.specs.Coordinates.{Coordinates}
+use Rattle.radical_layers.proofs.Bridge.{at-zero, at-sub, same-table, tabs, at-tabs}
+use Rattle.linear_algebra.specs.Modular.{IsCongruent, IsFieldModulo}
+use Rattle.linear_algebra.specs.Rows.{entry, row, pivot, combination, IsRow, IsMatrix, IsEchelon, IsInSpan}
 use Rattle.linear_algebra.proofs.Sums.{sum_below-congruent, sum_below-vanishes}
-use Rattle.linear_algebra.proofs.Congruences.{congruent_refl, congruent_add, congruent_trans, congruent_eq, congruent_sym, congruent_mul_right, same_below}
+use Rattle.linear_algebra.proofs.Congruences.{congruent_trans, congruent_eq, congruent_sym, congruent_mul_right, same_below}
+use Rattle.linear_algebra.proofs.CombinationRows.{combination_row-is_row, combination_row-each}
 use Rattle.linear_algebra.proofs.Pivots.{coefficient_at_pivot, zero_at_pivots}
 use Rattle.linear_algebra.proofs.EchelonLists.{HasPivots-from_echelon, Combines-from_combination}
-use Rattle.linear_algebra.proofs.Reducing.{add_multiple_is_row, entry_congruent}
-use Rattle.radical_layers.specs.Coordinates.{Coordinates}
 use Rattle.resolution_stages.specs.Checks.{StageParts, IsNextStage, del, chosen_row}
-use Rattle.resolution_stages.specs.Chain.{sum_row, section_row, IsPartialSum}
-use Rattle.radical_layers.proofs.Bridge.{at-zero, at-sub, same-table, tabs, at-tabs}
-
-sum_below-first : (n : ℕ) (f : ℕ → ℕ) → sum_below (suc n) f ≡ sum_below n (λ i. f (suc i)) + f 0
-sum_below-first zero f = omega arith
-sum_below-first (suc n) f = omega (arith, sum_below-first n f)
-
-zeros-are : (p width : ℕ) → 0 < p → IsRow p width (replicate width 0)
-zeros-are p width l = record { length_is = length-replicate width 0; below = λ j m. subst (λ x. x < p) (sym (get_or-replicate width j 0 0 m)) l }
-
-zero-entry : (width j : ℕ) → entry (replicate width 0) j ≡ 0
-zero-entry width j = go (cases_lt j width)
-  where
-    go : (j < width) ⊎ (width ≤ j) → entry (replicate width 0) j ≡ 0
-    go (inl l) = get_or-replicate width j 0 0 l
-    go (inr l) = get_or_past (replicate width 0) j 0 (let z : length {A = ℕ} (replicate width 0) ≡ width = length-replicate width 0 in omega (arith, z, l))
-
-later : {p width : ℕ} (r : List ℕ) (rows : List (List ℕ)) → IsMatrix p width (r ∷ rows) → IsMatrix p width rows
-later r rows M i l = M (suc i) (let z : suc i < suc (length rows) = omega (arith, l) in z)
-
-pub sum_row-is_row : (p width : ℕ) → 0 < p → (u : ℕ → ℕ) (rows : List (List ℕ)) → IsMatrix p width rows → IsRow p width (sum_row p width u rows)
-sum_row-is_row p width l u [] M = zeros-are p width l
-sum_row-is_row p width l u (r ∷ rows) M = add_multiple_is_row (u 0) (sum_row p width (λ i. u (suc i)) rows) r l
-    (sum_row-is_row p width l (λ i. u (suc i)) rows (later r rows M)) (M 0 (let z : 0 < suc (length rows) = omega arith in z))
-
-pub sum_row-each : (p width : ℕ) → 0 < p → (u : ℕ → ℕ) (rows : List (List ℕ)) → IsMatrix p width rows → (j : ℕ) → IsCongruent p (entry (sum_row p width u rows) j) (combination u rows j)
-sum_row-each p width l u [] M j = congruent_eq (zero-entry width j)
-sum_row-each p width l u (r ∷ rows) M j = congruent_trans
-    (entry_congruent (u 0) (sum_row p width (λ i. u (suc i)) rows) r (sum_row-is_row p width l (λ i. u (suc i)) rows (later r rows M)) (M 0 (let z : 0 < suc (length rows) = omega arith in z)) j)
-    (congruent_trans (congruent_add (sum_row-each p width l (λ i. u (suc i)) rows (later r rows M) j) (congruent_refl (u 0 * entry r j)))
-    (congruent_eq (sym (sum_below-first (length rows) (λ i. u i * entry (row (r ∷ rows) i) j)))))
-
--- rows that agree modulo p are equal
-pub same-row : {p width : ℕ} (x y : List ℕ) → IsRow p width x → IsRow p width y → ((j : ℕ) → IsCongruent p (entry x j) (entry y j)) → x ≡ y
-same-row {p} {width} x y r s h = ext_get_or 0 x y (r.length_is ∙ sym s.length_is)
-    (λ j l. let m : j < width = (let e : length x ≡ width = r.length_is in omega (arith, e, l)) in same_below (h j) (r.below j m) (s.below j m))
-
--- a row that agrees with the sum at each place is the sum: what the code's loop leaves
-pub sum_row-is : {p width : ℕ} → 0 < p → (u : ℕ → ℕ) (rows : List (List ℕ)) → IsMatrix p width rows → (x : List ℕ) → IsRow p width x
-    → ((j : ℕ) → j < width → IsCongruent p (entry x j) (combination u rows j)) → x ≡ sum_row p width u rows
-sum_row-is {p} {width} l u rows M x r h = ext_get_or 0 x (sum_row p width u rows) (r.length_is ∙ sym s.length_is)
-    (λ j k. let m : j < width = (let e : length x ≡ width = r.length_is in omega (arith, e, k)) in
-    same_below (congruent_trans (h j m) (congruent_sym (sum_row-each p width l u rows M j))) (r.below j m) (s.below j m))
-  where
-    s : IsRow p width (sum_row p width u rows)
-    s = sum_row-is_row p width l u rows M
-
--- the loop: its start, a turn and its end
-pub partial-start : {p width : ℕ} (u : ℕ → ℕ) (rows : List (List ℕ)) → 0 < p → IsPartialSum p width u rows 0 (replicate width 0)
-partial-start {p} {width} u rows l = record { is_row = zeros-are p width l; each = λ j. congruent_eq (zero-entry width j) }
-
-pub partial-step : {p width : ℕ} (u : ℕ → ℕ) (rows : List (List ℕ)) (k : ℕ) (acc : List ℕ) → 0 < p → IsMatrix p width rows → k < length rows → IsPartialSum p width u rows k acc
-    → IsPartialSum p width u rows (k + 1) (add_multiple p (u k) acc (row rows k))
-partial-step {p} {width} u rows k acc l M b h = subst (λ m. IsPartialSum p width u rows m (add_multiple p (u k) acc (row rows k))) (let z : suc k ≡ k + 1 = omega arith in z) turn
-  where
-    turn : IsPartialSum p width u rows (suc k) (add_multiple p (u k) acc (row rows k))
-    turn = record {
-      is_row = add_multiple_is_row (u k) acc (row rows k) l h.is_row (M k b);
-      each = λ j. congruent_trans (entry_congruent (u k) acc (row rows k) h.is_row (M k b) j) (congruent_add (h.each j) (congruent_refl (u k * entry (row rows k) j)));
-    }
-
-pub partial-end : {p width : ℕ} (u : ℕ → ℕ) (rows : List (List ℕ)) (acc : List ℕ) → 0 < p → IsMatrix p width rows → IsPartialSum p width u rows (length rows) acc → acc ≡ sum_row p width u rows
-partial-end u rows acc l M h = sum_row-is l u rows M acc h.is_row (λ j m. h.each j)
+use Rattle.resolution_stages.specs.Chain.{section_row}
 
 module _ {n : ℕ} (q : ℕ) (F : IsFieldModulo (suc q)) (Γ : Group n) (K : Coordinates q Γ) (b : ℕ) (E : List (List ℕ)) (M : IsMatrix (suc q) (n * b) E) (e : IsEchelon E)
     (Q : StageParts) (N : IsNextStage q Γ K b E Q) where
@@ -133,11 +71,11 @@ module _ {n : ℕ} (q : ℕ) (F : IsFieldModulo (suc q)) (Γ : Group n) (K : Coo
     u = section_row (suc q) (n * length Q.positions) E Q.sections x
 
     pub value-is_row : IsRow (suc q) (n * m) u
-    value-is_row = sum_row-is_row (suc q) (n * m) positive c Q.sections N.section_rows
+    value-is_row = combination_row-is_row (suc q) (n * m) positive c Q.sections N.section_rows
 
     pub value-zero : (i : ℕ) → i < length Q.kernel → entry u (pivot (row Q.kernel i)) ≡ 0
     value-zero i l = same_below
-        (congruent_trans (sum_row-each (suc q) (n * m) positive c Q.sections N.section_rows (pivot (row Q.kernel i)))
+        (congruent_trans (combination_row-each (suc q) (n * m) positive c Q.sections N.section_rows (pivot (row Q.kernel i)))
         (sum_below-vanishes (suc q) (length Q.sections) (λ k. c k * entry (row Q.sections k) (pivot (row Q.kernel i)))
         (λ k h. congruent_eq (ap (λ y. c k * y) (N.zero_at_pivots k i (subst (λ y. k < y) N.section_count h) l) ∙ (let z : c k * 0 ≡ 0 = omega arith in z)))))
         (value-is_row.below (pivot (row Q.kernel i)) (let a : pivot (row Q.kernel i) < length (row Q.kernel i) = N.kernel_is.echelon.not_zero i l in let w : length (row Q.kernel i) ≡ n * m = (N.kernel_is.matrix i l).length_is in omega (arith, a, w)))
@@ -153,7 +91,7 @@ module _ {n : ℕ} (q : ℕ) (F : IsFieldModulo (suc q)) (Γ : Group n) (K : Coo
     table-of-u : (K m).table u ≡ tabs q Γ (n * m) T' (K m) Q.sections c (length E)
     table-of-u = same-table q Γ (n * m) T' (K m) ((K m).table u) (tabs q Γ (n * m) T' (K m) Q.sections c (length E)) (λ j.
         congruent_trans (congruent_eq (ap (λ y. entry y j) ((K m).row-table u value-is_row)))
-        (congruent_trans (sum_row-each (suc q) (n * m) positive c Q.sections N.section_rows j)
+        (congruent_trans (combination_row-each (suc q) (n * m) positive c Q.sections N.section_rows j)
         (congruent_sym (at-tabs q Γ (n * m) T' (K m) Q.sections N.section_rows c (length E) (sym N.section_count) j))))
 
     table-of-x : (K b).table x ≡ tabs q Γ (n * b) T (K b) E c (length E)

@@ -1,7 +1,8 @@
 -- Finite sequences of coefficients: sums whose last terms are 0, sequences cut off, and sequences by their number.
 use Rattle.std.proofs.Common.{◌≡◌, ℕ, zero, suc, ◌<◌, ◌≤◌, ◌⊎◌, inl, inr, arith, ap, refl}
 use Rattle.std.proofs.lemmas.Bool.{cases_lt}
-use Rattle.group_modules.specs.Field.{Below, below-path}
+use Rattle.group_modules.specs.Field.{Below}
+use Rattle.linear_algebra.proofs.Residues.{below-path}
 use Rattle.linear_algebra.specs.Modular.{IsCongruent, sum_below}
 use Rattle.linear_algebra.proofs.Congruences.{congruent_add, congruent_trans, congruent_eq}
 

@@ -3,7 +3,7 @@ use Rattle.std.proofs.Common.{◌≡◌, ℕ, suc, ◌+◌, ◌*◌, ◌<◌, Li
 use Rattle.std.proofs.lemmas.List.{ext_get_or}
 use mathlib.Core.Path.{subst}
 use Rattle.group_modules.specs.Module.{Module, sub}
-use Rattle.group_modules.specs.Laws.{map-sub, sub-self, sub-eq}
+use Rattle.group_modules.proofs.Laws.{map-sub, sub-self, sub-eq}
 use Rattle.group_modules.specs.Tables.{Group, monoid, Table}
 use Rattle.linear_algebra.specs.Modular.{IsCongruent, IsFieldModulo}
 use Rattle.linear_algebra.specs.Rows.{entry, row, pivot, IsInSpan}

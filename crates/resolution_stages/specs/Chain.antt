@@ -1,11 +1,9 @@
 -- The sections by their table, the parts of the stages, and parts that follow each other.
-use Rattle.std.specs.Prelude.{◌≡◌, ◌≢◌, ℕ, zero, suc, List, [], ◌∷◌, ◌++◌, map, length, get_or, replicate, ◌*◌, ◌<◌}
+use Rattle.std.specs.Prelude.{◌≡◌, ◌≢◌, ℕ, zero, suc, List, [], ◌∷◌, ◌++◌, map, length, get_or, ◌*◌, ◌<◌}
 use Rattle.group_modules.specs.Field.{residue}
-use Rattle.group_modules.specs.Tables.{Group, Table}
-use Rattle.group_modules.specs.Maps.{block-sum}
+use Rattle.group_modules.specs.Tables.{Group, Table, block-sum}
 use Rattle.group_modules.specs.Resolutions.{rank}
-use Rattle.linear_algebra.specs.Rows.{entry, row, pivot, add_multiple, IsRow, IsMatrix}
-use Rattle.linear_algebra.specs.Modular.{IsCongruent, sum_below}
+use Rattle.linear_algebra.specs.Rows.{entry, row, pivot, combination_row, IsMatrix}
 use Rattle.augmentation_ideal.specs.Radical.{Radical}
 use Rattle.radical_layers.specs.Coordinates.{Coordinates}
 use Rattle.resolution_stages.specs.Definitions.{StageRows, AreStages, RowInKernel}
@@ -13,14 +11,9 @@ use Rattle.radical_layers.specs.Moves.{IsEchelonFor}
 use Rattle.radical_layers.specs.Layers.{RowIn}
 use Rattle.resolution_stages.specs.Checks.{StageParts, IsSubmoduleList, IsNextStage}
 
--- the row u_0 row_0 + u_1 row_1 + .., modulo p
-abbrev pub sum_row : ℕ → ℕ → (ℕ → ℕ) → List (List ℕ) → List ℕ
-sum_row p width u [] = replicate width 0
-sum_row p width u (r ∷ rows) = add_multiple p (u 0) (sum_row p width (λ i. u (suc i)) rows) r
-
 -- the value of a section at x by its table: the sum over the pivots of E of x's entry there times the table's row
 abbrev pub section_row : ℕ → ℕ → List (List ℕ) → List (List ℕ) → List ℕ → List ℕ
-section_row p width E sections x = sum_row p width (λ k. entry x (pivot (row E k))) sections
+section_row p width E sections x = combination_row p width (λ k. entry x (pivot (row E k))) sections
 
 -- the parts of the stage of degree d + 1
 abbrev pub parts_of : StageRows → ℕ → StageParts
@@ -76,11 +69,6 @@ pub record IsUnitList (p width : ℕ) (E : List (List ℕ)) : Type 0 where
   pub count : suc (length E) ≡ width
   pub own : (i : ℕ) → i < length E → entry (row E i) (suc i) ≡ 1
   pub others : (i j : ℕ) → i < length E → j ≢ suc i → entry (row E i) j ≡ 0
-
--- acc is the sum of the first k multiples, in the loop that makes a section row
-pub record IsPartialSum (p width : ℕ) (u : ℕ → ℕ) (rows : List (List ℕ)) (k : ℕ) (acc : List ℕ) : Type 0 where
-  pub is_row : IsRow p width acc
-  pub each : (j : ℕ) → IsCongruent p (entry acc j) (sum_below k (λ i. u i * entry (row rows i) j))
 
 -- the list of K_0 is that of J^1; and where a row begins with the sum of its table, it is the unit rows but the first
 pub record FirstListClaims {n : ℕ} (q : ℕ) (Γ : Group n) (K : Coordinates q Γ) : Type 0 where

@@ -2,8 +2,7 @@
 use Rattle.std.specs.Prelude.{◌≡◌, ◌≢◌, ℕ, suc, List, length, get_or, ◌+◌, ◌*◌, ◌<◌}
 use Rattle.group_modules.specs.Module.{lin}
 use Rattle.group_modules.specs.Field.{Below, residue}
-use Rattle.group_modules.specs.Tables.{Group, Table, terms}
-use Rattle.group_modules.specs.Maps.{block-sum}
+use Rattle.group_modules.specs.Tables.{Group, Table, terms, block-sum}
 use Rattle.augmentation_ideal.specs.Radical.{IsSubmodule}
 use Rattle.linear_algebra.specs.Rows.{entry, row, pivot, IsMatrix, IsEchelon, IsInSpan}
 use Rattle.linear_algebra.specs.Choices.{rows_at, IsGreedy}

@@ -1,8 +1,7 @@
 -- Stages of a group by rows: ranks, kernels, the rows of the boundaries, and sections.
 use Rattle.std.specs.Prelude.{◌≡◌, ℕ, zero, suc, List, length, ◌*◌, ◌<◌}
 use Rattle.group_modules.specs.Field.{residue}
-use Rattle.group_modules.specs.Tables.{Group, Table}
-use Rattle.group_modules.specs.Maps.{block-sum}
+use Rattle.group_modules.specs.Tables.{Group, Table, block-sum}
 use Rattle.group_modules.specs.Resolutions.{rank, map-of}
 use Rattle.linear_algebra.specs.Rows.{entry, row, pivot, IsRow}
 use Rattle.linear_algebra.specs.Choices.{rows_at, IsGreedy}

@@ -5,7 +5,7 @@ use Rattle.std.specs.List.{AllByRecursion as Each}
 use Rattle.std.proofs.lemmas.List.{get_or_past, get_or_push, get_or_append_left, length_push, get_or_default}
 use Rattle.std.proofs.lemmas.List.Elements.{All-append, All-weaker, All-map}
 use mathlib.Core.Path.{subst}
-use Rattle.group_algebra.specs.PGroups.{PGroup, largest_residue}
+use Rattle.p_groups.specs.PGroups.{PGroup, largest_residue}
 use Rattle.linear_algebra.specs.Rows.{row}
 use Rattle.fp_rows.specs.Values.{MatrixValue}
 use Rattle.graded_polynomials.specs.Monomials.{IsMonomials, IsGreater}
@@ -15,7 +15,7 @@ use Rattle.graded_algebra.specs.Presentations as presentations
 use Rattle.graded_algebra.specs.Vectors.{Vector, residue, unit}
 use Rattle.graded_algebra.proofs.MoreGenerators.{degrees-append}
 use Rattle.gc_poly.specs.Generators.{Generators}
-use Rattle.presentation_rows.specs.Values.{vector_of, AreValues, AreUnitRows}
+use Rattle.presentation_rows.specs.Values.{vector, AreValues, AreUnitRows}
 use Rattle.presentation_rows.proofs.UnitRows.{unit-vector}
 use Rattle.presentation_rows.proofs.MoreMonomials.{monomials-with-last, values-with-last, monomials-stay, values-stay}
 use Rattle.min_res.specs.Stages.{rank_of}
@@ -34,7 +34,7 @@ degrees-of-append (x ∷ xs) ys = ap (λ ds. x.degree ∷ ds) (degrees-of-append
 
 pub classes-append : (G : PGroup) (xs ys : List LiftValue) → classes G (xs ++ ys) ≡ classes G xs ++ classes G ys
 classes-append G [] ys = refl
-classes-append G (x ∷ xs) ys = ap (λ gs. record { degree = x.degree; class = vector_of (largest_residue G) x.class } ∷ gs) (classes-append G xs ys)
+classes-append G (x ∷ xs) ys = ap (λ gs. record { degree = x.degree; class = vector (largest_residue G) x.class } ∷ gs) (classes-append G xs ys)
 
 -- the monomials of the degree stand before that of one more generator
 pub greater-than-new : (G : PGroup) (d n : ℕ) (lifts : List LiftValue) (v : Valued) → 0 < d → Each (λ a. 0 < a) (degrees (classes G lifts)) → AreAll G d lifts v
@@ -67,7 +67,7 @@ module _ (G : PGroup) (d : ℕ) (lifts : List LiftValue) (class : List ℕ) wher
   gs = classes G lifts
 
   abbrev g : Generator (Vector (largest_residue G))
-  g = record { degree = d; class = vector_of (largest_residue G) class }
+  g = record { degree = d; class = vector (largest_residue G) class }
 
   -- all monomials and their values, with one more generator
   pub all-more : (v w : Valued) → 0 < d → Each (λ a. 0 < a) (degrees gs) → length class ≡ rank_of G d → AreAll G d lifts v
@@ -84,7 +84,7 @@ module _ (G : PGroup) (d : ℕ) (lifts : List LiftValue) (class : List ℕ) wher
         (subst (λ ms. AreValues q (cohomology G) (gs ++ g ∷ []) ms w.values.rows) (sym monomials-are)
         (subst (λ rows. AreValues q (cohomology G) (gs ++ g ∷ []) (v.monomials ++ power (length (degrees gs)) 1 ∷ []) rows) (sym (ap (λ (m : MatrixValue). m.rows) ev))
         (values-with-last q (multiply G) gs g v.monomials v.values.rows class A.monomials A.values refl
-        (one-times G d (vector_of q class) (λ k l. ap (residue q) (get_or_past class k 0 (omega (arith, n, l))))))));
+        (one-times G d (vector q class) (λ k l. ap (residue q) (get_or_past class k 0 (omega (arith, n, l))))))));
   }
     where
       more : classes G (lifts ++ new_lift G d class ∷ []) ≡ gs ++ g ∷ []
@@ -99,7 +99,7 @@ pub new-classes : (G : PGroup) (d b : ℕ) (basis : List (List ℕ)) (places : L
 new-classes G d b basis [] U a = refl
 new-classes G d b basis (k ∷ places) U a =
     ap (λ (c : Vector (largest_residue G)). record { degree = d; class = c } ∷ classes G (map (λ k. new_lift G d (row basis k)) places))
-    (ap (vector_of (largest_residue G)) (U.each k inside) ∙ unit-vector (largest_residue G) b k inside)
+    (ap (vector (largest_residue G)) (U.each k inside) ∙ unit-vector (largest_residue G) b k inside)
     ∙ ap (λ gs. record { degree = d; class = unit (largest_residue G) k } ∷ gs) (new-classes G d b basis places U (λ i x l. a (suc i) x (omega (arith, l))))
   where
     inside : k < b

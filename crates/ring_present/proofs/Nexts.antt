@@ -4,8 +4,8 @@ use Rattle.std.specs.Prelude.{slice_index_or, All}
 use Rattle.std.specs.List.{AllByRecursion as Each}
 use Rattle.std.proofs.lemmas.List.Elements.{All-weaker, All-map}
 use mathlib.Core.Path.{subst}
-use Rattle.group_algebra.specs.PGroups.{PGroup, largest_residue}
-use Rattle.group_algebra.specs.Coordinates.{field, residues}
+use Rattle.p_groups.specs.PGroups.{PGroup, largest_residue}
+use Rattle.p_groups.proofs.Fields.{field, residues}
 use Rattle.linear_algebra.specs.Rows.{entry, row, IsEchelonOf, IsInSpan, AreInSpan}
 use Rattle.linear_algebra.specs.Kernels.{IsKernelOf}
 use Rattle.linear_algebra.specs.Choices.{IsGreedy, rows_at, ArePreimages}

@@ -1,8 +1,7 @@
 -- The test for a pivot, from the places that were looked at.
 use Rattle.std.proofs.Common.{◌≡◌, ◌≢◌, ℕ, ◌<◌, List, length, true, false, ◌⊎◌, inl, inr}
 use Rattle.std.proofs.lemmas.Bool.{cases_Bool}
-use Rattle.linear_algebra.specs.Rows.{row, pivot}
-use Rattle.presentation_rows.specs.Pivots.{is_pivot}
+use Rattle.linear_algebra.specs.Rows.{row, pivot, is_pivot}
 use Rattle.presentation_rows.proofs.PivotTests.{pivot-if-found}
 
 pub not-found-if-none : (rows : List (List ℕ)) (k : ℕ) → ((i : ℕ) → i < length rows → pivot (row rows i) ≢ k) → is_pivot rows k ≡ false

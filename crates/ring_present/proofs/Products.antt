@@ -4,16 +4,16 @@ use Rattle.std.proofs.lemmas.Bool.{cases_lt}
 use Rattle.std.proofs.Math.Nat.{mod-eq_of_lt}
 use mathlib.Core.Path.{fun_ext}
 use Rattle.group_modules.specs.Module.{times}
-use Rattle.group_modules.specs.Field.{Below, Fp, plus, residue-self, times-residue}
+use Rattle.group_modules.specs.Field.{Below, Fp, plus}
+use Rattle.linear_algebra.proofs.Residues.{residue-self, times-residue}
 use Rattle.group_modules.specs.Field as field
-use Rattle.group_modules.specs.Sums.{total-only}
-use Rattle.group_modules.specs.Tables.{monoid, Table}
-use Rattle.group_modules.specs.Maps.{block-sum}
-use Rattle.group_algebra.specs.PGroups.{PGroup, largest_residue, group}
+use Rattle.group_modules.proofs.SumLaws.{total-only}
+use Rattle.group_modules.specs.Tables.{monoid, Table, block-sum}
+use Rattle.p_groups.specs.PGroups.{PGroup, largest_residue, group}
 use Rattle.group_algebra.specs.Coordinates.{layer_coordinates}
 use Rattle.group_algebra.specs.Coordinates as coordinates
 use Rattle.graded_algebra.specs.Vectors.{Vector, residue, unit}
-use Rattle.presentation_rows.specs.Values.{vector_of}
+use Rattle.presentation_rows.specs.Values.{vector}
 use Rattle.min_res.specs.Stages.{stage_rows, rank_of}
 use Rattle.chain_maps.specs.Lifts.{lift, product}
 use Rattle.chain_maps.proofs.ChainMaps.{pair-sums, sum-multiple}
@@ -25,12 +25,12 @@ module _ (G : PGroup) where
   q = largest_residue G
 
   -- the row of a product
-  pub product-vector : (d e : ℕ) (a c : List ℕ) → vector_of q (product_row G d e a c) ≡ multiply G d e (vector_of q a) (vector_of q c)
-  product-vector d e a c = (vector-claims q (rank_of G (d + e))).of_vector (multiply G d e (vector_of q a) (vector_of q c))
-      (product-claims q (group G) (layer_coordinates G) (stage_rows G) d e (vector_of q a) (vector_of q c)).past
+  pub product-vector : (d e : ℕ) (a c : List ℕ) → vector q (product_row G d e a c) ≡ multiply G d e (vector q a) (vector q c)
+  product-vector d e a c = (vector-claims q (rank_of G (d + e))).of_vector (multiply G d e (vector q a) (vector q c))
+      (product-claims q (group G) (layer_coordinates G) (stage_rows G) d e (vector q a) (vector q c)).past
 
   pub length-product : (d e : ℕ) (a c : List ℕ) → length (product_row G d e a c) ≡ rank_of G (d + e)
-  length-product d e a c = length-entries (rank_of G (d + e)) (multiply G d e (vector_of q a) (vector_of q c))
+  length-product d e a c = length-entries (rank_of G (d + e)) (multiply G d e (vector q a) (vector q c))
 
   one-at : (e : ℕ) (w : Vector q) (i : Below (rank_of G e)) → product q (group G) (layer_coordinates G) (stage_rows G) e (λ k. w k.0) 0 (λ k. unit q 0 k.0) i ≡ w i.0
   one-at e w i =

@@ -1,7 +1,7 @@
 -- Polynomials and relations of rows, one place or row after another.
 use Rattle.std.proofs.Common.{◌≡◌, ℕ, zero, suc, ◌+◌, ◌<◌, ◌≤◌, Bool, true, false, cond, List, [], ◌∷◌, ◌++◌, length, get_or, take, add-one, arith, ap, ap₂, sym, ◌∙◌, refl}
 use Rattle.std.proofs.lemmas.List.{take_more, take_all, append-nil}
-use Rattle.linear_algebra.specs.Rows.{entry, row, pivot, IsRow}
+use Rattle.linear_algebra.specs.Rows.{entry, row, pivot, IsRow, is_pivot}
 use Rattle.linear_algebra.proofs.Congruences.{congruent_eq}
 use Rattle.graded_polynomials.specs.Monomials.{IsMonomials, same}
 use Rattle.graded_polynomials.specs.Polynomials.{Polynomial, IsSame, coefficient}
@@ -10,7 +10,7 @@ use Rattle.graded_polynomials.proofs.Terms.{coefficient-append, same-refl}
 use Rattle.gc_poly.specs.Generators.{Generators, greatest}
 use Rattle.gc_poly.specs.Polynomials.{IsSumOf}
 use Rattle.gc_poly.proofs.SumLemmas.{more-sum, same-sum}
-use Rattle.presentation_rows.specs.Pivots.{is_pivot, new_relations}
+use Rattle.presentation_rows.specs.Pivots.{new_relations}
 use Rattle.presentation_rows.specs.RowPolynomials.{polynomial_of}
 use Rattle.presentation_rows.proofs.RowTerms.{polynomial-of-row}
 

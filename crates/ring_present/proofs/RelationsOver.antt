@@ -2,7 +2,7 @@
 use Rattle.std.proofs.Common.{◌≡◌, ℕ, ◌-◌, List, [], ◌∷◌, map, ap, sym, refl}
 use Rattle.std.specs.Prelude.{slice_index_or, All}
 use mathlib.Core.Path.{subst}
-use Rattle.group_algebra.specs.PGroups.{PGroup, largest_residue}
+use Rattle.p_groups.specs.PGroups.{PGroup, largest_residue}
 use Rattle.graded_polynomials.specs.Polynomials.{Polynomial, IsPolynomial}
 use Rattle.graded_algebra.specs.Algebras.{degrees}
 use Rattle.graded_algebra.specs.Vectors.{Vector}

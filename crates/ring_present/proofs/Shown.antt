@@ -2,8 +2,8 @@
 use Rattle.std.proofs.Common.{◌≡◌, ℕ, zero, suc, ◌-◌, ◌<◌, ◌≤◌, List, [], ◌∷◌, length, map, arith, ap, sym, ◌∙◌, refl}
 use Rattle.std.specs.Prelude.{slice_index_or, Option, Some, None}
 use mathlib.Core.Path.{subst}
-use Rattle.group_algebra.specs.PGroups.{PGroup, largest_residue}
-use Rattle.group_algebra.specs.Coordinates.{field, residues}
+use Rattle.p_groups.specs.PGroups.{PGroup, largest_residue}
+use Rattle.p_groups.proofs.Fields.{field, residues}
 use Rattle.linear_algebra.specs.Rows.{entry, row, IsRow, IsCombination}
 use Rattle.graded_polynomials.specs.Monomials.{IsMonomials}
 use Rattle.graded_polynomials.specs.Polynomials.{Polynomial}
@@ -11,7 +11,7 @@ use Rattle.graded_algebra.specs.Algebras.{degrees, evaluate}
 use Rattle.graded_algebra.specs.Presentations.{IsNormalForm}
 use Rattle.gc_poly.specs.Generators.{Generators, greatest}
 use Rattle.presentation_rows.specs.RowPolynomials.{polynomial_of}
-use Rattle.presentation_rows.specs.Values.{vector_of, AreValues}
+use Rattle.presentation_rows.specs.Values.{vector, AreValues}
 use Rattle.presentation_rows.proofs.NormalFormRows.{normal-form-of, preimage-of-combination}
 use Rattle.min_res.specs.Stages.{rank_of}
 use Rattle.chain_lift.specs.Values.{LiftValue}
@@ -119,8 +119,8 @@ module _ (R : RingValue) (group : Option PGroup) (gens : Generators) (lifts : Li
     modulus-seen = degree.standard_prime ∙ residues G ∙ sym (seen.prime_is ∙ ring.prime)
 
     pub value-seen : (i : ℕ) (r : List ℕ) → i < length (standard_of R d) → r ≡ row at.standard.values.rows i
-        → vector_of q r ≡ evaluate (cohomology G) (generators_of q R.generators) (slice_index_or (standard_of R d) i [])
-    value-seen i r l e = ap (vector_of q) e ∙ values.each i (let c = count-seen in let v = values.count in omega (arith, l, c, v))
+        → vector q r ≡ evaluate (cohomology G) (generators_of q R.generators) (slice_index_or (standard_of R d) i [])
+    value-seen i r l e = ap (vector q) e ∙ values.each i (let c = count-seen in let v = values.count in omega (arith, l, c, v))
         ∙ ap (λ ms. evaluate (cohomology G) (generators_of q R.generators) (slice_index_or ms i [])) standard-is
 
     -- normal forms
@@ -141,10 +141,10 @@ module _ (R : RingValue) (group : Option PGroup) (gens : Generators) (lifts : Li
 
     pub form-seen : (w u : List ℕ) → IsRow at.preimages.p (rank_of G d) w → IsRow at.preimages.p at.preimages.width u
         → IsCombination at.preimages.p (entry w) at.preimages.rows (entry u)
-        → IsNormalForm q (cohomology G) (generators_of q R.generators) d (vector_of q w) (polynomial_of at.all.monomials u)
+        → IsNormalForm q (cohomology G) (generators_of q R.generators) d (vector q w) (polynomial_of at.all.monomials u)
     form-seen w u W U C =
-        subst (λ k. IsNormalForm q (cohomology G) (generators_of q R.generators) k (vector_of q w) (polynomial_of at.all.monomials u)) (sym step)
-        (subst (λ gs. IsNormalForm q (cohomology G) gs (suc (d - 1)) (vector_of q w) (polynomial_of at.all.monomials u)) classes-are
+        subst (λ k. IsNormalForm q (cohomology G) (generators_of q R.generators) k (vector q w) (polynomial_of at.all.monomials u)) (sym step)
+        (subst (λ gs. IsNormalForm q (cohomology G) gs (suc (d - 1)) (vector q w) (polynomial_of at.all.monomials u)) classes-are
         (normal-form-of q (suc (d - 1)) (multiply G) (classes G lifts) at.all.monomials at.all.values.rows degree.kernel (field G).above_one degree.all.monomials degree.all.values degree.kernel_is w u
         (preimage-of-combination (field G).above_one degree.basis_is degree.preimages degree.kernel_is w u
         (subst (λ n. IsRow (suc q) n w) (ap (rank_of G) step) (subst (λ p. IsRow p (rank_of G d) w) degree.preimages_prime W))

@@ -8,8 +8,8 @@ use Rattle.graded_polynomials.specs.Monomials.{IsMonomial, IsMonomials, IsGreate
 use Rattle.graded_algebra.specs.Algebras.{Generator, degrees, evaluate}
 use Rattle.graded_algebra.specs.Presentations.{IsStandard}
 use Rattle.graded_algebra.specs.Vectors.{Vector, vectors}
-use Rattle.presentation_rows.specs.Values.{vector_of, AreValues}
-use Rattle.presentation_rows.specs.Pivots.{IsPivot, is_pivot}
+use Rattle.presentation_rows.specs.Values.{vector, AreValues}
+use Rattle.linear_algebra.specs.Rows.{IsPivot, is_pivot}
 use Rattle.presentation_rows.proofs.PivotTests.{none-if-not-found, pivot-if-found}
 use Rattle.presentation_rows.proofs.KernelLeads.{standard-pivots}
 use Rattle.ring_present.specs.Standard.{AreStandard, without_pivots}
@@ -111,5 +111,5 @@ standard-left q d mul gs ms values kernel one M V K = record {
 pub values-left : (q : ℕ) (mul : ℕ → ℕ → Vector q → Vector q → Vector q) (gs : List (Generator (Vector q))) (ms values kernel : List (List ℕ))
     → AreValues q (vectors q mul) gs ms values → AreValues q (vectors q mul) gs (without_pivots kernel 0 ms) (without_pivots kernel 0 values)
 values-left q mul gs ms values kernel V =
-    let p = left-pairs (λ m r. vector_of q r ≡ evaluate (vectors q mul) gs m) kernel 0 ms values V.count V.each in
+    let p = left-pairs (λ m r. vector q r ≡ evaluate (vectors q mul) gs m) kernel 0 ms values V.count V.each in
     record { count = p.0; each = p.1 }

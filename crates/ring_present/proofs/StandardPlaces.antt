@@ -5,7 +5,7 @@ use Rattle.std.specs.List.{AllByRecursion as Each}
 use Rattle.std.proofs.lemmas.List.{get_or-take, length-take}
 use Rattle.std.proofs.lemmas.List.Elements.{All-from_recursion, All-from_get_or, recursion_from_All}
 use Rattle.graded_polynomials.specs.Monomials.{IsGreater}
-use Rattle.presentation_rows.specs.Pivots.{is_pivot}
+use Rattle.linear_algebra.specs.Rows.{is_pivot}
 use Rattle.fp_rows.specs.Values.{MatrixValue}
 use Rattle.ring_present.specs.Standard.{without_pivots}
 

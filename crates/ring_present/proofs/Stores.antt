@@ -5,12 +5,12 @@ use Rattle.std.proofs.lemmas.Bool.{cases_lt}
 use Rattle.std.proofs.lemmas.List.{get_or_append_left, get_or_push, length_push}
 use Rattle.std.proofs.lemmas.List.Elements.{All-append, All-weaker}
 use mathlib.Core.Path.{subst}
-use Rattle.group_algebra.specs.PGroups.{PGroup, largest_residue}
+use Rattle.p_groups.specs.PGroups.{PGroup, largest_residue}
 use Rattle.graded_polynomials.specs.Monomials.{IsMonomials}
 use Rattle.graded_polynomials.specs.Polynomials.{Polynomial}
 use Rattle.graded_algebra.specs.Algebras.{degrees}
 use Rattle.gc_poly.specs.Generators.{Generators}
-use Rattle.presentation_rows.specs.Values.{vector_of, AreValues}
+use Rattle.presentation_rows.specs.Values.{vector, AreValues}
 use Rattle.chain_lift.specs.Values.{LiftValue}
 use Rattle.ring_present.specs.Rings.{cohomology, IsPresentation}
 use Rattle.ring_present.specs.Degrees.{classes, degrees_of, lifted, kept, IsLiftBelow, AreAll, IsDegree, IsLower}
@@ -40,7 +40,7 @@ degrees-kept (x ∷ xs) (y ∷ ys) e =
     ap (λ (l : LiftValue). l.degree ∷ degrees_of xs) k ∙ ap (λ ds. y.degree ∷ ds) (degrees-kept xs ys t)
 
 pub classes-kept : (G : PGroup) (xs ys : List LiftValue) → map kept xs ≡ map kept ys → classes G xs ≡ classes G ys
-classes-kept G xs ys e = ap (map (λ g. record { degree = g.degree; class = vector_of (largest_residue G) g.class })) (lifted-kept xs ys e)
+classes-kept G xs ys e = ap (map (λ g. record { degree = g.degree; class = vector (largest_residue G) g.class })) (lifted-kept xs ys e)
 
 all-kept : (G : PGroup) (d : ℕ) (xs ys : List LiftValue) (v : Valued) → classes G ys ≡ classes G xs → AreAll G d ys v → AreAll G d xs v
 all-kept G d xs ys v e A = record {

@@ -1,6 +1,6 @@
 -- What the next degree adds to a ring.
 use Rattle.std.specs.Prelude.{◌≡◌, ℕ, suc, List, ◌++◌, All}
-use Rattle.group_algebra.specs.PGroups.{PGroup, prime_of}
+use Rattle.p_groups.specs.PGroups.{PGroup, prime_of}
 use Rattle.graded_polynomials.specs.Polynomials.{Polynomial}
 use Rattle.chain_lift.specs.Values.{LiftValue}
 use Rattle.ring_present.specs.Rings.{IsPresentation}

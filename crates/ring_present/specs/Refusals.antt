@@ -1,6 +1,6 @@
 -- When a degree is not added.
 use Rattle.std.specs.Prelude.{◌≡◌, ℕ}
-use Rattle.group_algebra.specs.PGroups.{PGroup}
+use Rattle.p_groups.specs.PGroups.{PGroup}
 use Rattle.ring_present.specs.Rings.{IsTooMany}
 use Rattle.ring_present.specs.declared.fault.RingFault.{RingFault}
 use Rattle.ring_present.specs.declared.fault.RingFault.TheVariants.{TooManyMonomials, Memory}

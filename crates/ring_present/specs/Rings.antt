@@ -1,7 +1,7 @@
 -- Generators and relations of the cohomology ring of a p-group through a degree (Carlson, Townsley, Valeri-Elizondo and Zhang, "Cohomology Rings of
 -- Finite Groups"). Classes are vectors over the dual bases of the minimal resolution, and products are those by chain lifts.
 use Rattle.std.specs.Prelude.{◌≡◌, ℕ, ◌-◌, ◌<◌, min, List, length}
-use Rattle.group_algebra.specs.PGroups.{PGroup, largest_residue}
+use Rattle.p_groups.specs.PGroups.{PGroup, largest_residue}
 use Rattle.min_res.specs.Stages.{rank_of}
 use Rattle.graded_polynomials.specs.Monomials.{IsMonomials}
 use Rattle.graded_polynomials.specs.Polynomials.{Polynomial}

@@ -3,7 +3,7 @@ use Rattle.std.specs.Prelude.{◌≡◌, ℕ, suc, ◌<◌, cond, List, [], ◌�
 use Rattle.graded_polynomials.specs.Monomials.{IsMonomial, IsGreater}
 use Rattle.graded_algebra.specs.Algebras.{Algebra, Generator, degrees}
 use Rattle.graded_algebra.specs.Presentations.{IsStandard}
-use Rattle.presentation_rows.specs.Pivots.{is_pivot}
+use Rattle.linear_algebra.specs.Rows.{is_pivot}
 
 -- ms are all standard monomials of degree d, in descending order
 pub record AreStandard (q : ℕ) {V : Type 0} (A : Algebra V) (gs : List (Generator V)) (d : ℕ) (ms : List (List ℕ)) : Type 0 where

@@ -1,6 +1,6 @@
 -- What a ring keeps.
 use Rattle.std.specs.Prelude.{◌≡◌, ◌≤◌, List, [], length, Option, MatchOption}
-use Rattle.group_algebra.specs.PGroups.{PGroup, prime_of}
+use Rattle.p_groups.specs.PGroups.{PGroup, prime_of}
 use Rattle.graded_polynomials.specs.Polynomials.{Polynomial}
 use Rattle.gc_poly.specs.Generators.{Generators}
 use Rattle.chain_lift.specs.Values.{LiftValue}

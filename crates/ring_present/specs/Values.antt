@@ -4,9 +4,9 @@ use Rattle.std.specs.Coded.{Coded, code_by, coded×, coded_ℕ, coded_list, code
 use Rattle.graded_polynomials.specs.Polynomials.{Polynomial, Term}
 use Rattle.graded_algebra.specs.Algebras.{Generator}
 use Rattle.graded_algebra.specs.Vectors.{Vector}
-use Rattle.group_algebra.specs.PGroups.{PGroup}
-use Rattle.group_algebra.specs.SameTables.{coded_p_group}
-use Rattle.presentation_rows.specs.Values.{vector_of}
+use Rattle.p_groups.specs.PGroups.{PGroup}
+use Rattle.group_algebra.specs.Coded.{coded_p_group}
+use Rattle.presentation_rows.specs.Values.{vector}
 
 -- a generator: its degree, and the row of its class
 pub record GeneratorValue : Type 0 where
@@ -49,7 +49,7 @@ coded_ring =
 
 -- the generators with their classes as vectors
 abbrev pub generators_of : (q : ℕ) → List GeneratorValue → List (Generator (Vector q))
-generators_of q gs = map (λ g. record { degree = g.degree; class = vector_of q g.class }) gs
+generators_of q gs = map (λ g. record { degree = g.degree; class = vector q g.class }) gs
 
 -- the standard monomials of degree d
 abbrev pub standard_of : RingValue → ℕ → List (List ℕ)

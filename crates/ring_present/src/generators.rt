@@ -10,7 +10,7 @@ ghost use Rattle.graded_polynomials.specs.Texts.{power};
 ghost use Rattle.presentation_rows.specs.Values.{AreUnitRows};
 ghost use Rattle.min_res.specs.Stages.{rank_of};
 ghost use Rattle.ring_present.specs.Degrees.{AreAll, IsLower, degrees_of, new_lift, kept};
-ghost use Rattle.group_algebra.specs.PGroups.{prime_of};
+ghost use Rattle.p_groups.specs.PGroups.{prime_of};
 
 use crate::degree::Valued;
 use crate::values::Lower;

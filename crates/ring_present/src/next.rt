@@ -4,7 +4,7 @@ ghost use Rattle.std.specs.Prelude.{◌≡◌, suc, ◌+◌, ◌<◌, ◌≤◌,
 ghost use Rattle.linear_algebra.specs.Rows.{AreInSpan};
 ghost use Rattle.linear_algebra.specs.Kernels.{IsKernelOf};
 ghost use Rattle.linear_algebra.specs.Choices.{ArePreimages};
-ghost use Rattle.group_algebra.specs.PGroups.{largest_residue, prime_of};
+ghost use Rattle.p_groups.specs.PGroups.{largest_residue, prime_of};
 ghost use Rattle.graded_algebra.specs.Presentations.{IsSpanGenerators};
 ghost use Rattle.presentation_rows.specs.Values.{AreUnitRows};
 ghost use Rattle.min_res.specs.Stages.{rank_of};

@@ -7,7 +7,7 @@ ghost use Rattle.ring_present.specs.Degrees.{degrees_of, kept, lifted};
 ghost use Rattle.ring_present.specs.Prefixes.{IsPrefix};
 ghost use Rattle.ring_present.specs.Refusals.{IsRefusal};
 ghost use Rattle.ring_present.specs.Stores.{IsRingOf, IsRingStore};
-ghost use Rattle.group_algebra.specs.PGroups.{prime_of};
+ghost use Rattle.p_groups.specs.PGroups.{prime_of};
 
 use crate::degree::Degree;
 use crate::fault::RingFault;

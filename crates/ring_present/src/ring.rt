@@ -3,11 +3,11 @@
 ghost use Rattle.std.specs.Prelude.{◌≡◌, ℕ, suc, ◌<◌, ◌≤◌, [], List, length, map, min, slice_get, slice_index_or};
 ghost use Rattle.std.specs.Prelude.{OnOk, OnErr, IfOk, IfErr, IfSome, Some, None};
 ghost use Rattle.group_table.specs.Prime.{prime_value};
-ghost use Rattle.group_algebra.specs.PGroups.{PGroup, largest_residue, prime_of};
+ghost use Rattle.p_groups.specs.PGroups.{PGroup, largest_residue, prime_of};
 ghost use Rattle.graded_polynomials.specs.Monomials.{IsMonomials};
 ghost use Rattle.graded_algebra.specs.Algebras.{evaluate};
 ghost use Rattle.graded_algebra.specs.Presentations.{IsNormalForm};
-ghost use Rattle.presentation_rows.specs.Values.{vector_of};
+ghost use Rattle.presentation_rows.specs.Values.{vector};
 ghost use Rattle.fp_rows.specs.Refs.{entries_of, modulus_of};
 ghost use Rattle.min_res.specs.Stages.{rank_of};
 ghost use Rattle.ring_present.specs.Rings.{cohomology, IsPresentation};
@@ -160,7 +160,7 @@ impl Ring {
         requires within { i < length (standard_of self.now d) }
         ensures modulus { modulus_of result ≡ self.now.prime }
         ensures length { (G : PGroup) → self.now.group ≡ Some G → length (entries_of result) ≡ rank_of G d }
-        ensures value { (G : PGroup) → self.now.group ≡ Some G → vector_of (largest_residue G) (entries_of result)
+        ensures value { (G : PGroup) → self.now.group ≡ Some G → vector (largest_residue G) (entries_of result)
             ≡ evaluate (cohomology G) (generators_of (largest_residue G) self.now.generators) (slice_index_or (standard_of self.now d) i []) }
     {
         self.known.degrees[d as usize - 1].standard.values.row(i)
@@ -175,7 +175,7 @@ impl Ring {
         ensures degree { IfOk result (λ f. f.degree ≡ d) }
         ensures form { IfOk result (λ f. (G : PGroup) → self.now.group ≡ Some G
             → IsNormalForm (largest_residue G) (cohomology G) (generators_of (largest_residue G) self.now.generators) d
-            (vector_of (largest_residue G) (entries_of class.entry)) f.terms) }
+            (vector (largest_residue G) (entries_of class.entry)) f.terms) }
     {
         let degree = &self.known.degrees[d as usize - 1];
         let row = combination(alloc, &degree.preimages, class)?;

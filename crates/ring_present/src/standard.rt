@@ -1,7 +1,7 @@
 //! Standard monomials.
 
 ghost use Rattle.std.specs.Prelude.{◌≡◌, ◌<◌, length, IfOk};
-ghost use Rattle.presentation_rows.specs.Pivots.{is_pivot};
+ghost use Rattle.linear_algebra.specs.Rows.{is_pivot};
 ghost use Rattle.ring_present.specs.Standard.{without_pivots};
 
 use crate::degree::Valued;

@@ -4,11 +4,11 @@ ghost use Rattle.std.specs.Prelude.{◌≡◌, ℕ, suc, ◌+◌, ◌-◌, ◌<�
 ghost use Rattle.linear_algebra.specs.Rows.{row};
 ghost use Rattle.fp_rows.specs.Refs.{entries_of, modulus_of};
 ghost use Rattle.group_table.specs.Prime.{prime_value};
-ghost use Rattle.group_algebra.specs.PGroups.{largest_residue, prime_of};
+ghost use Rattle.p_groups.specs.PGroups.{largest_residue, prime_of};
 ghost use Rattle.graded_polynomials.specs.Monomials.{IsMonomial, IsMonomials, IsTrimmed};
 ghost use Rattle.graded_algebra.specs.Algebras.{degrees, evaluate};
 ghost use Rattle.presentation_rows.specs.Factors.{IsLastFactor};
-ghost use Rattle.presentation_rows.specs.Values.{vector_of, AreValues};
+ghost use Rattle.presentation_rows.specs.Values.{vector, AreValues};
 ghost use Rattle.min_res.specs.Stages.{rank_of};
 ghost use Rattle.ring_present.specs.Rings.{cohomology};
 ghost use Rattle.ring_present.specs.Degrees.{classes, IsLower};
@@ -78,7 +78,7 @@ impl<'a> Lower<'a> {
         requires monomial { IsMonomial (largest_residue self.now.group.now) (degrees (classes self.now.group.now self.now.lifts.now)) d m.now }
         ensures modulus { modulus_of result ≡ prime_of self.now.group.now }
         ensures length { length (entries_of result) ≡ rank_of self.now.group.now d }
-        ensures value { vector_of (largest_residue self.now.group.now) (entries_of result)
+        ensures value { vector (largest_residue self.now.group.now) (entries_of result)
             ≡ evaluate (cohomology self.now.group.now) (classes self.now.group.now self.now.lifts.now) m.now }
     {
         if d == 0 {
@@ -106,7 +106,7 @@ impl<'a> Lower<'a> {
         requires out_length { length out.old.entries ≡ rank_of self.now.group.now d }
         ensures prime { out.new.p ≡ out.old.p }
         ensures length { length out.new.entries ≡ length out.old.entries }
-        ensures value { OnOk result (vector_of (largest_residue self.now.group.now) out.new.entries
+        ensures value { OnOk result (vector (largest_residue self.now.group.now) out.new.entries
             ≡ evaluate (cohomology self.now.group.now) (classes self.now.group.now self.now.lifts.now) m.now) }
     {
         let rest = quotient(alloc, m)?;

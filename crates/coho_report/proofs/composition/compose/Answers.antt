@@ -1,6 +1,6 @@
 use Rattle.std.proofs.Common.{◌≡◌, ◌∙◌, ◌+◌, suc, sym, ap, subst, arith}
 use Rattle.std.proofs.lemmas.Result.{err_from_is_err_and}
-use Rattle.group_algebra.specs.PGroups.{PGroup, largest_residue}
+use Rattle.p_groups.specs.PGroups.{PGroup, largest_residue}
 use Rattle.group_table.specs.Tables.{order}
 use Rattle.ring_present.specs.Values.{generators_of}
 use Rattle.coho_report.specs.Reports.{ranks_below}

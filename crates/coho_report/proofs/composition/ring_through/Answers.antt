@@ -1,6 +1,6 @@
 use Rattle.std.proofs.Common.{◌≡◌, ◌+◌, ◌<◌, suc, map, refl, subst, sym, arith}
 use Rattle.std.specs.Prelude.{IfSome}
-use Rattle.group_algebra.specs.PGroups.{largest_residue}
+use Rattle.p_groups.specs.PGroups.{largest_residue}
 use Rattle.graded_polynomials.specs.Monomials.{IsMonomials}
 use Rattle.ring_present.specs.Rings.{IsPresentation}
 use Rattle.ring_present.specs.Values.{generators_of}

@@ -4,7 +4,7 @@ use mathlib.Core.Path.{subst}
 use Rattle.group_table.specs.Tables.{order}
 use Rattle.linear_algebra.specs.Rows.{entry, IsRow}
 use Rattle.group_modules.specs.Field.{residue}
-use Rattle.group_algebra.specs.PGroups.{PGroup, largest_residue}
+use Rattle.p_groups.specs.PGroups.{PGroup, largest_residue}
 use Rattle.group_algebra.specs.Coordinates.{layer_coordinates, free_module, table_of, AreCoefficients}
 use Rattle.group_algebra.specs.Inverse.{AreLayersOf, AreCoefficientsOf}
 use Rattle.group_algebra.proofs.Members.{residue-row, same-coefficients}

@@ -1,7 +1,7 @@
 use Rattle.std.proofs.Common.{◌≡◌, ◌≤◌, ◌++◌}
 use Rattle.group_table.specs.Tables.{order}
 use Rattle.radical_layers.specs.Moves.{moves_by, moves}
-use Rattle.group_algebra.specs.PGroups.{group}
+use Rattle.p_groups.specs.PGroups.{group}
 use Rattle.group_algebra.specs.Coordinates.{free_module, sum_coordinates}
 use Rattle.group_algebra.proofs.Descending.{down}
 use Rattle.group_algebra.proofs.powers.all_moves.Given as goal

@@ -5,7 +5,7 @@ use Rattle.group_table.specs.Tables.{order}
 use Rattle.linear_algebra.specs.Rows.{row}
 use Rattle.radical_layers.specs.Moves.{move_row}
 use Rattle.fp_rows.specs.Refs.{entries_of}
-use Rattle.group_algebra.specs.PGroups.{group as group_of}
+use Rattle.p_groups.specs.PGroups.{group as group_of}
 use Rattle.group_algebra.specs.Coordinates.{free_module, sum_coordinates, AreCoefficients}
 use Rattle.group_algebra.specs.Coefficients.{AreSumCoordinates}
 use Rattle.group_algebra.proofs.ListLemmas.{pushed-image}

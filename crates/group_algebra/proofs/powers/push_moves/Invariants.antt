@@ -2,7 +2,7 @@ use Rattle.std.proofs.Common.{◌≡◌, ◌<◌, ◌++◌, length, map, take}
 use Rattle.group_table.specs.Prime.{prime_value}
 use Rattle.group_table.specs.Tables.{order}
 use Rattle.radical_layers.specs.Moves.{move_row}
-use Rattle.group_algebra.specs.PGroups.{group}
+use Rattle.p_groups.specs.PGroups.{group}
 use Rattle.group_algebra.specs.Coordinates.{free_module, sum_coordinates}
 use Rattle.group_algebra.proofs.powers.push_moves.Given as goal
 

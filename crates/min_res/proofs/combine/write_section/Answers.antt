@@ -4,8 +4,8 @@ use Rattle.fp_rows.specs.Refs.{entries_of}
 use Rattle.fp_rows.specs.Values.{RowValue}
 use Rattle.fp_rows.proofs.Primes.{prime_above_one}
 use Rattle.linear_algebra.specs.Rows.{entry, row, pivot}
-use Rattle.resolution_stages.specs.Chain.{IsPartialSum}
-use Rattle.resolution_stages.proofs.SectionSum.{partial-end}
+use Rattle.linear_algebra.proofs.CombinationRows.{IsPartialCombination}
+use Rattle.linear_algebra.proofs.CombinationRows.{partial-end}
 use Rattle.min_res.proofs.PartialSums.{add-step}
 use Rattle.min_res.proofs.combine.write_section.Goals as goal
 
@@ -19,5 +19,5 @@ loop-k-preserved c = record {
 
 pub returns-clause-sum : goal.returns-clause-sum
 returns-clause-sum c = partial-end (λ k. entry (entries_of c.args.v) (pivot (row c.args.list.now.rows k))) _ _ (omega (arith, prime_above_one c.args.v.prime, c.requires.value_prime)) c.rows-k-end.ensures.matrix
-    (subst (λ k. IsPartialSum c.args.rows.now.p c.args.rows.now.width (λ k. entry (entries_of c.args.v) (pivot (row c.args.list.now.rows k))) c.args.rows.now.rows k c.loop-k.out.entries)
+    (subst (λ k. IsPartialCombination c.args.rows.now.p c.args.rows.now.width (λ k. entry (entries_of c.args.v) (pivot (row c.args.list.now.rows k))) c.args.rows.now.rows k c.loop-k.out.entries)
     (let z : c.loop-k.k ≡ length c.args.rows.now.rows = omega (arith, c.loop-k-test.false, c.rows-k-end.ensures.count, c.loop-k.auto.k-end) in z) c.loop-k.invariant.sum)

@@ -1,5 +1,5 @@
 use Rattle.std.proofs.Common.{◌≡◌, ◌+◌, arith, ap, ◌∙◌, refl}
-use Rattle.group_algebra.specs.PGroups.{PGroup}
+use Rattle.p_groups.specs.PGroups.{PGroup}
 use Rattle.group_table.specs.Tables.{order}
 use Rattle.linear_algebra.specs.Kernels.{unit_row}
 use Rattle.min_res.proofs.FirstKernel.{first-value}

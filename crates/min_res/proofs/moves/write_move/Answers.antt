@@ -1,7 +1,8 @@
 use Rattle.std.proofs.Common.{◌-◌, List, ℕ, ap, sym, ◌∙◌, length}
-use Rattle.group_algebra.specs.PGroups.{PGroup}
+use Rattle.p_groups.specs.PGroups.{PGroup}
 use Rattle.group_table.specs.Tables.{order}
-use Rattle.group_modules.specs.Field.{Below, below-path}
+use Rattle.group_modules.specs.Field.{Below}
+use Rattle.linear_algebra.proofs.Residues.{below-path}
 use Rattle.linear_algebra.proofs.RowLemmas.{length-add_multiple}
 use Rattle.fp_rows.specs.Refs.{entries_of}
 use Rattle.fp_rows.specs.Values.{RowValue}

@@ -6,7 +6,7 @@ use Rattle.linear_algebra.specs.Choices.{ArePreimages}
 use Rattle.linear_algebra.specs.Kernels.{IsKernelOf}
 use Rattle.resolution_stages.specs.Computed.{IsMatrixOf}
 use Rattle.fp_rows.specs.Values.{MatrixValue}
-use Rattle.group_algebra.specs.PGroups.{PGroup}
+use Rattle.p_groups.specs.PGroups.{PGroup}
 use Rattle.group_algebra.specs.Coordinates.{layer_coordinates}
 use Rattle.min_res.specs.RowMaps.{linear_map}
 use Rattle.min_res.specs.Defined.{kernel_value}

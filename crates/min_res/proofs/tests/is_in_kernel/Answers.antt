@@ -2,7 +2,7 @@ use Rattle.std.proofs.Common.{◌≡◌, length, ap, sym, ◌∙◌}
 use mathlib.Core.Path.{subst}
 use Rattle.linear_algebra.specs.Rows.{entry, IsRow, IsInSpan}
 use Rattle.fp_rows.specs.Values.{MatrixValue}
-use Rattle.group_algebra.specs.PGroups.{PGroup}
+use Rattle.p_groups.specs.PGroups.{PGroup}
 use Rattle.min_res.specs.Values.{StageValue}
 use Rattle.min_res.proofs.SpanMembers.{in-kernel-list}
 use Rattle.min_res.proofs.tests.is_in_kernel.Goals as goal

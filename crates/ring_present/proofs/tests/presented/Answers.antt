@@ -1,5 +1,5 @@
 use Rattle.std.proofs.Common.{refl, subst}
-use Rattle.group_algebra.specs.PGroups.{PGroup}
+use Rattle.p_groups.specs.PGroups.{PGroup}
 use Rattle.ring_present.proofs.RelationsOver.{relations-over}
 use Rattle.ring_present.proofs.tests.presented.Goals as goal
 

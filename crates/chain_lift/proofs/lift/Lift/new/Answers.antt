@@ -4,7 +4,7 @@ use mathlib.Core.Path.{subst}
 use Rattle.linear_algebra.specs.Rows.{entry, add_multiple}
 use Rattle.fp_rows.specs.Refs.{entries_of, modulus_of}
 use Rattle.fp_rows.specs.Values.{RowValue}
-use Rattle.group_algebra.specs.PGroups.{PGroup}
+use Rattle.p_groups.specs.PGroups.{PGroup}
 use Rattle.min_res.specs.Stages.{rank_of}
 use Rattle.chain_lift.specs.declared.level.Level.{Level}
 use Rattle.chain_lift.specs.Stores.{IsLevel}

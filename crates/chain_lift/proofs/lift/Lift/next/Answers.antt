@@ -2,7 +2,7 @@ use Rattle.std.proofs.Common.{◌≡◌, ◌+◌, ◌^◌, ◌<◌, ℕ, suc, ar
 use mathlib.Core.Path.{subst}
 use Rattle.linear_algebra.specs.Rows.{row}
 use Rattle.fp_rows.specs.Values.{MatrixValue}
-use Rattle.group_algebra.specs.PGroups.{PGroup}
+use Rattle.p_groups.specs.PGroups.{PGroup}
 use Rattle.min_res.specs.Defined.{IsStageAt}
 use Rattle.min_res.specs.Values.{StageValue}
 use Rattle.chain_lift.specs.RowMaps.{FitTogether, map_row, image_row, section_of}

@@ -4,8 +4,8 @@ use mathlib.Core.Path.{subst}
 use Rattle.group_table.specs.Tables.{order}
 use Rattle.linear_algebra.specs.Rows.{entry, IsRow}
 use Rattle.fp_rows.specs.Refs.{entries_of}
-use Rattle.group_algebra.specs.PGroups.{largest_residue}
-use Rattle.group_algebra.specs.Coordinates.{residues}
+use Rattle.p_groups.specs.PGroups.{largest_residue}
+use Rattle.p_groups.proofs.Fields.{residues}
 use Rattle.min_res.specs.Stages.{rank_of}
 use Rattle.chain_maps.proofs.Vectors.{ahead-is}
 use Rattle.chain_lift.specs.Stores.{IsLiftStore}

@@ -4,7 +4,7 @@ use Rattle.group_table.specs.Tables.{order}
 use Rattle.linear_algebra.specs.Rows.{entry, IsRow}
 use Rattle.radical_layers.specs.Placing.{size_of}
 use Rattle.fp_rows.specs.Refs.{entries_of}
-use Rattle.group_algebra.specs.PGroups.{PGroup}
+use Rattle.p_groups.specs.PGroups.{PGroup}
 use Rattle.group_algebra.specs.Coordinates.{free_module, row_of, table_of, product_with}
 use Rattle.group_algebra.specs.Gains.{stepped, GainsImage}
 use Rattle.group_algebra.proofs.LayerRows.{size-is}

@@ -1,5 +1,5 @@
 use Rattle.std.proofs.Common.{ap, ◌∙◌}
-use Rattle.group_algebra.specs.SameTables.{same_table}
+use Rattle.p_groups.proofs.SameTables.{same_table}
 use Rattle.group_algebra.proofs.p_group.PGroup.try_clone.Goals as goal
 
 pub returns : goal.returns

@@ -1,6 +1,6 @@
 use Rattle.std.proofs.Common.{◌≡◌, ◌-◌, suc, length, arith, ap, sym, ◌∙◌}
 use mathlib.Core.Path.{subst}
-use Rattle.group_algebra.specs.PGroups.{PGroup}
+use Rattle.p_groups.specs.PGroups.{PGroup}
 use Rattle.min_res.specs.Values.{ResolutionValue, StageValue}
 use Rattle.min_res.specs.Defined.{IsStageAt}
 use Rattle.min_res.specs.Refusals.{IsRefusal}

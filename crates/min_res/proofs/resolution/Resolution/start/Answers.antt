@@ -1,5 +1,5 @@
 use Rattle.std.proofs.Common.{ap, ◌∙◌}
-use Rattle.group_algebra.specs.PGroups.{PGroup}
+use Rattle.p_groups.specs.PGroups.{PGroup}
 use Rattle.min_res.proofs.StageLists.{started}
 use Rattle.min_res.proofs.resolution.Resolution.start.Goals as goal
 

@@ -1,7 +1,7 @@
 use Rattle.std.proofs.Common.{◌≡◌, ℕ, suc, ◌+◌, ◌-◌, List, ◌++◌, [], ◌∷◌, length, map, arith, ap, ap₂, sym, ◌∙◌, add-one}
 use Rattle.std.proofs.lemmas.List.{with_items_is, length_push}
 use mathlib.Core.Path.{subst}
-use Rattle.group_algebra.specs.PGroups.{PGroup}
+use Rattle.p_groups.specs.PGroups.{PGroup}
 use Rattle.gc_poly.specs.Generators.{Generators, greatest}
 use Rattle.graded_polynomials.specs.Monomials.{IsMonomials}
 use Rattle.graded_polynomials.specs.Polynomials.{Polynomial}

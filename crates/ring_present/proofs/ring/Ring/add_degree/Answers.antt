@@ -3,7 +3,7 @@ use Rattle.std.specs.Prelude.{Option}
 use Rattle.std.proofs.lemmas.List.{map-append}
 use Rattle.std.proofs.lemmas.Result.{on_ok_weaker, IfErr-weaker}
 use mathlib.Core.Path.{subst}
-use Rattle.group_algebra.specs.PGroups.{PGroup}
+use Rattle.p_groups.specs.PGroups.{PGroup}
 use Rattle.graded_polynomials.specs.Monomials.{IsMonomials}
 use Rattle.graded_polynomials.specs.Polynomials.{Polynomial}
 use Rattle.gc_poly.specs.Generators.{Generators}

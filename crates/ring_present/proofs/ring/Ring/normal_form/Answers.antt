@@ -1,11 +1,11 @@
 use Rattle.std.proofs.Common.{◌≡◌, ◌<◌, List, length, arith, ap, sym, ◌∙◌}
 use mathlib.Core.Path.{subst}
-use Rattle.group_algebra.specs.PGroups.{largest_residue}
+use Rattle.p_groups.specs.PGroups.{largest_residue}
 use Rattle.linear_algebra.specs.Rows.{entry, IsRow, IsCombination}
 use Rattle.fp_rows.specs.Refs.{entries_of}
 use Rattle.graded_polynomials.specs.Polynomials.{Polynomial, Term}
 use Rattle.graded_algebra.specs.Presentations.{IsNormalForm}
-use Rattle.presentation_rows.specs.Values.{vector_of}
+use Rattle.presentation_rows.specs.Values.{vector}
 use Rattle.ring_present.specs.Rings.{cohomology}
 use Rattle.ring_present.specs.Values.{generators_of}
 use Rattle.ring_present.proofs.Shown.{seen-of, some-group, prime-seen, targets-seen, width-of-forms, monomials-seen, form-seen}
@@ -61,7 +61,7 @@ returns-clause-form c G known =
     let seen = seen-of c.args.self.now k.group k.gens k.lifts.items k.relations.items k.degrees.items c.self.view_is in
     let p : Rattle.fp_rows.specs.Refs.modulus_of c.args.class ≡ c.index-degree.result.now.preimages.p = c.requires.prime
     ∙ sym (prime-seen c.args.self.now k.group k.gens k.lifts.items k.relations.items k.degrees.items seen c.self.invariant c.args.d c.index-degree.result.now c.index-degree.ensures c.requires.from c.requires.to G known) in
-    subst (λ (f : List Term). IsNormalForm (largest_residue G) (cohomology G) (generators_of (largest_residue G) c.args.self.now.generators) c.args.d (vector_of (largest_residue G) (entries_of c.args.class)) f)
+    subst (λ (f : List Term). IsNormalForm (largest_residue G) (cohomology G) (generators_of (largest_residue G) c.args.self.now.generators) c.args.d (vector (largest_residue G) (entries_of c.args.class)) f)
     (sym (ap (λ (f : Polynomial). f.terms) c.in_ok-form.ensures))
     (form-seen c.args.self.now k.group k.gens k.lifts.items k.relations.items k.degrees.items seen c.self.invariant c.args.d c.index-degree.result.now c.index-degree.ensures c.requires.from c.requires.to G known
     (entries_of c.args.class) (entries_of c.view.result)

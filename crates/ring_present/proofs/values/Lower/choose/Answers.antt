@@ -1,7 +1,7 @@
 use Rattle.std.proofs.Common.{ℕ, suc, length, sym, ◌∙◌}
 use mathlib.Core.Path.{subst}
-use Rattle.group_algebra.specs.PGroups.{PGroup}
-use Rattle.group_algebra.specs.Coordinates.{residues}
+use Rattle.p_groups.specs.PGroups.{PGroup}
+use Rattle.p_groups.proofs.Fields.{residues}
 use Rattle.linear_algebra.specs.Rows.{IsEchelonOf, AreInSpan}
 use Rattle.linear_algebra.specs.Choices.{IsGreedy}
 use Rattle.min_res.specs.Stages.{rank_of}

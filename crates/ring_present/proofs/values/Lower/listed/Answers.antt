@@ -1,7 +1,7 @@
 use Rattle.std.proofs.Common.{◌≡◌, ℕ, ◌+◌, length, ap, sym, ◌∙◌, add-one}
 use mathlib.Core.Path.{subst}
-use Rattle.group_algebra.specs.PGroups.{PGroup, largest_residue}
-use Rattle.group_algebra.specs.Coordinates.{residues}
+use Rattle.p_groups.specs.PGroups.{PGroup, largest_residue}
+use Rattle.p_groups.proofs.Fields.{residues}
 use Rattle.graded_polynomials.specs.Monomials.{IsMonomials}
 use Rattle.graded_algebra.specs.Algebras.{degrees}
 use Rattle.presentation_rows.specs.Values.{AreValues}

@@ -1,8 +1,8 @@
 use Rattle.std.proofs.Common.{ℕ, suc, List, ◌++◌, length, ap, sym, ◌∙◌, refl, add-one}
 use Rattle.std.specs.Prelude.{All}
 use mathlib.Core.Path.{subst}
-use Rattle.group_algebra.specs.PGroups.{PGroup}
-use Rattle.group_algebra.specs.Coordinates.{residues}
+use Rattle.p_groups.specs.PGroups.{PGroup}
+use Rattle.p_groups.proofs.Fields.{residues}
 use Rattle.graded_polynomials.specs.Monomials.{IsMonomials}
 use Rattle.gc_poly.specs.Generators.{Generators, greatest}
 use Rattle.presentation_rows.specs.Values.{AreUnitRows}

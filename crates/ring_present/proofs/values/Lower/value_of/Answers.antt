@@ -1,7 +1,7 @@
 use Rattle.std.proofs.Common.{◌≡◌, suc, ◌-◌, arith, ap, sym, ◌∙◌}
 use mathlib.Core.Path.{subst}
-use Rattle.group_algebra.specs.PGroups.{PGroup, largest_residue}
-use Rattle.group_algebra.specs.Coordinates.{residues}
+use Rattle.p_groups.specs.PGroups.{PGroup, largest_residue}
+use Rattle.p_groups.proofs.Fields.{residues}
 use Rattle.fp_rows.specs.Refs.{entries_of}
 use Rattle.graded_polynomials.specs.Monomials.{IsMonomial}
 use Rattle.graded_algebra.specs.Algebras.{degrees}

@@ -3,12 +3,12 @@ use Rattle.std.specs.Prelude.{slice_index_or}
 use Rattle.std.proofs.lemmas.List.{length_push}
 use Rattle.std.proofs.lemmas.Option.{slice_get_within, get_or_from_slice_get}
 use mathlib.Core.Path.{subst}
-use Rattle.group_algebra.specs.PGroups.{PGroup, largest_residue}
+use Rattle.p_groups.specs.PGroups.{PGroup, largest_residue}
 use Rattle.fp_rows.specs.Values.{MatrixValue}
 use Rattle.fp_rows.specs.Refs.{entries_of}
 use Rattle.graded_polynomials.specs.Monomials.{IsMonomial}
 use Rattle.graded_algebra.specs.Algebras.{degrees, evaluate}
-use Rattle.presentation_rows.specs.Values.{vector_of}
+use Rattle.presentation_rows.specs.Values.{vector}
 use Rattle.ring_present.specs.Rings.{cohomology}
 use Rattle.ring_present.specs.Degrees.{classes}
 use Rattle.ring_present.proofs.Factors.{values-push}
@@ -32,7 +32,7 @@ loop-i-preserved c =
       value_length = c.in_ok-write_value.ensures.length ∙ c.loop-i.invariant.value_length;
       each = values-push (largest_residue G) (λ k. evaluate (cohomology G) (classes G c.args.self.now.lifts.now) (slice_index_or c.args.monomials.now k []))
           c.loop-i.values.rows c.push.new.self.rows (entries_of c.view.result) c.loop-i.i c.loop-i.invariant.count c.loop-i.invariant.each
-          (ap (vector_of (largest_residue G)) c.view.ensures.entries ∙ c.in_ok-write_value.ensures.value
+          (ap (vector (largest_residue G)) c.view.ensures.entries ∙ c.in_ok-write_value.ensures.value
           ∙ ap (evaluate (cohomology G) (classes G c.args.self.now.lifts.now)) (sym (get_or_from_slice_get c.args.monomials.now c.loop-i.i c.get.result.now [] c.get.ensures)))
           rows;
     }

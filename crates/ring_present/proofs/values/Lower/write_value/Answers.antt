@@ -1,6 +1,6 @@
 use Rattle.std.proofs.Common.{◌≡◌, ◌+◌, ◌-◌, ◌≤◌, length, arith, ap, sym, ◌∙◌}
 use mathlib.Core.Path.{subst}
-use Rattle.group_algebra.specs.PGroups.{PGroup, largest_residue}
+use Rattle.p_groups.specs.PGroups.{PGroup, largest_residue}
 use Rattle.fp_rows.specs.Refs.{entries_of}
 use Rattle.graded_algebra.specs.Algebras.{degrees}
 use Rattle.min_res.specs.Stages.{rank_of}

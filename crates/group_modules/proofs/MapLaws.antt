@@ -4,10 +4,15 @@ use Rattle.std.proofs.Common.{sym, ◌∙◌, ap, ap₂, arith, inl, inr, eq-eqb
 use mathlib.Core.Path.{fun_ext}
 use Rattle.std.proofs.lemmas.Bool.Decides.{eqb_tells}
 use Rattle.group_modules.specs.Module.{Module, times, IsLinear, lin}
-use Rattle.group_modules.specs.Laws.{times-mod, times-sum, times-zero}
-use Rattle.group_modules.specs.Field.{Below, below-path, Fp, residue, plus, times-one, residue-self}
-use Rattle.group_modules.specs.Sums.{below, total, total-zero, total-only, map-total, additive-agree}
-use Rattle.group_modules.specs.Tables.{Group, monoid, Table, times-at, mark, unit, terms, part, lin-terms, terms-add, terms-at-unit, inv-inv-mul}
+use Rattle.group_modules.specs.Field.{Below, Fp, residue, plus}
+use Rattle.group_modules.specs.Sums.{below, total}
+use Rattle.group_modules.specs.Tables.{Group, monoid, Table, mark, unit, terms, part, block-sum}
+use Rattle.group_modules.proofs.Laws.{times-mod, times-sum, times-zero}
+use Rattle.linear_algebra.proofs.Residues.{below-path, times-one, residue-self}
+use Rattle.group_modules.proofs.SumLaws.{total-zero, total-only, map-total, additive-agree}
+use Rattle.numbered_groups.proofs.GroupLaws.{inv-inv-mul}
+use Rattle.numbered_groups.proofs.Entries.{times-at}
+use Rattle.group_modules.proofs.TermLaws.{lin-terms, terms-add, terms-at-unit}
 
 module _ {n : ℕ} (q : ℕ) (Γ : Group n) where
   -- the entry at j and k of the term at i and g
@@ -78,10 +83,6 @@ module _ {n : ℕ} (q : ℕ) (Γ : Group n) where
   terms-unit b M u i =
       ap (λ w. lin M u (terms q Γ b w)) (sym ((Table q Γ b).act-one (unit q Γ b i))) ∙ terms-at-unit q Γ M b u Γ.one i ∙ M.act-one (u i)
 
-  -- the sum of the coefficients of block i
-  abbrev pub block-sum : (b : ℕ) → (Table q Γ b).of → Below b → Below (suc q)
-  block-sum b v i = total (Fp q (monoid Γ)) (below n) (v i)
-
   -- a sum of multiples of one element
   pub total-times : (M : Module (suc q) (monoid Γ)) {A : Type 0} (xs : List A) (w : A → Below (suc q)) (x : M.of)
       → total M xs (λ g. times M.add M.zero (w g).0 x) ≡ times M.add M.zero (total (Fp q (monoid Γ)) xs w).0 x
@@ -92,7 +93,7 @@ module _ {n : ℕ} (q : ℕ) (Γ : Group n) where
       ∙ sym (times-mod M ((w a).0 + (total (Fp q (monoid Γ)) xs w).0) x)
 
   -- a functional on the blocks, at a table whose blocks have sum 0
-  pair-zero : (b : ℕ) (c : Below b → Below (suc q)) (v : (Table q Γ b).of) → ((j : Below b) → block-sum b v j ≡ residue q 0)
+  pair-zero : (b : ℕ) (c : Below b → Below (suc q)) (v : (Table q Γ b).of) → ((j : Below b) → block-sum q Γ b v j ≡ residue q 0)
       → lin (Fp q (monoid Γ)) c (terms q Γ b v) ≡ residue q 0
   pair-zero b c v e =
       let K : Module (suc q) (monoid Γ) = Fp q (monoid Γ) in
@@ -103,7 +104,7 @@ module _ {n : ℕ} (q : ℕ) (Γ : Group n) where
       ∙ times-mod K 0 (c j))
 
   pub augment-sum : (v : (Table q Γ 1).of)
-      → lin (Fp q (monoid Γ)) (λ i. residue q 1) (terms q Γ 1 v) ≡ block-sum 1 v (residue 0 0)
+      → lin (Fp q (monoid Γ)) (λ i. residue q 1) (terms q Γ 1 v) ≡ block-sum q Γ 1 v (residue 0 0)
   augment-sum v =
       let K : Module (suc q) (monoid Γ) = Fp q (monoid Γ) in
       let one : Below 1 = residue 0 0 in

@@ -3,7 +3,7 @@ use Rattle.std.specs.Prelude.{ℕ, ◌-◌}
 use Rattle.group_table.specs.Tables.{GroupTable, IsGroupTable, order, product}
 use Rattle.linear_algebra.specs.Modular.{IsSmallPrime}
 use Rattle.group_modules.specs.Tables.{Group}
-use Rattle.group_modules.specs.NumberedGroups.{group_of}
+use Rattle.numbered_groups.specs.Groups.{group_of}
 
 -- the table of a group of p^n elements, where p is 2, 3, 5 or 7
 pub record IsPGroup (G : GroupTable) : Type 0 where

@@ -1,14 +1,13 @@
 -- A table is that of a p-group in one way, so two p-groups with one table are the same.
-use Rattle.std.specs.Prelude.{◌≡◌, ℕ, ◌<◌, List, refl}
+use Rattle.std.specs.Prelude.{◌≡◌, ℕ, ◌<◌}
 use Rattle.std.proofs.Common.{inl, inr, ap, sym, ◌∙◌, arith}
-use Rattle.std.specs.Coded.{Coded, code_by, coded×, coded_ℕ, coded_list, le_prop}
+use Rattle.std.specs.Coded.{le_prop}
 use mathlib.Core.HLevel.{is_prop→PathP}
 use native.Mathlib.Nat.{ℕ_set}
-use base.Stored.{coded_via}
 use Rattle.group_table.specs.Groups.{IsGroup}
 use Rattle.group_table.specs.Tables.{GroupTable, order, product}
 use Rattle.linear_algebra.specs.Modular.{IsSmallPrime}
-use Rattle.group_algebra.specs.PGroups.{IsPGroup, PGroup}
+use Rattle.p_groups.specs.PGroups.{IsPGroup, PGroup}
 
 -- p is one of the four in one way
 IsSmallPrime-prop : (p : ℕ) → IsProp (IsSmallPrime p)
@@ -68,10 +67,3 @@ IsPGroup-prop G h k i = record {
 -- p-groups are equal where their tables are
 pub same_table : (G H : PGroup) → G.table ≡ H.table → G ≡ H
 same_table G H e i = record { table = e i; law = is_prop→PathP (λ i. IsPGroup (e i)) (λ i. IsPGroup-prop (e i)) G.law H.law i }
-
-abbrev pub coded_table : Coded GroupTable
-coded_table = code_by ((ℕ × ℕ) × List ℕ) (coded× (coded× coded_ℕ coded_ℕ) (coded_list coded_ℕ)) (λ G. ((G.p, G.n), G.entries)) (λ t. record { p = t.0.0; n = t.0.1; entries = t.1 }) (λ _. refl)
-
--- a p-group is stored as its table
-abbrev pub coded_p_group : Coded PGroup
-coded_p_group = coded_via coded_table (λ G. G.table) same_table

@@ -1,0 +1,3 @@
+pub mod SameTables
+pub mod Fields
+pub mod Layers
