@@ -12,4 +12,5 @@ pub mod PivotTests
 pub mod NewRelations
 pub mod NormalFormRows
 pub mod MoreMonomials
+pub mod Existence
 pub mod Examples

@@ -5,6 +5,7 @@
 
 ghost use Rattle.std.specs.Prelude.{◌≡◌, ℕ, suc, ◌+◌, ◌*◌, ◌<◌, ◌↔◌, List, [], ◌∷◌, ◌++◌, length, map, slice_index_or};
 ghost use Rattle.std.specs.List.{AllByRecursion as Each};
+ghost use Rattle.linear_algebra.specs.Modular.{IsFieldModulo};
 ghost use Rattle.linear_algebra.specs.Rows.{entry, IsRow, IsEchelonOf, IsCombination, IsPivot};
 ghost use Rattle.linear_algebra.specs.Kernels.{IsKernelOf};
 ghost use Rattle.linear_algebra.specs.Choices.{IsGreedy, IsPreimage, ArePreimages};
@@ -16,6 +17,7 @@ ghost use Rattle.graded_algebra.specs.Presentations.{IsRelation, IsConsequence, 
 ghost use Rattle.graded_algebra.specs.Presentations.{IsSpanGenerators, IsRelations, IsNormalForm, generators_of};
 ghost use Rattle.graded_algebra.specs.Vectors.{Vector, vectors, unit, units};
 ghost use Rattle.presentation_rows.specs.RowPolynomials.{polynomial_of, row_of};
+ghost use Rattle.presentation_rows.specs.Ranks.{HasRanks};
 ghost use Rattle.presentation_rows.specs.Values.{vector, AreValues, AreUnitRows};
 ghost use Rattle.presentation_rows.specs.Factors.{IsLastFactor};
 ghost use Rattle.presentation_rows.specs.Pivots.{new_relations};
@@ -126,4 +128,11 @@ pub fn one_more_generator()
         (ms values : List (List ℕ)) (w : List ℕ) → IsMonomials q (degrees gs) g.degree ms → AreValues q (vectors q mul) gs ms values
         → vector q w ≡ g.class → mul 0 g.degree (unit q 0) g.class ≡ g.class
         → AreValues q (vectors q mul) (gs ++ g ∷ []) (ms ++ power (length (degrees gs)) 1 ∷ []) (values ++ w ∷ []) }
+{}
+
+/// Generators and relations through each degree exist, for any product with values in the vectors of its degree.
+pub fn presentations_exist()
+    ensures { (q n : ℕ) (ranks : ℕ → ℕ) (mul : ℕ → ℕ → Vector q → Vector q → Vector q) → IsFieldModulo (suc q) → HasRanks q ranks mul
+        → (gs : List (Generator (Vector q))) × (rs : List Polynomial) × IsSpanGenerators q (vectors q mul) (λ d. units q 0 (ranks d)) n gs
+        × IsRelations q (vectors q mul) gs n rs }
 {}
