@@ -9,9 +9,9 @@ use Rattle.std.proofs.lemmas.List.Elements.{recursion_from_All}
 use Rattle.graded_polynomials.specs.Monomials.{is_exterior, IsMonomials}
 use Rattle.graded_polynomials.proofs.Terms.{each-map}
 use Rattle.graded_polynomials.proofs.MonomialLists.{monomials-unique}
-use Rattle.gc_poly.specs.AllMonomials.{with_first, all_monomials}
+use Rattle.graded_polynomials.specs.AllMonomials.{with_first, all_monomials}
 use Rattle.gc_poly.specs.Generators.{AreOrdered}
-use Rattle.gc_poly.proofs.AllLemmas.{leb-of, all-monomials}
+use Rattle.graded_polynomials.proofs.AllMonomials.{leb-of, all-monomials}
 
 abbrev pub number : ℕ → List ℕ → ℕ → ℕ
 number q ds d = length (all_monomials q ds d)

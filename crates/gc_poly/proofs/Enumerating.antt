@@ -4,8 +4,8 @@ use Rattle.std.proofs.lemmas.Bool.Decides.{nat_tests}
 use Rattle.std.proofs.lemmas.List.{append-nil, map-append}
 use Rattle.graded_polynomials.specs.Monomials.{is_exterior, exponent, IsTrimmed}
 use Rattle.graded_polynomials.proofs.Exponents.{same-exponents}
-use Rattle.gc_poly.specs.AllMonomials.{with_first, all_monomials}
-use Rattle.gc_poly.proofs.AllLemmas.{leb-of}
+use Rattle.graded_polynomials.specs.AllMonomials.{with_first, all_monomials}
+use Rattle.graded_polynomials.proofs.AllMonomials.{leb-of, leb-not}
 
 -- those with an exponent of the first generator below n
 abbrev pub remaining : (ℕ → List (List ℕ)) → ℕ → ℕ → ℕ → List (List ℕ)
@@ -14,9 +14,6 @@ remaining others g d (suc e) = with_first others g d e
 
 abbrev pub behind : List ℕ → List (List ℕ) → List (List ℕ)
 behind chosen ms = map (λ m. chosen ++ m) ms
-
-leb-not : (x y : ℕ) → y < x → leb x y ≡ false
-leb-not x y l = grind (arith, nat_tests)
 
 remaining-fits : (others : ℕ → List (List ℕ)) (g d e : ℕ) → e * g ≤ d → remaining others g d (suc e) ≡ map (λ m. e ∷ m) (others (d - e * g)) ++ remaining others g d e
 remaining-fits others g d zero l = ap (λ r. map (λ m. 0 ∷ m) (others r)) (let k : d ≡ d - 0 * g = omega arith in k) ∙ sym (append-nil _)

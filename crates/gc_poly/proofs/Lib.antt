@@ -1,12 +1,10 @@
 pub mod AddTerm
-pub mod AllLemmas
 pub mod Comparing
 pub mod Counting
 pub mod Edits
 pub mod Enumerating
 pub mod Finding
 pub mod Joining
-pub mod Ordered
 pub mod Places
 pub mod ProductLemmas
 pub mod Substituting

@@ -1,4 +1,3 @@
-pub mod AllMonomials
 pub mod Automaton
 pub mod Generators
 pub mod Lists

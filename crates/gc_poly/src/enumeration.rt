@@ -2,7 +2,7 @@
 
 ghost use Rattle.std.specs.Prelude.{◌≡◌, ℕ, ◌+◌, ◌-◌, ◌^◌, ◌<◌, ◌≤◌, min, List, ◌++◌, map, drop, length, slice_index, IfOk, OnOk, if◌then◌else◌, nat_le};
 ghost use Rattle.graded_polynomials.specs.Monomials.{is_exterior, IsTrimmed, IsMonomials};
-ghost use Rattle.gc_poly.specs.AllMonomials.{all_monomials};
+ghost use Rattle.graded_polynomials.specs.AllMonomials.{all_monomials};
 ghost use Rattle.gc_poly.specs.Generators.{greatest, AreOrdered};
 
 use crate::{Gens, Mono, Monos};

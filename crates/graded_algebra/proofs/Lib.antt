@@ -14,7 +14,9 @@ pub mod Division
 pub mod Unique
 pub mod Transfer
 pub mod Spans
+pub mod SpansUnique
 pub mod Stability
 pub mod NormalForms
-pub mod Line
+pub mod Lines
+pub mod ExteriorLine
 pub mod Cohomology

@@ -5,7 +5,8 @@ use Rattle.graded_polynomials.specs.Monomials.{IsMonomial, IsWithin, IsTrimmed, 
 use Rattle.graded_polynomials.specs.Polynomials.{Term, IsOver}
 use Rattle.graded_algebra.specs.Algebras.{Algebra, Generator, degrees, evaluate_from, value, times, powers}
 use Rattle.graded_algebra.specs.Presentations.{IsValue}
-use Rattle.graded_polynomials.proofs.Terms.{each-map, false≢true}
+use Rattle.graded_polynomials.proofs.Terms.{false≢true}
+use Rattle.graded_polynomials.proofs.MoreGenerators.{fits-more, degree-more, terms-more}
 
 -- the monomial of the generator that comes after those of ds
 abbrev pub single : List ℕ → List ℕ
@@ -42,34 +43,6 @@ monomial-single q ds e = record { within = within-single ds e; trimmed = trimmed
 pub exponent-single : (ds : List ℕ) → exponent (single ds) (length ds) ≡ 1
 exponent-single [] = refl
 exponent-single (d ∷ ds) = exponent-single ds
-
--- a monomial stays one where generators are added
-pub within-more : (ds es m : List ℕ) → IsWithin ds m → IsWithin (ds ++ es) m
-within-more ds es [] h = tt
-within-more [] es (x ∷ m) h = absurd h
-within-more (d ∷ ds) es (x ∷ m) h = within-more ds es m h
-
-pub fits-more : (q : ℕ) (ds es m : List ℕ) → IsWithin ds m → fits q (ds ++ es) m ≡ fits q ds m
-fits-more q [] [] [] h = refl
-fits-more q [] (e ∷ es) [] h = refl
-fits-more q [] es (x ∷ m) h = absurd h
-fits-more q (d ∷ ds) es [] h = refl
-fits-more q (d ∷ ds) es (x ∷ m) h = ap (λ b. (not (is_exterior q d) || leb x 1) && b) (fits-more q ds es m h)
-
-pub degree-more : (ds es m : List ℕ) → IsWithin ds m → degree (ds ++ es) m ≡ degree ds m
-degree-more [] [] [] h = refl
-degree-more [] (e ∷ es) [] h = refl
-degree-more [] es (x ∷ m) h = absurd h
-degree-more (d ∷ ds) es [] h = refl
-degree-more (d ∷ ds) es (x ∷ m) h = omega (arith, degree-more ds es m h)
-
-pub monomial-more : (q : ℕ) (ds es : List ℕ) (d : ℕ) (m : List ℕ) → IsMonomial q ds d m → IsMonomial q (ds ++ es) d m
-monomial-more q ds es d m h = record {
-  within = within-more ds es m h.within;
-  trimmed = h.trimmed;
-  fitting = fits-more q ds es m h.within ∙ h.fitting;
-  degree_is = degree-more ds es m h.within ∙ h.degree_is;
-}
 
 -- a monomial of degree d in generators and one more, of degree e from d on, is one in those generators or the new one itself
 pub last-case : (q : ℕ) (ds : List ℕ) (e d : ℕ) (m : List ℕ) → Each (λ a. 0 < a) ds → 0 < e → d ≤ e → IsMonomial q (ds ++ e ∷ []) d m
@@ -120,9 +93,7 @@ value-more A q d gs hs [] h = refl
 value-more A q d gs hs (t ∷ f) h = ap₂ (λ x y. A.add (times A t.scalar x) y) (from-more A 0 A.one gs hs t.monomial h.0.within) (value-more A q d gs hs f h.1)
 
 pub over-more : {V : Type 0} (q d : ℕ) (gs hs : List (Generator V)) (f : List Term) → IsOver q (degrees gs) d f → IsOver q (degrees (gs ++ hs)) d f
-over-more q d gs hs f h =
-    each-map (λ t. IsMonomial q (degrees gs) d t.monomial) (λ t. IsMonomial q (degrees (gs ++ hs)) d t.monomial) f
-    (λ t k. rw (degrees-append gs hs) (monomial-more q (degrees gs) (degrees hs) d t.monomial k)) h
+over-more q d gs hs f h = rw (degrees-append gs hs) (terms-more q (degrees gs) (degrees hs) d f h)
 
 pub value-of-more : {V : Type 0} (q : ℕ) (A : Algebra V) (gs hs : List (Generator V)) (d : ℕ) (v : V) → IsValue q A gs d v → IsValue q A (gs ++ hs) d v
 value-of-more q A gs hs d v h = record {

@@ -8,7 +8,8 @@ use Rattle.graded_algebra.specs.Algebras.{Algebra, Generator, degrees}
 use Rattle.graded_algebra.specs.Presentations.{IsLeading, IsRelation, IsConsequence, IsStandard, IsRelationAt, IsRelationsFrom, IsRelations}
 use Rattle.graded_polynomials.proofs.Terms.{each-map}
 use Rattle.graded_polynomials.proofs.Monomials.{within-joined}
-use Rattle.graded_algebra.proofs.MoreGenerators.{fits-more, degree-more, monomial-more, degrees-append, value-more}
+use Rattle.graded_polynomials.proofs.MoreGenerators.{fits-more, degree-more, monomial-more}
+use Rattle.graded_algebra.proofs.MoreGenerators.{degrees-append, value-more}
 use Rattle.graded_algebra.proofs.Relations.{defining}
 
 none-above : (n : ℕ) (es m : List ℕ) → Each (λ e. n < e) es → IsWithin es m → IsTrimmed m → degree es m ≤ n → m ≡ []

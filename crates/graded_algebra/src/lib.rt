@@ -56,6 +56,13 @@ pub fn generators_by_spans()
         → IsSpanGenerators q (algebra q G) (basis q G) n gs → IsGenerators q (algebra q G) (basis q G) n gs }
 {}
 
+/// There is one list of generators by spans through a degree, whatever the product is.
+pub fn one_list_of_span_generators()
+    ensures { (q n : ℕ) (mul : ℕ → ℕ → Vector q → Vector q → Vector q) (basis : ℕ → List (Vector q))
+        (gs hs : List (Generator (Vector q)))
+        → IsSpanGenerators q (vectors q mul) basis n gs → IsSpanGenerators q (vectors q mul) basis n hs → gs ≡ hs }
+{}
+
 /// The relations through n stay those where generators of degree above n are added, whatever the product is.
 pub fn relations_stay()
     ensures { (q n : ℕ) (mul : ℕ → ℕ → Vector q → Vector q → Vector q) (gs new : List (Generator (Vector q)))

@@ -4,6 +4,9 @@ pub mod Exponents
 pub mod Monomials
 pub mod Stored
 pub mod MonomialLists
+pub mod Ordered
+pub mod AllMonomials
+pub mod MoreGenerators
 pub mod TextLemmas
 pub mod ReadLemmas
 pub mod Examples

@@ -1,3 +1,4 @@
 pub mod Monomials
+pub mod AllMonomials
 pub mod Polynomials
 pub mod Texts

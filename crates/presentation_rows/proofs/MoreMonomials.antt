@@ -11,7 +11,8 @@ use Rattle.graded_polynomials.specs.Texts.{power}
 use Rattle.graded_algebra.specs.Algebras.{Generator, degrees, evaluate}
 use Rattle.graded_algebra.specs.Vectors.{Vector, vectors, unit}
 use Rattle.graded_algebra.proofs.Ideals.{degree-nil}
-use Rattle.graded_algebra.proofs.MoreGenerators.{single, monomial-single, monomial-more, last-case, fits-more, degree-more, degrees-append, from-more}
+use Rattle.graded_polynomials.proofs.MoreGenerators.{monomial-more, fits-more, degree-more}
+use Rattle.graded_algebra.proofs.MoreGenerators.{single, monomial-single, last-case, degrees-append, from-more}
 use Rattle.presentation_rows.specs.Values.{vector, AreValues}
 use Rattle.presentation_rows.specs.Factors.{IsLastFactor}
 use Rattle.presentation_rows.proofs.LastFactor.{value-by-factor, from-nil}

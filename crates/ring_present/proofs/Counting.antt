@@ -7,8 +7,8 @@ use Rattle.graded_polynomials.specs.Monomials.{IsMonomials}
 use Rattle.graded_algebra.specs.Algebras.{degrees}
 use Rattle.graded_algebra.specs.Presentations.{IsSpanGenerators}
 use Rattle.gc_poly.specs.Generators.{Generators, greatest}
-use Rattle.gc_poly.specs.AllMonomials.{all_monomials}
-use Rattle.gc_poly.proofs.AllLemmas.{all-monomials}
+use Rattle.graded_polynomials.specs.AllMonomials.{all_monomials}
+use Rattle.graded_polynomials.proofs.AllMonomials.{all-monomials}
 use Rattle.chain_lift.specs.Values.{LiftValue}
 use Rattle.ring_present.specs.Rings.{cohomology, dual_basis, IsTooMany}
 use Rattle.ring_present.specs.Degrees.{classes, degrees_of, IsLiftBelow}

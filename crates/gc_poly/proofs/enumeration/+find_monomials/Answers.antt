@@ -1,6 +1,6 @@
 use Rattle.std.proofs.Common.{◌≡◌, ◌+◌, ◌-◌, ◌*◌, ◌++◌, ◌∷◌, [], ℕ, cond, length, take, subst, drop, vec_len, arith, ap, sym, ◌∙◌, refl, rules}
 use Rattle.graded_polynomials.specs.Monomials.{IsTrimmed}
-use Rattle.gc_poly.specs.AllMonomials.{all_monomials}
+use Rattle.graded_polynomials.specs.AllMonomials.{all_monomials}
 use Rattle.gc_poly.proofs.Enumerating.{behind, taken, left-out, all-remain, trimmed-last, last-out, found-one}
 use Rattle.gc_poly.proofs.enumeration.+find_monomials.Goals as goal
 use Rattle.gc_poly.proofs.enumeration.+find_monomials.Goals.{then-is_exterior, else-is_exterior}

@@ -1,5 +1,5 @@
 use Rattle.std.proofs.Common.{◌≡◌, ◌-◌, ◌^◌, length, min, drop, arith, ap, sym, ◌∙◌}
-use Rattle.gc_poly.specs.AllMonomials.{all_monomials}
+use Rattle.graded_polynomials.specs.AllMonomials.{all_monomials}
 use Rattle.gc_poly.proofs.Counting.{counts-powers, number-of}
 use Rattle.gc_poly.proofs.enumeration.count_monomials.Goals as goal
 

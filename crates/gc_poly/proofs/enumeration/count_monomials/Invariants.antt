@@ -1,5 +1,5 @@
 use Rattle.std.proofs.Common.{◌≡◌, ℕ, ◌-◌, ◌^◌, ◌<◌, min, length, drop, get_or}
-use Rattle.gc_poly.specs.AllMonomials.{all_monomials}
+use Rattle.graded_polynomials.specs.AllMonomials.{all_monomials}
 use Rattle.gc_poly.specs.Generators.{greatest}
 use Rattle.gc_poly.proofs.enumeration.count_monomials.Given as goal
 

@@ -2,9 +2,9 @@ use Rattle.std.proofs.Common.{ℕ, ◌-◌, List, ◌++◌, ap, sym, subst, ◌�
 use Rattle.std.proofs.lemmas.List.{append-nil}
 use Rattle.std.proofs.lemmas.List.Elements.{All-from_recursion}
 use Rattle.graded_polynomials.specs.Monomials.{IsGreater, IsMonomials}
-use Rattle.gc_poly.proofs.AllLemmas.{all-ordered, all-monomials}
+use Rattle.graded_polynomials.proofs.AllMonomials.{all-ordered, all-monomials}
 use Rattle.gc_poly.proofs.Counting.{positive}
-use Rattle.gc_poly.proofs.Ordered.{Ordered, before-next}
+use Rattle.graded_polynomials.proofs.Ordered.{Ordered, before-next}
 use Rattle.gc_poly.proofs.Enumerating.{all-to-come, nothing-left, shifted}
 use Rattle.gc_poly.proofs.enumeration.monomials.Goals as goal
 

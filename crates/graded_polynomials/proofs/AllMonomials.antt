@@ -8,14 +8,17 @@ use Rattle.std.proofs.lemmas.List.Elements.{All-from_recursion}
 use Rattle.graded_polynomials.specs.Monomials.{IsMonomial, IsMonomials, IsGreater, is_exterior, fits, degree}
 use Rattle.graded_polynomials.proofs.Terms.{each-append}
 use Rattle.graded_polynomials.proofs.Monomials.{only-one}
-use Rattle.gc_poly.specs.AllMonomials.{with_first, all_monomials}
-use Rattle.gc_poly.proofs.Ordered.{Ordered, ordered-append, ordered-map, each-mapped, each-true, pairs-of, greater-after, greater-before, Stands, stands-left, stands-right, stands-map}
+use Rattle.graded_polynomials.specs.AllMonomials.{with_first, all_monomials}
+use Rattle.graded_polynomials.proofs.Ordered.{Ordered, ordered-append, ordered-map, each-mapped, each-true, pairs-of, greater-after, greater-before, Stands, stands-left, stands-right, stands-map}
 
 pub leb-of : (x y : ℕ) → x ≤ y → leb x y ≡ true
 leb-of x y l = grind (arith, nat_tests)
 
 pub leb-is : (x y : ℕ) → leb x y ≡ true → x ≤ y
 leb-is x y l = grind (arith, nat_tests, l)
+
+pub leb-not : (x y : ℕ) → y < x → leb x y ≡ false
+leb-not x y l = grind (arith, nat_tests)
 
 and-left : (a b : Bool) → (a && b) ≡ true → a ≡ true
 and-left true b e = refl
