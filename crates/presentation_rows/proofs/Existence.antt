@@ -77,7 +77,7 @@ module _ (q : ℕ) (ds : List ℕ) (positive : Each (λ d. 0 < d) ds) (d : ℕ) 
   all-multiples [] = []
   all-multiples (r ∷ rs) = multiples-of-one r (cases r.degree d) ++ all-multiples rs
 
-  IsOneMultiple : List Polynomial → List ℕ → Type 0
+  abbrev IsOneMultiple : List Polynomial → List ℕ → Type 0
   IsOneMultiple rs x = (t : Multiple) × IsMultiple q ds rs d t × (x ≡ row_of q ms (terms_of q ds t))
 
   later-multiple : (r : Polynomial) (rs : List Polynomial) (x : List ℕ) → IsOneMultiple rs x → IsOneMultiple (r ∷ rs) x
