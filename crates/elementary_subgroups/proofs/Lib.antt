@@ -1,0 +1,14 @@
+pub mod Classes
+pub mod Cliques
+pub mod Conjugates
+pub mod Counting
+pub mod GreedyBases
+pub mod GroupLaws
+pub mod Indices
+pub mod Lists
+pub mod Members
+pub mod NumberedLists
+pub mod Numbering
+pub mod OwnGroup
+pub mod Powers
+pub mod Span

@@ -1,0 +1,5 @@
+pub mod Bases
+pub mod Cliques
+pub mod OwnGroups
+pub mod Sets
+pub mod Subgroups
