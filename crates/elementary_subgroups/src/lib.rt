@@ -2,7 +2,7 @@
 //! cohomology ring, 1971.
 #![tactic(auto)]
 
-ghost use Rattle.std.specs.Prelude.{◌≡◌, ◌<◌, ◌⊎◌, ℕ, List, length, slice_index};
+ghost use Rattle.std.specs.Prelude.{◌≡◌, ◌<◌, ◌⊎◌, ℕ, List, Some, length, slice_get, slice_index};
 ghost use Rattle.group_table.specs.Prime.{prime_value};
 ghost use Rattle.group_table.specs.Tables.{GroupTable, IsGroupTable};
 ghost use Rattle.group_table.specs.declared.Prime.{Prime};
@@ -33,9 +33,10 @@ pub fn numbered_list_is_one()
     ensures { (G : GroupTable) (ss ts : List NumberedSubgroup) → IsSubgroupList G ss → IsSubgroupList G ts → ss ≡ ts }
 {}
 
-/// What is listed is a subgroup.
+/// What stands at a place of the list is a subgroup with its numbering.
 pub fn listed_are_subgroups()
-    ensures { (G : GroupTable) (ss : List NumberedSubgroup) (s : NumberedSubgroup) → IsSubgroupList G ss → IsIn s ss → IsSubgroupOf G s }
+    ensures { (G : GroupTable) (ss : List NumberedSubgroup) (i : ℕ) (s : NumberedSubgroup)
+        → IsSubgroupList G ss → slice_get ss i ≡ Some s → IsSubgroupOf G s }
 {}
 
 /// A set has one greedy basis.
@@ -43,9 +44,10 @@ pub fn basis_is_one()
     ensures { (G : GroupTable) (members basis other : List ℕ) → IsBasis G members basis → IsBasis G members other → basis ≡ other }
 {}
 
-/// The element at place e is the product of the basis members with the digits of e as exponents.
+/// There are p^s numbers, and the element at place e is the product of the basis members with the digits of e as exponents.
 pub fn images_are_products()
-    ensures { (G : GroupTable) (s : NumberedSubgroup) (e : ℕ) → IsNumbered G s → e < size G s.basis → slice_index s.images e ≡ embed G s.basis e }
+    ensures { (G : GroupTable) (s : NumberedSubgroup) → IsNumbered G s → (length s.images ≡ size G s.basis)
+        × ((e : ℕ) → e < size G s.basis → slice_index s.images e ≡ embed G s.basis e) }
 {}
 
 /// The elementary abelian group of the same rank is the subgroup's group in its own numbering, and `embed` is a homomorphism from it, one to
