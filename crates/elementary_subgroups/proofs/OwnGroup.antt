@@ -8,7 +8,7 @@ use Rattle.group_table.specs.declared.Prime.{Prime}
 use Rattle.group_table.specs.Prime.{prime_value}
 use Rattle.elementary_subgroups.specs.Sets.{IsIn, IsSet, IsAscending}
 use Rattle.elementary_subgroups.specs.Cliques.{AreElements}
-use Rattle.elementary_subgroups.specs.Bases.{embed, size, numbers, numbering, NumberedSubgroup, IsSubgroupOf}
+use Rattle.elementary_subgroups.specs.Bases.{embed, size, numbers, numbering, NumberedSubgroup, IsNumbered, IsSubgroupOf}
 use Rattle.elementary_subgroups.specs.OwnGroups.{digit_sum, entries_of, elementary_group, IsOwnGroup}
 use Rattle.elementary_subgroups.proofs.GroupLaws.{HasGroupLaw, inverse_right}
 use Rattle.elementary_subgroups.proofs.Members.{from_numbers, numbers_ascending}
@@ -102,6 +102,12 @@ differ_map f (x ∷ xs) s h = (
       let l : x < r.0 = s.0 r.0 r.1 in omega arith),
   differ_map f xs s.1 (λ y z k m. h y z (inr k) (inr m)),
 )
+
+-- the numbers of the subgroup are the elements of its own group
+pub images-own_order : {G : GroupTable} (s : NumberedSubgroup) (E : GroupTable) → IsNumbered G s → IsOwnGroup G s E →
+    length s.images ≡ order E
+images-own_order {G} s E N O =
+    images_length s N ∙ ap (λ w. w ^ length s.basis) (sym O.same_prime) ∙ ap (λ w. E.p ^ w) (sym O.rank_is) ∙ sym (order_is E)
 
 module _ {G : GroupTable} (L : HasGroupLaw G) (q : Prime) (pe : G.p ≡ prime_value q) (z : 1 < G.p)
     (s : NumberedSubgroup) (S : IsSubgroupOf G s) where

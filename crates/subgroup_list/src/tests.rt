@@ -84,12 +84,14 @@ fn table_of(
 }
 
 fn group_of(rt: &impl Abort, alloc: Global, known: Known) -> Result<Group, Fail> {
-    let order = u16::from(known.prime().value())
-        .checked_pow(known.rank())
+    let prime = known.prime();
+    let rank = known.rank();
+    let order = u16::from(prime.value())
+        .checked_pow(rank)
         .ok_or("a large group")?;
     assert!(rt; order < 64);
     let table = table_of(rt, alloc, known, order)?;
-    Ok(Group::from_table(alloc, known.prime(), known.rank(), table)?)
+    Ok(Group::from_table(alloc, prime, rank, table)?)
 }
 
 fn has_basis(s: &ElemAb, basis: &[u16]) -> bool {
