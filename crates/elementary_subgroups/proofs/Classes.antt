@@ -10,7 +10,8 @@ use Rattle.elementary_subgroups.proofs.Cliques.{maximal_from_full, full_from_max
 use Rattle.elementary_subgroups.proofs.Conjugates.{Carries, undo_right, same_left, conjugate_full, conjugate_exists}
 
 -- the answer is determined
-pub list_is_one : (G : GroupTable) (ms ns : List (List ℕ)) → IsMaximalElementaryList G ms → IsMaximalElementaryList G ns → ms ≡ ns
+pub list_is_one : (G : GroupTable) (ms ns : List (List ℕ)) → IsMaximalElementaryList G ms →
+    IsMaximalElementaryList G ns → ms ≡ ns
 list_is_one G ms ns a b = same_members IsBefore not_before_both ms ns a.ascending b.ascending
     (λ m h. b.complete m (a.each m h).0 (a.each m h).1) (λ m h. a.complete m (b.each m h).0 (b.each m h).1)
 
@@ -31,7 +32,8 @@ before_or (x ∷ m) (y ∷ l) = elim (cases_lt x y) [
               | inl q ↦ inr (inr (inl (inr (sym e, q))))
               | inr v ↦ elim v [
                 | inl q ↦ inr (inr (inr (inl (λ z h. elim h [ inl k ↦ inl (k ∙ e) | inr k ↦ inr (q z k) ]))))
-                | inr q ↦ inr (inr (inr (inr (λ z h. elim h [ inl k ↦ inl (k ∙ sym e) | inr k ↦ inr (q z k) ]))))
+                | inr q ↦ inr (inr (inr
+                    (inr (λ z h. elim h [ inl k ↦ inl (k ∙ sym e) | inr k ↦ inr (q z k) ]))))
               ]
             ]
           ]
@@ -39,14 +41,19 @@ before_or (x ∷ m) (y ∷ l) = elim (cases_lt x y) [
   ]
 ]
 
-pub compare_maximal : {G : GroupTable} (m l : List ℕ) → IsMaximalElementary G m → IsMaximalElementary G l → (m ≡ l) ⊎ IsBefore m l ⊎ IsBefore l m
+pub compare_maximal : {G : GroupTable} (m l : List ℕ) → IsMaximalElementary G m → IsMaximalElementary G l →
+    (m ≡ l) ⊎ IsBefore m l ⊎ IsBefore l m
 compare_maximal m l M N = elim (before_or m l) [
   | inl q ↦ inl q
   | inr t ↦ elim t [
     | inl q ↦ inr (inl q)
     | inr u ↦ elim u [
       | inl q ↦ inr (inr q)
-      | inr v ↦ elim v [ inl s ↦ inl (sym (M.maximal l N.elementary s)) | inr s ↦ inl (N.maximal m M.elementary s) ]
+      | inr v ↦ elim v [
+        | inl s ↦ inl (sym (M.maximal l N.elementary s))
+        | inr s ↦
+            inl (N.maximal m M.elementary s)
+      ]
     ]
   ]
 ]
@@ -61,11 +68,14 @@ before_trans (x ∷ a) (y ∷ b) (z ∷ c) (inr h) (inl k) = let e = h.0 in inl 
 before_trans (x ∷ a) (y ∷ b) (z ∷ c) (inr h) (inr k) = inr (h.0 ∙ k.0, before_trans a b c h.1 k.1)
 
 -- conjugate to the conjugate, and back
-pub conjugate_trans : {G : GroupTable} → HasGroupLaw G → (m l k : List ℕ) → ((x : ℕ) → IsIn x m → x < order G) → IsConjugate G m l → IsConjugate G l k → IsConjugate G m k
+pub conjugate_trans : {G : GroupTable} → HasGroupLaw G → (m l k : List ℕ) →
+    ((x : ℕ) → IsIn x m → x < order G) → IsConjugate G m l → IsConjugate G l k → IsConjugate G m k
 conjugate_trans {G} L m l k below a b =
     let g = a.0 in let h = b.0 in
-    let chain : (x y z : ℕ) → x < order G → y < order G → z < order G → Carries G g x y → Carries G h y z → Carries G (product G g h) x z =
-    λ x y z i j n e f. L.law.mul-assoc g h z a.1 b.1 n ∙ ap (λ w. product G g w) f ∙ sym (L.law.mul-assoc g y h a.1 j b.1)
+    let chain : (x y z : ℕ) → x < order G → y < order G → z < order G → Carries G g x y → Carries G h y z →
+    Carries G (product G g h) x z =
+    λ x y z i j n e f. L.law.mul-assoc g h z a.1 b.1 n ∙ ap (λ w. product G g w) f
+    ∙ sym (L.law.mul-assoc g y h a.1 j b.1)
     ∙ ap (λ w. product G w h) e ∙ L.law.mul-assoc x g h i a.1 b.1 in (
       product G g h,
       L.law.closed g h a.1 b.1,
@@ -79,7 +89,8 @@ conjugate_trans {G} L m l k below a b =
       },
     )
 
-pub conjugate_back : {G : GroupTable} → HasGroupLaw G → (m l : List ℕ) → IsSet m → ((x : ℕ) → IsIn x m → x < order G) → IsConjugate G m l → IsConjugate G l m
+pub conjugate_back : {G : GroupTable} → HasGroupLaw G → (m l : List ℕ) → IsSet m →
+    ((x : ℕ) → IsIn x m → x < order G) → IsConjugate G m l → IsConjugate G l m
 conjugate_back {G} L m l s below a =
     let g = a.0 in
     let n = L.law.inverse g a.1 in
@@ -87,7 +98,8 @@ conjugate_back {G} L m l s below a =
     let turn : (x y : ℕ) → x < order G → y < order G → Carries G g x y → Carries G n.0 y x =
     λ x y i j e.
     let gy = L.law.closed g y a.1 j in
-    ap (λ w. product G n.0 w) (sym (undo_right L g n.0 x a.1 n.1 i n.3) ∙ ap (λ w. product G w n.0) (sym e) ∙ L.law.mul-assoc g y n.0 a.1 j n.1)
+    ap (λ w. product G n.0 w) (sym (undo_right L g n.0 x a.1 n.1 i n.3) ∙ ap (λ w. product G w n.0) (sym e)
+    ∙ L.law.mul-assoc g y n.0 a.1 j n.1)
     ∙ cancel_left L g n.0 (product G y n.0) a.1 n.1 (L.law.closed y n.0 j n.1) n.3 in (
       n.0,
       n.1,
@@ -99,7 +111,8 @@ conjugate_back {G} L m l s below a =
       },
     )
 
-conjugate_self : {G : GroupTable} → HasGroupLaw G → (m : List ℕ) → IsSet m → ((x : ℕ) → IsIn x m → x < order G) → IsConjugate G m m
+conjugate_self : {G : GroupTable} → HasGroupLaw G → (m : List ℕ) → IsSet m →
+    ((x : ℕ) → IsIn x m → x < order G) → IsConjugate G m m
 conjugate_self {G} L m s below = (
   0,
   L.law.some,
@@ -112,9 +125,15 @@ conjugate_self {G} L m s below = (
 )
 
 -- the least of the conjugates by the elements below n
-least_below : {G : GroupTable} → HasGroupLaw G → (m : List ℕ) → IsMaximalElementary G m → (n : ℕ) → n ≤ order G →
-    (l : List ℕ) × IsConjugate G m l × ((g : ℕ) → g < n → (k : List ℕ) → IsConjugateBy G g m k → (l ≡ k) ⊎ IsBefore l k)
-least_below {G} L m M zero i = (m, conjugate_self L m M.elementary.is_set M.elementary.elements, λ g h. absurd (let b : g < 0 = h in omega arith))
+least_below : {G : GroupTable} → HasGroupLaw G → (m : List ℕ) → IsMaximalElementary G m → (n : ℕ) →
+    n ≤ order G → (l : List ℕ) × IsConjugate G m l × ((g : ℕ) → g < n → (k : List ℕ) → IsConjugateBy G g m k →
+    (l ≡ k) ⊎ IsBefore l k)
+least_below {G} L m M zero i = (
+  m,
+  conjugate_self L m M.elementary.is_set M.elementary.elements,
+  λ g h.
+      absurd (let b : g < 0 = h in omega arith),
+)
 least_below {G} L m M (suc n) i =
     let r = least_below L m M n (omega arith) in
     let F = full_from_maximal L m M in
@@ -128,7 +147,8 @@ least_below {G} L m M (suc n) i =
         r.1,
         λ g h k K. elim (cases_lt g n) [
           | inl s ↦ r.2 g s k K
-          | inr s ↦ (let e : g ≡ n = omega arith in let P : ℕ → Type 0 = λ w. IsConjugateBy G w m k in inl (q ∙ only k (subst P e K)))
+          | inr s ↦ (let e : g ≡ n = omega arith in let P : ℕ → Type 0 = λ w. IsConjugateBy G w m k in
+              inl (q ∙ only k (subst P e K)))
         ],
       )
       | inr t ↦ elim t [
@@ -149,38 +169,51 @@ least_below {G} L m M (suc n) i =
               | inl e ↦ (let Q : List ℕ → Type 0 = λ w. IsBefore C.0 w in inr (subst Q e q))
               | inr b ↦ inr (before_trans C.0 r.0 k q b)
             ]
-            | inr s ↦ (let e : g ≡ n = omega arith in let P : ℕ → Type 0 = λ w. IsConjugateBy G w m k in inl (only k (subst P e K)))
+            | inr s ↦ (let e : g ≡ n = omega arith in let P : ℕ → Type 0 = λ w. IsConjugateBy G w m k in
+                inl (only k (subst P e K)))
           ],
         )
       ]
     ]
   where
-    same_conjugate : (k : List ℕ) → IsConjugateBy G n m k → (conjugate_exists L n m (omega arith) M.elementary.elements).0 ≡ k
+    same_conjugate : (k : List ℕ) → IsConjugateBy G n m k →
+        (conjugate_exists L n m (omega arith) M.elementary.elements).0 ≡ k
     same_conjugate k K = let C = conjugate_exists L n m (omega arith) M.elementary.elements in
         same_set C.0 k C.1.is_set K.is_set
         (λ y h. let r = C.1.comes y h in let s = K.takes r.0 r.1 in
         let P : ℕ → Type 0 = λ w. IsIn w k in
-        subst P (same_left L n s.0 y (omega arith) (K.elements s.0 s.1) (C.1.elements y h) (s.2 ∙ sym r.2)) s.1)
+        subst P (same_left L n s.0 y (omega arith) (K.elements s.0 s.1) (C.1.elements y h)
+        (s.2 ∙ sym r.2)) s.1)
         (λ y h. let r = K.comes y h in let s = C.1.takes r.0 r.1 in
         let P : ℕ → Type 0 = λ w. IsIn w C.0 in
-        subst P (same_left L n s.0 y (omega arith) (C.1.elements s.0 s.1) (K.elements y h) (s.2 ∙ sym r.2)) s.1)
+        subst P (same_left L n s.0 y (omega arith) (C.1.elements s.0 s.1) (K.elements y h)
+        (s.2 ∙ sym r.2)) s.1)
 
 -- each maximal elementary abelian subgroup has a conjugate in the list
-pub class_listed : {G : GroupTable} → HasGroupLaw G → (ms : List (List ℕ)) → IsMaximalElementaryList G ms → (m : List ℕ) → IsMaximalElementary G m →
-    (l : List ℕ) × IsIn l ms × IsConjugate G m l
+pub class_listed : {G : GroupTable} → HasGroupLaw G → (ms : List (List ℕ)) → IsMaximalElementaryList G ms →
+    (m : List ℕ) → IsMaximalElementary G m → (l : List ℕ) × IsIn l ms × IsConjugate G m l
 class_listed {G} L ms A m M =
     let r = least_below L m M (order G) (omega arith) in
     let F = full_from_maximal L m M in
-    let R = maximal_from_full L r.0 (conjugate_full L r.1.0 m r.0 r.1.1 F r.1.2) in
-    (r.0, A.complete r.0 R (λ k C. let D = conjugate_trans L m r.0 k M.elementary.elements r.1 C in r.2 D.0 D.1 k D.2), r.1)
+    let R = maximal_from_full L r.0 (conjugate_full L r.1.0 m r.0 r.1.1 F r.1.2) in (
+      r.0,
+      A.complete r.0 R (λ k C. let D = conjugate_trans L m r.0 k M.elementary.elements r.1 C in
+          r.2 D.0 D.1 k D.2),
+      r.1,
+    )
 
 -- and only one
-pub class_once : {G : GroupTable} → HasGroupLaw G → (ms : List (List ℕ)) → IsMaximalElementaryList G ms → (m l : List ℕ) → IsIn m ms → IsIn l ms → IsConjugate G m l → m ≡ l
+pub class_once : {G : GroupTable} → HasGroupLaw G → (ms : List (List ℕ)) → IsMaximalElementaryList G ms →
+    (m l : List ℕ) → IsIn m ms → IsIn l ms → IsConjugate G m l → m ≡ l
 class_once {G} L ms A m l h k C =
     let M = (A.each m h).0.elementary in
     elim ((A.each m h).1 l C) [
       | inl e ↦ e
-      | inr b ↦ elim ((A.each l k).1 m (conjugate_back L m l M.is_set M.elements C)) [ inl e ↦ sym e | inr d ↦ absurd (not_before_both m l b d) ]
+      | inr b ↦ elim ((A.each l k).1 m (conjugate_back L m l M.is_set M.elements C)) [
+        | inl e ↦
+            sym e
+        | inr d ↦ absurd (not_before_both m l b d)
+      ]
     ]
 
 -- each maximal elementary abelian subgroup has one conjugate in the list
@@ -194,6 +227,7 @@ only_conjugate {G} L ms A m M =
         listed = r.1;
         conjugate = r.2;
         only = λ k h C. class_once L ms A k r.0 h r.1
-            (conjugate_trans L k m r.0 (A.each k h).0.elementary.elements (conjugate_back L m k E.is_set E.elements C) r.2);
+            (conjugate_trans L k m r.0 (A.each k h).0.elementary.elements
+            (conjugate_back L m k E.is_set E.elements C) r.2);
       },
     )

@@ -8,13 +8,18 @@ Differs x y = x ≡ y → ⊥
 
 -- the list without one that is n
 pub without : (n : ℕ) (xs : List ℕ) → IsAscending Differs xs → ((x : ℕ) → IsIn x xs → x < suc n) →
-    (ys : List ℕ) × IsAscending Differs ys × ((y : ℕ) → IsIn y ys → IsIn y xs × (y < n)) × (length xs ≤ suc (length ys))
+    (ys : List ℕ) × IsAscending Differs ys × ((y : ℕ) → IsIn y ys → IsIn y xs × (y < n)) ×
+    (length xs ≤ suc (length ys))
 without n [] d h = ([], tt, (λ y k. absurd k), omega arith)
 without n (x ∷ xs) d h = elim (cases_lt x n) [
   | inl l ↦ (let r = without n xs d.1 (λ z k. h z (inr k)) in (
     x ∷ r.0,
     ((λ y k. d.0 y (r.2 y k).0), r.1),
-    (λ y k. elim k [ inl e ↦ (inl e, (let q : y < n = subst (λ w. w < n) (sym e) l in q)) | inr i ↦ (inr (r.2 y i).0, (r.2 y i).1) ]),
+    (λ y k. elim k [
+      | inl e ↦ (inl e, (let q : y < n = subst (λ w. w < n) (sym e) l in q))
+      | inr i ↦
+          (inr (r.2 y i).0, (r.2 y i).1)
+    ]),
     (let q : length xs ≤ suc (length r.0) = r.3 in omega arith),
   ))
   | inr g ↦ (xs, d.1, (λ y k. (inr k, smaller y k g (h x (inl refl)) (h y (inr k)) (d.0 y k))), omega arith)

@@ -13,14 +13,16 @@ use Rattle.elementary_subgroups.proofs.Members.{in_append}
 use Rattle.elementary_subgroups.proofs.Numbering.{embed_below, embed_push, size_push}
 use Rattle.elementary_subgroups.proofs.Span.{IsIndependentKind, IsOneToOne, one_to_one_push, generated_unit}
 
-pub kind_of : {G : GroupTable} → (m : List ℕ) → IsElementary G m → (bs : List ℕ) → IsSubset bs m → IsIndependentKind G bs
+pub kind_of : {G : GroupTable} → (m : List ℕ) → IsElementary G m → (bs : List ℕ) → IsSubset bs m →
+    IsIndependentKind G bs
 kind_of m E bs s = record {
   torsion = λ x h. record { element = E.elements x (s x h); power_is = E.exponent x (s x h) };
   commutes = λ x y h k. E.commutes x y (s x h) (s y k);
 }
 
 -- what is generated stays generated, and the new member is generated
-generated_grows : {G : GroupTable} → HasGroupLaw G → 1 < G.p → (bs : List ℕ) (x : ℕ) → AreElements G bs → x < order G → (y : ℕ) → IsGenerated G bs y → IsGenerated G (bs ++ x ∷ []) y
+generated_grows : {G : GroupTable} → HasGroupLaw G → 1 < G.p → (bs : List ℕ) (x : ℕ) → AreElements G bs →
+    x < order G → (y : ℕ) → IsGenerated G bs y → IsGenerated G (bs ++ x ∷ []) y
 generated_grows {G} L z bs x h i y g =
     let s = size G bs in
     let zp : 0 < G.p = omega arith in (
@@ -32,7 +34,8 @@ generated_grows {G} L z bs x h i y g =
     small : (p s e : ℕ) → 0 < p → e < s → 0 * s + e < p * s
     small p s e a b = grind arith
 
-generated_new : {G : GroupTable} → HasGroupLaw G → 1 < G.p → (bs : List ℕ) (x : ℕ) → AreElements G bs → x < order G → IsGenerated G (bs ++ x ∷ []) x
+generated_new : {G : GroupTable} → HasGroupLaw G → 1 < G.p → (bs : List ℕ) (x : ℕ) → AreElements G bs →
+    x < order G → IsGenerated G (bs ++ x ∷ []) x
 generated_new {G} L z bs x h i =
     let s = size G bs in
     let zp : 0 < G.p = omega arith in
@@ -52,8 +55,10 @@ pub record BasisFacts (G : GroupTable) (m xs taken basis : List ℕ) : Type 0 wh
   pub keeps : (x : ℕ) → IsGenerated G taken x → IsGenerated G basis x
   pub members : IsSubset basis m
 
-pub basis_facts : {G : GroupTable} → HasGroupLaw G → (q : Prime) → G.p ≡ prime_value q → 1 < G.p → (m : List ℕ) → IsElementary G m → (xs taken basis : List ℕ) →
-    IsSubset xs m → IsSubset taken m → IsOneToOne G taken → IsBasisFrom G taken xs basis → BasisFacts G m xs taken basis
+pub basis_facts : {G : GroupTable} → HasGroupLaw G → (q : Prime) → G.p ≡ prime_value q → 1 < G.p →
+    (m : List ℕ) → IsElementary G m → (xs taken basis : List ℕ) →
+    IsSubset xs m → IsSubset taken m → IsOneToOne G taken → IsBasisFrom G taken xs basis →
+    BasisFacts G m xs taken basis
 basis_facts {G} L q pe z m E [] taken basis sx st one h = rw h (record {
   one_to_one = one;
   covers = λ x k. absurd k;
@@ -64,7 +69,11 @@ basis_facts {G} L q pe z m E (x ∷ xs) taken basis sx st one (inl h) =
     let r = basis_facts L q pe z m E xs taken basis (λ y k. sx y (inr k)) st one h.1 in
     record {
       one_to_one = r.one_to_one;
-      covers = λ y k. elim k [ inl e ↦ (let P : ℕ → Type 0 = λ w. IsGenerated G basis w in subst P (sym e) (r.keeps x h.0)) | inr i ↦ r.covers y i ];
+      covers = λ y k. elim k [
+        | inl e ↦ (let P : ℕ → Type 0 = λ w. IsGenerated G basis w in
+            subst P (sym e) (r.keeps x h.0))
+        | inr i ↦ r.covers y i
+      ];
       keeps = r.keeps;
       members = r.members;
     }
@@ -73,7 +82,11 @@ basis_facts {G} L q pe z m E (x ∷ xs) taken basis sx st one (inr h) =
     let xb = E.elements x xm in
     let st2 : IsSubset (taken ++ x ∷ []) m = λ y k. elim (in_append y taken (x ∷ []) k) [
       | inl a ↦ st y a
-      | inr a ↦ elim a [ inl e ↦ (let P : ℕ → Type 0 = λ w. IsIn w m in subst P (sym e) xm) | inr n ↦ absurd n ]
+      | inr a ↦ elim a [
+        | inl e ↦ (let P : ℕ → Type 0 = λ w. IsIn w m in subst P (sym e) xm)
+        | inr n ↦
+            absurd n
+      ]
     ] in
     let zp : 0 < G.p = omega arith in
     let below : AreElements G taken = λ y k. E.elements y (st y k) in
@@ -81,24 +94,33 @@ basis_facts {G} L q pe z m E (x ∷ xs) taken basis sx st one (inr h) =
     (one_to_one_push L q pe zp taken x (kind_of m E (taken ++ x ∷ []) st2) h.0 one) h.1 in
     record {
       one_to_one = r.one_to_one;
-      covers = λ y k. elim k [ inl e ↦ (let P : ℕ → Type 0 = λ w. IsGenerated G basis w in subst P (sym e) (r.keeps x (generated_new L z taken x below xb))) | inr i ↦ r.covers y i ];
+      covers = λ y k. elim k [
+        | inl e ↦ (let P : ℕ → Type 0 = λ w. IsGenerated G basis w in
+            subst P (sym e) (r.keeps x (generated_new L z taken x below xb)))
+        | inr i ↦ r.covers y i
+      ];
       keeps = λ y g. r.keeps y (generated_grows L z taken x below xb y g);
       members = r.members;
     }
 
 one_to_one_none : (G : GroupTable) → IsOneToOne G []
-one_to_one_none G e f i j h = let a : e < 1 = subst (λ w. e < w) (pow-zero G.p) i in let b : f < 1 = subst (λ w. f < w) (pow-zero G.p) j in omega arith
+one_to_one_none G e f i j h = let a : e < 1 = subst (λ w. e < w) (pow-zero G.p) i in
+    let b : f < 1 = subst (λ w. f < w) (pow-zero G.p) j in omega arith
 
 -- the greedy basis of a subgroup
-pub basis_of_subgroup : {G : GroupTable} → HasGroupLaw G → (q : Prime) → G.p ≡ prime_value q → 1 < G.p → (m : List ℕ) → IsElementary G m → (basis : List ℕ) →
-    IsBasis G m basis → BasisFacts G m m [] basis
-basis_of_subgroup {G} L q pe z m E basis h = basis_facts L q pe z m E m [] basis (λ x k. k) (λ x k. absurd k) (one_to_one_none G) h
+pub basis_of_subgroup : {G : GroupTable} → HasGroupLaw G → (q : Prime) → G.p ≡ prime_value q → 1 < G.p →
+    (m : List ℕ) → IsElementary G m → (basis : List ℕ) → IsBasis G m basis → BasisFacts G m m [] basis
+basis_of_subgroup {G} L q pe z m E basis h = basis_facts L q pe z m E m [] basis (λ x k. k)
+    (λ x k. absurd k) (one_to_one_none G) h
 
 -- products of members are members
-pub embed_member : {G : GroupTable} → (m : List ℕ) → IsElementary G m → (bs : List ℕ) → IsSubset bs m → (e : ℕ) → IsIn (embed G bs e) m
+pub embed_member : {G : GroupTable} → (m : List ℕ) → IsElementary G m → (bs : List ℕ) → IsSubset bs m →
+    (e : ℕ) → IsIn (embed G bs e) m
 embed_member {G} m E [] s e = E.identity
-embed_member {G} m E (b ∷ bs) s e = E.closed _ _ (power_member m E b (e % G.p) (s b (inl refl))) (embed_member m E bs (λ x k. s x (inr k)) (e / G.p))
+embed_member {G} m E (b ∷ bs) s e = E.closed _ _ (power_member m E b (e % G.p) (s b (inl refl)))
+    (embed_member m E bs (λ x k. s x (inr k)) (e / G.p))
   where
-    power_member : {G : GroupTable} → (m : List ℕ) → IsElementary G m → (a k : ℕ) → IsIn a m → IsIn (power G a k) m
+    power_member : {G : GroupTable} → (m : List ℕ) → IsElementary G m → (a k : ℕ) → IsIn a m →
+        IsIn (power G a k) m
     power_member m E a zero h = E.identity
     power_member m E a (suc k) h = E.closed _ _ (power_member m E a k h) h

@@ -32,8 +32,8 @@ pub power_of_unit : {G : GroupTable} → HasGroupLaw G → (e : ℕ) → power G
 power_of_unit {G} L e = laws.power-of-one G L.law e
 
 -- what commutes with a and with b commutes with a b
-pub commutes_product : {G : GroupTable} → HasGroupLaw G → (a b x : ℕ) → a < order G → b < order G → x < order G →
-    product G a x ≡ product G x a → product G b x ≡ product G x b →
+pub commutes_product : {G : GroupTable} → HasGroupLaw G → (a b x : ℕ) → a < order G → b < order G →
+    x < order G → product G a x ≡ product G x a → product G b x ≡ product G x b →
     product G (product G a b) x ≡ product G x (product G a b)
 commutes_product L a b x i j k e f = laws.commutes-product L.law a b x i j k e f
 

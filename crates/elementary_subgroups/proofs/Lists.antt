@@ -9,20 +9,24 @@ pub map_append : {A B : Type 0} (f : A → B) (xs ys : List A) → map f (xs ++ 
 map_append f [] ys = refl
 map_append f (x ∷ xs) ys = ap (λ l. f x ∷ l) (map_append f xs ys)
 
-pub map_map : {A B C : Type 0} (g : B → C) (f : A → B) (xs : List A) → map g (map f xs) ≡ map (λ x. g (f x)) xs
+pub map_map : {A B C : Type 0} (g : B → C) (f : A → B) (xs : List A) → map g (map f xs) ≡ map
+    (λ x. g (f x)) xs
 map_map g f [] = refl
 map_map g f (x ∷ xs) = ap (λ l. g (f x) ∷ l) (map_map g f xs)
 
-pub map_same : {A B : Type 0} (f g : A → B) (xs : List A) → ((x : A) → IsIn x xs → f x ≡ g x) → map f xs ≡ map g xs
+pub map_same : {A B : Type 0} (f g : A → B) (xs : List A) → ((x : A) → IsIn x xs → f x ≡ g x) →
+    map f xs ≡ map g xs
 map_same f g [] h = refl
-map_same f g (x ∷ xs) h = ap (λ w. w ∷ map f xs) (h x (inl refl)) ∙ ap (λ l. g x ∷ l) (map_same f g xs (λ y k. h y (inr k)))
+map_same f g (x ∷ xs) h = ap (λ w. w ∷ map f xs) (h x (inl refl)) ∙ ap (λ l. g x ∷ l)
+    (map_same f g xs (λ y k. h y (inr k)))
 
 pub in_map : {A B : Type 0} (f : A → B) (x : A) (xs : List A) → IsIn x xs → IsIn (f x) (map f xs)
 in_map f x [] h = elim h [ ]
 in_map f x (y ∷ xs) (inl e) = inl (ap f e)
 in_map f x (y ∷ xs) (inr h) = inr (in_map f x xs h)
 
-pub from_map : {A B : Type 0} (f : A → B) (z : B) (xs : List A) → IsIn z (map f xs) → (x : A) × IsIn x xs × (f x ≡ z)
+pub from_map : {A B : Type 0} (f : A → B) (z : B) (xs : List A) → IsIn z (map f xs) → (x : A) × IsIn x xs ×
+    (f x ≡ z)
 from_map f z [] h = elim h [ ]
 from_map f z (y ∷ xs) (inl e) = (y, inl refl, sym e)
 from_map f z (y ∷ xs) (inr h) = let r = from_map f z xs h in (r.0, inr r.1, r.2)
@@ -62,7 +66,8 @@ length_map f (x ∷ xs) = ap suc (length_map f xs)
 
 pub length_numbers : (n : ℕ) → length (numbers n) ≡ n
 length_numbers zero = refl
-length_numbers (suc n) = length-append (numbers n) (n ∷ []) ∙ ap (λ w. w + length (n ∷ [])) (length_numbers n) ∙ one n
+length_numbers (suc n) = length-append (numbers n) (n ∷ []) ∙ ap (λ w. w + length (n ∷ []))
+    (length_numbers n) ∙ one n
   where
     one : (n : ℕ) → n + length (n ∷ []) ≡ suc n
     one n = omega arith
@@ -73,5 +78,6 @@ at_map_numbers f (suc n) e h =
     let len : length (map f (numbers n)) ≡ n = length_map f (numbers n) ∙ length_numbers n in
     ap (λ l. get_or l e 0) (map_append f (numbers n) (n ∷ [])) ∙ elim (cases_lt e n) [
       | inl l ↦ at_old (map f (numbers n)) (f n) e (omega arith) ∙ at_map_numbers f n e l
-      | inr g ↦ (let q : e ≡ n = omega arith in at_new (map f (numbers n)) (f n) e (q ∙ sym len) ∙ ap f (sym q))
+      | inr g ↦ (let q : e ≡ n = omega arith in at_new (map f (numbers n)) (f n) e (q ∙ sym len)
+          ∙ ap f (sym q))
     ]

@@ -23,25 +23,34 @@ pub bool_cases : (b : Bool) → (b ≡ true) ⊎ (b ≡ false)
 bool_cases true = inl refl
 bool_cases false = inr refl
 
-filter_step : {A : Type 0} (t : A → Bool) (x : A) (xs : List A) (b : Bool) → t x ≡ b → filter t (x ∷ xs) ≡ cond b (x ∷ filter t xs) (filter t xs)
+filter_step : {A : Type 0} (t : A → Bool) (x : A) (xs : List A) (b : Bool) → t x ≡ b →
+    filter t (x ∷ xs) ≡ cond b (x ∷ filter t xs) (filter t xs)
 filter_step t x xs b e = ap (λ v. cond v (x ∷ filter t xs) (filter t xs)) e
 
-pub filter_taken : {A : Type 0} (t : A → Bool) (x : A) (xs : List A) → t x ≡ true → filter t (x ∷ xs) ≡ x ∷ filter t xs
+pub filter_taken : {A : Type 0} (t : A → Bool) (x : A) (xs : List A) → t x ≡ true →
+    filter t (x ∷ xs) ≡ x ∷ filter t xs
 filter_taken t x xs e = filter_step t x xs true e
 
-pub filter_left : {A : Type 0} (t : A → Bool) (x : A) (xs : List A) → t x ≡ false → filter t (x ∷ xs) ≡ filter t xs
+pub filter_left : {A : Type 0} (t : A → Bool) (x : A) (xs : List A) → t x ≡ false →
+    filter t (x ∷ xs) ≡ filter t xs
 filter_left t x xs e = filter_step t x xs false e
 
-pub in_filter : {A : Type 0} (t : A → Bool) (x : A) (xs : List A) → IsIn x xs → t x ≡ true → IsIn x (filter t xs)
+pub in_filter : {A : Type 0} (t : A → Bool) (x : A) (xs : List A) → IsIn x xs → t x ≡ true →
+    IsIn x (filter t xs)
 in_filter t x [] h e = elim h [ ]
 in_filter {A} t x (y ∷ ys) h e = elim (bool_cases (t y)) [
   | inl a ↦ let P : List A → Type 0 = λ l. IsIn x l in subst P (sym (filter_taken t y ys a))
       (elim h [ inl r ↦ inl r | inr r ↦ inr (in_filter t x ys r e) ])
   | inr a ↦ let P : List A → Type 0 = λ l. IsIn x l in subst P (sym (filter_left t y ys a))
-      (elim h [ inl r ↦ absurd (let bad : true ≡ false = sym e ∙ ap t r ∙ a in cc) | inr r ↦ in_filter t x ys r e ])
+      (elim h [
+        | inl r ↦ absurd (let bad : true ≡ false = sym e ∙ ap t r ∙ a in cc)
+        | inr r ↦
+            in_filter t x ys r e
+      ])
 ]
 
-pub from_filter : {A : Type 0} (t : A → Bool) (x : A) (xs : List A) → IsIn x (filter t xs) → IsIn x xs × (t x ≡ true)
+pub from_filter : {A : Type 0} (t : A → Bool) (x : A) (xs : List A) → IsIn x (filter t xs) →
+    IsIn x xs × (t x ≡ true)
 from_filter t x [] h = elim h [ ]
 from_filter {A} t x (y ∷ ys) h = elim (bool_cases (t y)) [
   | inl a ↦ (let P : List A → Type 0 = λ l. IsIn x l in
@@ -53,16 +62,19 @@ from_filter {A} t x (y ∷ ys) h = elim (bool_cases (t y)) [
       let r = from_filter t x ys (subst P (filter_left t y ys a) h) in (inr r.0, r.1))
 ]
 
-pub filter_ascending : {A : Type 0} (R : A → A → Type 0) (t : A → Bool) (xs : List A) → IsAscending R xs → IsAscending R (filter t xs)
+pub filter_ascending : {A : Type 0} (R : A → A → Type 0) (t : A → Bool) (xs : List A) → IsAscending R xs →
+    IsAscending R (filter t xs)
 filter_ascending R t [] s = tt
 filter_ascending {A} R t (y ∷ ys) s = elim (bool_cases (t y)) [
   | inl a ↦ let P : List A → Type 0 = λ l. IsAscending R l in subst P (sym (filter_taken t y ys a))
       ((λ z h. s.0 z (from_filter t z ys h).0), filter_ascending R t ys s.1)
-  | inr a ↦ let P : List A → Type 0 = λ l. IsAscending R l in subst P (sym (filter_left t y ys a)) (filter_ascending R t ys s.1)
+  | inr a ↦ let P : List A → Type 0 = λ l. IsAscending R l in subst P (sym (filter_left t y ys a))
+      (filter_ascending R t ys s.1)
 ]
 
 -- ascending lists with the same members are equal
-pub same_members : {A : Type 0} (R : A → A → Type 0) → ((x y : A) → R x y → R y x → ⊥) → (xs ys : List A) → IsAscending R xs → IsAscending R ys →
+pub same_members : {A : Type 0} (R : A → A → Type 0) → ((x y : A) → R x y → R y x → ⊥) → (xs ys : List A) →
+    IsAscending R xs → IsAscending R ys →
     ((x : A) → IsIn x xs → IsIn x ys) → ((x : A) → IsIn x ys → IsIn x xs) → xs ≡ ys
 same_members R asym [] [] s t f g = refl
 same_members R asym [] (y ∷ ys) s t f g = absurd (g y (inl refl))
@@ -73,8 +85,16 @@ same_members {A} R asym (x ∷ xs) (y ∷ ys) s t f g =
       | inr h ↦ elim (g y (inl refl)) [ inl e ↦ sym e | inr k ↦ absurd (asym x y (s.0 y k) (t.0 x h)) ]
     ] in
     let rest : xs ≡ ys = same_members R asym xs ys s.1 t.1
-    (λ z h. elim (f z (inr h)) [ inl e ↦ absurd (let P : A → Type 0 = λ w. R x w in let r : R x x = subst P (e ∙ sym same) (s.0 z h) in asym x x r r) | inr k ↦ k ])
-    (λ z h. elim (g z (inr h)) [ inl e ↦ absurd (let P : A → Type 0 = λ w. R y w in let r : R y y = subst P (e ∙ same) (t.0 z h) in asym y y r r) | inr k ↦ k ]) in
+    (λ z h. elim (f z (inr h)) [
+      | inl e ↦ absurd (let P : A → Type 0 = λ w. R x w in
+          let r : R x x = subst P (e ∙ sym same) (s.0 z h) in asym x x r r)
+      | inr k ↦ k
+    ])
+    (λ z h. elim (g z (inr h)) [
+      | inl e ↦ absurd (let P : A → Type 0 = λ w. R y w in
+          let r : R y y = subst P (e ∙ same) (t.0 z h) in asym y y r r)
+      | inr k ↦ k
+    ]) in
     ap (λ w. w ∷ xs) same ∙ ap (λ zs. y ∷ zs) rest
 
 pub not_below_both : (x y : ℕ) → IsBelow x y → IsBelow y x → ⊥
@@ -93,7 +113,11 @@ not_before_both (x ∷ xs) (y ∷ ys) (inr h) (inr k) = not_before_both xs ys h.
 
 pub in_numbers : (n x : ℕ) → x < n → IsIn x (numbers n)
 in_numbers zero x h = absurd (omega arith)
-in_numbers (suc n) x h = elim (lt_or_same x n h) [ inl l ↦ in_left x (numbers n) (n ∷ []) (in_numbers n x l) | inr e ↦ in_right x (numbers n) (n ∷ []) (inl e) ]
+in_numbers (suc n) x h = elim (lt_or_same x n h) [
+  | inl l ↦ in_left x (numbers n) (n ∷ [])
+      (in_numbers n x l)
+  | inr e ↦ in_right x (numbers n) (n ∷ []) (inl e)
+]
   where
     lt_or_same : (x n : ℕ) → x < suc n → (x < n) ⊎ (x ≡ n)
     lt_or_same x n h = elim (cases_lt x n) [ inl l ↦ inl l | inr g ↦ inr (omega arith) ]
@@ -105,8 +129,8 @@ from_numbers (suc n) x h = elim (in_append x (numbers n) (n ∷ []) h) [
   | inr k ↦ elim k [ inl e ↦ omega arith | inr b ↦ absurd b ]
 ]
 
-pub ascending_append : {A : Type 0} (R : A → A → Type 0) (xs ys : List A) → IsAscending R xs → IsAscending R ys →
-    ((x y : A) → IsIn x xs → IsIn y ys → R x y) → IsAscending R (xs ++ ys)
+pub ascending_append : {A : Type 0} (R : A → A → Type 0) (xs ys : List A) → IsAscending R xs →
+    IsAscending R ys → ((x y : A) → IsIn x xs → IsIn y ys → R x y) → IsAscending R (xs ++ ys)
 ascending_append R [] ys s t h = t
 ascending_append R (x ∷ xs) ys s t h = (
   (λ z k. elim (in_append z xs ys k) [ inl a ↦ s.0 z a | inr b ↦ h x z (inl refl) b ]),
@@ -119,14 +143,17 @@ numbers_ascending (suc n) =
     ascending_append IsBelow (numbers n) (n ∷ []) (numbers_ascending n) ((λ y b. absurd b), tt)
     (λ x y h k. elim k [ inl e ↦ (let l = from_numbers n x h in omega arith) | inr b ↦ absurd b ])
 
-pub filter_push : {A : Type 0} (t : A → Bool) (xs : List A) (x : A) → t x ≡ true → filter t (xs ++ x ∷ []) ≡ filter t xs ++ x ∷ []
+pub filter_push : {A : Type 0} (t : A → Bool) (xs : List A) (x : A) → t x ≡ true → filter t (xs ++ x ∷ [])
+    ≡ filter t xs ++ x ∷ []
 filter_push t [] x e = filter_taken t x [] e
 filter_push t (y ∷ xs) x e = let r = filter_push t xs x e in elim (bool_cases (t y)) [
-  | inl a ↦ filter_taken t y (xs ++ x ∷ []) a ∙ ap (λ l. y ∷ l) r ∙ sym (ap (λ l. l ++ x ∷ []) (filter_taken t y xs a))
+  | inl a ↦ filter_taken t y (xs ++ x ∷ []) a ∙ ap (λ l. y ∷ l) r
+      ∙ sym (ap (λ l. l ++ x ∷ []) (filter_taken t y xs a))
   | inr a ↦ filter_left t y (xs ++ x ∷ []) a ∙ r ∙ sym (ap (λ l. l ++ x ∷ []) (filter_left t y xs a))
 ]
 
-pub filter_skip : {A : Type 0} (t : A → Bool) (xs : List A) (x : A) → t x ≡ false → filter t (xs ++ x ∷ []) ≡ filter t xs
+pub filter_skip : {A : Type 0} (t : A → Bool) (xs : List A) (x : A) → t x ≡ false → filter t (xs ++ x ∷ [])
+    ≡ filter t xs
 filter_skip t [] x e = filter_left t x [] e
 filter_skip t (y ∷ xs) x e = let r = filter_skip t xs x e in elim (bool_cases (t y)) [
   | inl a ↦ filter_taken t y (xs ++ x ∷ []) a ∙ ap (λ l. y ∷ l) r ∙ sym (filter_taken t y xs a)

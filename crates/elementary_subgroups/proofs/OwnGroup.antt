@@ -82,7 +82,8 @@ zero_embed_from : {G : GroupTable} → HasGroupLaw G → 0 < G.p → (bs : List 
 zero_embed_from L z [] = refl
 zero_embed_from {G} L z (b ∷ bs) =
     ap (λ w. product G (power G b w) (embed G bs (0 / G.p))) (zero_digits G.p z).0
-    ∙ ap (λ w. product G 0 (embed G bs w)) (zero_digits G.p z).1 ∙ ap (λ w. product G 0 w) (zero_embed_from L z bs) ∙ L.law.one-mul 0 L.law.some
+    ∙ ap (λ w. product G 0 (embed G bs w)) (zero_digits G.p z).1 ∙ ap (λ w. product G 0 w)
+    (zero_embed_from L z bs) ∙ L.law.one-mul 0 L.law.some
 
 below_power : (p k : ℕ) → 1 < p → k < p ^ k
 below_power p zero h = rw (pow-zero p) (omega arith)
@@ -94,7 +95,8 @@ below_power p (suc k) h = let r = below_power p k h in rw (pow-suc p k) (twice (
 positive : (p k : ℕ) → 1 < p → 0 < p ^ k
 positive p k h = let r = below_power p k h in omega (arith, r)
 
-differ_map : (f : ℕ → ℕ) (xs : List ℕ) → IsSet xs → ((x y : ℕ) → IsIn x xs → IsIn y xs → f x ≡ f y → x ≡ y) → IsAscending Differs (map f xs)
+differ_map : (f : ℕ → ℕ) (xs : List ℕ) → IsSet xs → ((x y : ℕ) → IsIn x xs → IsIn y xs → f x ≡ f y →
+    x ≡ y) → IsAscending Differs (map f xs)
 differ_map f [] s h = tt
 differ_map f (x ∷ xs) s h = (
   (λ y k e. let r = from_map f y xs k in
@@ -104,10 +106,11 @@ differ_map f (x ∷ xs) s h = (
 )
 
 -- the numbers of the subgroup are the elements of its own group
-pub images-own_order : {G : GroupTable} (s : NumberedSubgroup) (E : GroupTable) → IsNumbered G s → IsOwnGroup G s E →
-    length s.images ≡ order E
+pub images-own_order : {G : GroupTable} (s : NumberedSubgroup) (E : GroupTable) → IsNumbered G s →
+    IsOwnGroup G s E → length s.images ≡ order E
 images-own_order {G} s E N O =
-    images_length s N ∙ ap (λ w. w ^ length s.basis) (sym O.same_prime) ∙ ap (λ w. E.p ^ w) (sym O.rank_is) ∙ sym (order_is E)
+    images_length s N ∙ ap (λ w. w ^ length s.basis) (sym O.same_prime) ∙ ap (λ w. E.p ^ w) (sym O.rank_is)
+    ∙ sym (order_is E)
 
 module _ {G : GroupTable} (L : HasGroupLaw G) (q : Prime) (pe : G.p ≡ prime_value q) (z : 1 < G.p)
     (s : NumberedSubgroup) (S : IsSubgroupOf G s) where
@@ -172,7 +175,8 @@ module _ {G : GroupTable} (L : HasGroupLaw G) (q : Prime) (pe : G.p ≡ prime_va
       differ_map (embed G s.basis) (numbers n) (numbers_ascending n)
       (λ x y h k. facts.one_to_one x y (from_numbers n x h) (from_numbers n y k)) in
       let m = at_most (order G) (numbering G s.basis) d (numbering_elements L s.basis elements) in
-      let l : length (numbering G s.basis) ≡ n = length_map (embed G s.basis) (numbers n) ∙ length_numbers n in
+      let l : length (numbering G s.basis) ≡ n = length_map (embed G s.basis) (numbers n)
+      ∙ length_numbers n in
       omega (arith, m, l)
 
   pub own_rank : length s.basis < size G s.basis

@@ -26,11 +26,15 @@ elements_of : {G : GroupTable} (bs : List ℕ) → IsIndependentKind G bs → Ar
 elements_of bs K x h = (K.torsion x h).element
 
 tail_kind : {G : GroupTable} (b : ℕ) (bs : List ℕ) → IsIndependentKind G (b ∷ bs) → IsIndependentKind G bs
-tail_kind b bs K = record { torsion = λ x h. K.torsion x (inr h); commutes = λ x y h k. K.commutes x y (inr h) (inr k) }
+tail_kind b bs K = record {
+  torsion = λ x h. K.torsion x (inr h);
+  commutes = λ x y h k. K.commutes x y
+      (inr h) (inr k);
+}
 
 -- what commutes with the members commutes with their products
-pub embed_commutes : {G : GroupTable} → HasGroupLaw G → (bs : List ℕ) (e x : ℕ) → AreElements G bs → x < order G → ((b : ℕ) → IsIn b bs → Commutes G b x) →
-    Commutes G (embed G bs e) x
+pub embed_commutes : {G : GroupTable} → HasGroupLaw G → (bs : List ℕ) (e x : ℕ) → AreElements G bs →
+    x < order G → ((b : ℕ) → IsIn b bs → Commutes G b x) → Commutes G (embed G bs e) x
 embed_commutes L [] e x h i c = L.law.one-mul x i ∙ sym (L.law.mul-one x i)
 embed_commutes {G} L (b ∷ bs) e x h i c =
     let B = power G b (e % G.p) in
@@ -38,8 +42,10 @@ embed_commutes {G} L (b ∷ bs) e x h i c =
     let bb = h b (inl refl) in
     let iB = power_below L b (e % G.p) bb in
     let iU = embed_below L bs (e / G.p) (λ y k. h y (inr k)) in
-    L.law.mul-assoc B U x iB iU i ∙ ap (λ w. product G B w) (embed_commutes L bs (e / G.p) x (λ y k. h y (inr k)) i (λ y k. c y (inr k)))
-    ∙ sym (L.law.mul-assoc B x U iB i iU) ∙ ap (λ w. product G w U) (commutes_power L b x (e % G.p) bb i (c b (inl refl))) ∙ L.law.mul-assoc x B U i iB iU
+    L.law.mul-assoc B U x iB iU i ∙ ap (λ w. product G B w) (embed_commutes L bs (e / G.p) x
+    (λ y k. h y (inr k)) i (λ y k. c y (inr k)))
+    ∙ sym (L.law.mul-assoc B x U iB i iU) ∙ ap (λ w. product G w U) (commutes_power L b x (e % G.p) bb i
+    (c b (inl refl))) ∙ L.law.mul-assoc x B U i iB iU
 
 -- the sum of r digits has r digits
 pub digit_sum-below : (p r a b : ℕ) → 0 < p → digit_sum p r a b < p ^ r
@@ -52,8 +58,8 @@ digit_sum-below p (suc r) a b z =
     digit r s p d a b = grind arith
 
 -- the element with the sum of the digits is the product of the elements
-pub embed-digit_sum : {G : GroupTable} → HasGroupLaw G → 0 < G.p → (bs : List ℕ) → IsIndependentKind G bs → (e f : ℕ) →
-    embed G bs (digit_sum G.p (length bs) e f) ≡ product G (embed G bs e) (embed G bs f)
+pub embed-digit_sum : {G : GroupTable} → HasGroupLaw G → 0 < G.p → (bs : List ℕ) → IsIndependentKind G bs →
+    (e f : ℕ) → embed G bs (digit_sum G.p (length bs) e f) ≡ product G (embed G bs e) (embed G bs f)
 embed-digit_sum {G} L z [] K e f = sym (L.law.one-mul 0 L.law.some)
 embed-digit_sum {G} L z (b ∷ bs) K e f =
     let p = G.p in
@@ -79,11 +85,13 @@ embed-digit_sum {G} L z (b ∷ bs) K e f =
     ∙ ap (λ w. product G (product G A C) w) (embed-digit_sum L z bs (tail_kind b bs K) (e / p) (f / p))
     ∙ L.law.mul-assoc A C (product G U V) iA iC (L.law.closed U V iU iV)
     ∙ ap (λ w. product G A w)
-    (sym (L.law.mul-assoc C U V iC iU iV) ∙ ap (λ w. product G w V) (sym cross) ∙ L.law.mul-assoc U C V iU iC iV)
+    (sym (L.law.mul-assoc C U V iC iU iV) ∙ ap (λ w. product G w V) (sym cross)
+    ∙ L.law.mul-assoc U C V iU iC iV)
     ∙ sym (L.law.mul-assoc A U (product G C V) iA iU (L.law.closed C V iC iV))
 
 -- products of generated elements are generated
-pub generated_product : {G : GroupTable} → HasGroupLaw G → 0 < G.p → (bs : List ℕ) → IsIndependentKind G bs → (e f : ℕ) →
+pub generated_product : {G : GroupTable} → HasGroupLaw G → 0 < G.p → (bs : List ℕ) →
+    IsIndependentKind G bs → (e f : ℕ) →
     (h : ℕ) × (h < size G bs) × (embed G bs h ≡ product G (embed G bs e) (embed G bs f))
 generated_product {G} L z bs K e f = (
   digit_sum G.p (length bs) e f,
@@ -91,8 +99,14 @@ generated_product {G} L z bs K e f = (
   embed-digit_sum L z bs K e f,
 )
 
-pub generated_unit : {G : GroupTable} → HasGroupLaw G → 0 < G.p → (bs : List ℕ) → (h : ℕ) × (h < size G bs) × (embed G bs h ≡ 0)
-generated_unit {G} L z [] = (0, (let o : G.p ^ 0 ≡ 1 = pow-zero G.p in subst (λ w. 0 < w) (sym o) (omega arith)), refl)
+pub generated_unit : {G : GroupTable} → HasGroupLaw G → 0 < G.p → (bs : List ℕ) → (h : ℕ) × (h < size G bs)
+    × (embed G bs h ≡ 0)
+generated_unit {G} L z [] = (
+  0,
+  (let o : G.p ^ 0 ≡ 1 = pow-zero G.p in subst (λ w. 0 < w) (sym o)
+      (omega arith)),
+  refl,
+)
 generated_unit {G} L z (b ∷ bs) =
     let r = generated_unit L z bs in
     let grow : size G (b ∷ bs) ≡ size G bs * G.p = pow-suc G.p (length bs) in (
@@ -106,15 +120,16 @@ generated_unit {G} L z (b ∷ bs) =
     digit : (r s p : ℕ) → r < s → 0 < p → r * p + 0 < s * p
     digit r s p a b = grind arith
 
-pub generated_power : {G : GroupTable} → HasGroupLaw G → 0 < G.p → (bs : List ℕ) → IsIndependentKind G bs → (e t : ℕ) → e < size G bs →
-    (h : ℕ) × (h < size G bs) × (embed G bs h ≡ power G (embed G bs e) t)
+pub generated_power : {G : GroupTable} → HasGroupLaw G → 0 < G.p → (bs : List ℕ) → IsIndependentKind G bs →
+    (e t : ℕ) → e < size G bs → (h : ℕ) × (h < size G bs) × (embed G bs h ≡ power G (embed G bs e) t)
 generated_power L z bs K e zero i = generated_unit L z bs
 generated_power {G} L z bs K e (suc t) i =
     let r = generated_power L z bs K e t i in
     let s = generated_product L z bs K r.0 e in
     (s.0, s.1, s.2 ∙ ap (λ w. product G w (embed G bs e)) r.2)
 
-pub embed_torsion : {G : GroupTable} → HasGroupLaw G → (bs : List ℕ) → IsIndependentKind G bs → (e : ℕ) → IsTorsion G (embed G bs e)
+pub embed_torsion : {G : GroupTable} → HasGroupLaw G → (bs : List ℕ) → IsIndependentKind G bs → (e : ℕ) →
+    IsTorsion G (embed G bs e)
 embed_torsion {G} L [] K e = record { element = L.law.some; power_is = power_of_unit L G.p }
 embed_torsion {G} L (b ∷ bs) K e =
     let t = K.torsion b (inl refl) in
@@ -124,17 +139,20 @@ embed_torsion {G} L (b ∷ bs) K e =
     let u = embed_torsion L bs (tail_kind b bs K) (e / G.p) in
     let tB : IsTorsion G B = record {
       element = iB;
-      power_is = sym (power_mul L b (e % G.p) G.p t.element) ∙ ap (power G b) (swap (e % G.p) G.p) ∙ power_mul L b G.p (e % G.p) t.element
+      power_is = sym (power_mul L b (e % G.p) G.p t.element) ∙ ap (power G b) (swap (e % G.p) G.p)
+          ∙ power_mul L b G.p (e % G.p) t.element
           ∙ ap (λ w. power G w (e % G.p)) t.power_is ∙ power_of_unit L (e % G.p);
     } in
     torsion_product L B U tB u (commutes_power L b U (e % G.p) t.element u.element
-    (sym (embed_commutes L bs (e / G.p) b (elements_of bs (tail_kind b bs K)) t.element (λ y k. K.commutes y b (inr k) (inl refl)))))
+    (sym (embed_commutes L bs (e / G.p) b (elements_of bs (tail_kind b bs K)) t.element
+    (λ y k. K.commutes y b (inr k) (inl refl)))))
   where
     swap : (a b : ℕ) → a * b ≡ b * a
     swap a b = omega arith
 
 -- if a power of x below p is generated, x is
-pub root_generated : {G : GroupTable} → HasGroupLaw G → (q : Prime) → G.p ≡ prime_value q → 0 < G.p → (bs : List ℕ) → IsIndependentKind G bs → (x d : ℕ) → IsTorsion G x →
+pub root_generated : {G : GroupTable} → HasGroupLaw G → (q : Prime) → G.p ≡ prime_value q → 0 < G.p →
+    (bs : List ℕ) → IsIndependentKind G bs → (x d : ℕ) → IsTorsion G x →
     0 < d → d < G.p → IsGenerated G bs (power G x d) → IsGenerated G bs x
 root_generated {G} L q e z bs K x d t a b g =
     let u = unit_modulo q d a (subst (λ w. d < w) e b) in
@@ -142,8 +160,10 @@ root_generated {G} L q e z bs K x d t a b g =
     let n : d * u.0 ≡ G.p * u.1 + 1 = u.2 ∙ ap (λ w. 1 + w * u.1) (sym e) ∙ swap (G.p * u.1) in (
       r.0,
       r.1,
-      r.2 ∙ ap (λ w. power G w u.0) g.2 ∙ sym (power_mul L x d u.0 t.element) ∙ ap (power G x) n ∙ power_add L x (G.p * u.1) 1 t.element
-          ∙ ap (λ w. product G w (power G x 1)) (power_mul L x G.p u.1 t.element ∙ ap (λ w. power G w u.1) t.power_is ∙ power_of_unit L u.1)
+      r.2 ∙ ap (λ w. power G w u.0) g.2 ∙ sym (power_mul L x d u.0 t.element) ∙ ap (power G x) n
+          ∙ power_add L x (G.p * u.1) 1 t.element
+          ∙ ap (λ w. product G w (power G x 1)) (power_mul L x G.p u.1 t.element
+          ∙ ap (λ w. power G w u.1) t.power_is ∙ power_of_unit L u.1)
           ∙ L.law.one-mul (power G x 1) (power_below L x 1 t.element) ∙ L.law.one-mul x t.element,
     )
   where
@@ -151,8 +171,10 @@ root_generated {G} L q e z bs K x d t a b g =
     swap a = omega arith
 
 -- equal products with different powers of x generate x
-pub powers_differ : {G : GroupTable} → HasGroupLaw G → (q : Prime) → G.p ≡ prime_value q → 0 < G.p → (bs : List ℕ) → IsIndependentKind G bs → (x e f k l : ℕ) → IsTorsion G x →
-    e < size G bs → f < size G bs → k < l → l < G.p → product G (embed G bs e) (power G x k) ≡ product G (embed G bs f) (power G x l) → IsGenerated G bs x
+pub powers_differ : {G : GroupTable} → HasGroupLaw G → (q : Prime) → G.p ≡ prime_value q → 0 < G.p →
+    (bs : List ℕ) → IsIndependentKind G bs → (x e f k l : ℕ) → IsTorsion G x →
+    e < size G bs → f < size G bs → k < l → l < G.p → product G (embed G bs e) (power G x k) ≡ product G
+    (embed G bs f) (power G x l) → IsGenerated G bs x
 powers_differ {G} L q pe z bs K x e f k l t i j a b h =
     let d = l - k in
     let Y = embed G bs e in let W = embed G bs f in
@@ -162,11 +184,13 @@ powers_differ {G} L q pe z bs K x e f k l t i j a b h =
     let iXd = power_below L x d t.element in let iXk = power_below L x k t.element in
     let n : l ≡ d + k = omega arith in
     let same : Y ≡ product G W Xd = same_right L Xk Y (product G W Xd) iXk iY (L.law.closed W Xd iW iXd)
-    (h ∙ ap (λ w. product G W w) (ap (power G x) n ∙ power_add L x d k t.element) ∙ sym (L.law.mul-assoc W Xd Xk iW iXd iXk)) in
+    (h ∙ ap (λ w. product G W w) (ap (power G x) n ∙ power_add L x d k t.element)
+    ∙ sym (L.law.mul-assoc W Xd Xk iW iXd iXk)) in
     let V = power G W (G.p - 1) in
     let iV = power_below L W (G.p - 1) iW in
     let one : product G V W ≡ 0 = ap (power G W) (whole G.p z) ∙ tW.power_is in
-    let root : Xd ≡ product G V Y = sym (ap (λ w. product G V w) same ∙ sym (L.law.mul-assoc V W Xd iV iW iXd) ∙ ap (λ w. product G w Xd) one ∙ L.law.one-mul Xd iXd) in
+    let root : Xd ≡ product G V Y = sym (ap (λ w. product G V w) same
+    ∙ sym (L.law.mul-assoc V W Xd iV iW iXd) ∙ ap (λ w. product G w Xd) one ∙ L.law.one-mul Xd iXd) in
     let v = generated_power L z bs K f (G.p - 1) j in
     let r = generated_product L z bs K v.0 e in
     root_generated L q pe z bs K x d t (omega arith) (omega arith)
@@ -179,7 +203,8 @@ abbrev pub IsOneToOne : GroupTable → List ℕ → Type 0
 IsOneToOne G bs = (e f : ℕ) → e < size G bs → f < size G bs → embed G bs e ≡ embed G bs f → e ≡ f
 
 -- with a member that is not generated the numbering stays one to one
-pub one_to_one_push : {G : GroupTable} → HasGroupLaw G → (q : Prime) → G.p ≡ prime_value q → 0 < G.p → (bs : List ℕ) (x : ℕ) → IsIndependentKind G (bs ++ x ∷ []) →
+pub one_to_one_push : {G : GroupTable} → HasGroupLaw G → (q : Prime) → G.p ≡ prime_value q → 0 < G.p →
+    (bs : List ℕ) (x : ℕ) → IsIndependentKind G (bs ++ x ∷ []) →
     ¬ (IsGenerated G bs x) → IsOneToOne G bs → IsOneToOne G (bs ++ x ∷ [])
 one_to_one_push {G} L q pe z bs x K fresh one e f i j h =
     let s = size G bs in
@@ -202,15 +227,18 @@ one_to_one_push {G} L q pe z bs x K fresh one e f i j h =
     ap (embed G (bs ++ x ∷ [])) (sym ee) ∙ embed_push L z bs x e1 k (elements_of bs K1) t.element er ek in
     let pf1 : embed G (bs ++ x ∷ []) f ≡ product G (embed G bs f1) (power G x l) =
     ap (embed G (bs ++ x ∷ [])) (sym fe) ∙ embed_push L z bs x f1 l (elements_of bs K1) t.element fr fl in
-    let eq : product G (embed G bs e1) (power G x k) ≡ product G (embed G bs f1) (power G x l) = sym pe1 ∙ h ∙ pf1 in
+    let eq : product G (embed G bs e1) (power G x k) ≡ product G (embed G bs f1) (power G x l) = sym pe1 ∙ h
+    ∙ pf1 in
     elim (cases_lt k l) [
       | inl a ↦ absurd (fresh (powers_differ L q pe z bs K1 x e1 f1 k l t er fr a fl eq))
       | inr a ↦ elim (cases_lt l k) [
         | inl b ↦ absurd (fresh (powers_differ L q pe z bs K1 x f1 e1 l k t fr er b ek (sym eq)))
         | inr b ↦ (
             let kl : k ≡ l = omega arith in
-            let low : e1 ≡ f1 = one e1 f1 er fr (same_right L (power G x k) (embed G bs e1) (embed G bs f1) (power_below L x k t.element)
-            (embed_below L bs e1 (elements_of bs K1)) (embed_below L bs f1 (elements_of bs K1)) (eq ∙ ap (λ w. product G (embed G bs f1) (power G x w)) (sym kl))) in
+            let low : e1 ≡ f1 = one e1 f1 er fr (same_right L (power G x k) (embed G bs e1) (embed G bs f1)
+            (power_below L x k t.element)
+            (embed_below L bs e1 (elements_of bs K1)) (embed_below L bs f1 (elements_of bs K1))
+            (eq ∙ ap (λ w. product G (embed G bs f1) (power G x w)) (sym kl))) in
             sym ee ∙ ap (λ w. w * s + e1) kl ∙ ap (λ w. l * s + w) low ∙ fe)
       ]
     ]

@@ -17,7 +17,8 @@ entries_of n mul = map (λ k. mul (k / n) (k % n)) (numbers (n * n))
 abbrev pub elementary_group : ℕ → ℕ → GroupTable
 elementary_group p r = record { p = p; n = r; entries = entries_of (p ^ r) (digit_sum p r) }
 
--- the group in which element e stands for its image: the images have the products of G, and are the members once each
+-- the group in which element e stands for its image: the images have the products of G,
+-- and are the members once each
 pub record IsOwnGroup (G : GroupTable) (s : NumberedSubgroup) (E : GroupTable) : Type 0 where
   pub same_prime : E.p ≡ G.p
   pub rank_is : E.n ≡ length s.basis

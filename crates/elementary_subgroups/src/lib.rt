@@ -1,5 +1,5 @@
-//! Elementary abelian subgroups of p-groups: definitions, and the laws that readers can cite. See Quillen, The spectrum of an equivariant
-//! cohomology ring, 1971.
+//! Elementary abelian subgroups of p-groups: definitions, and the laws that readers can cite.
+//! See Quillen, The spectrum of an equivariant cohomology ring, 1971.
 #![tactic(auto)]
 
 ghost use Rattle.std.specs.Prelude.{◌≡◌, ◌<◌, ◌⊎◌, ℕ, List, Some, length, slice_get, slice_index};
@@ -13,8 +13,8 @@ ghost use Rattle.elementary_subgroups.specs.Subgroups.{IsConjugate, IsMaximalEle
 
 /// Each maximal elementary abelian subgroup is conjugate to exactly one of the list.
 pub fn each_class_is_listed_once()
-    ensures { (G : GroupTable) (ms : List (List ℕ)) (m : List ℕ) → IsGroupTable G → IsMaximalElementaryList G ms
-        → IsMaximalElementary G m → (l : List ℕ) × IsOnlyConjugate G m ms l }
+    ensures { (G : GroupTable) (ms : List (List ℕ)) (m : List ℕ) → IsGroupTable G
+        → IsMaximalElementaryList G ms → IsMaximalElementary G m → (l : List ℕ) × IsOnlyConjugate G m ms l }
 {}
 
 /// A listed subgroup comes before each of its other conjugates.
@@ -25,12 +25,14 @@ pub fn listed_are_least()
 
 /// There is one list of maximal elementary abelian subgroups.
 pub fn list_is_one()
-    ensures { (G : GroupTable) (ms ns : List (List ℕ)) → IsMaximalElementaryList G ms → IsMaximalElementaryList G ns → ms ≡ ns }
+    ensures { (G : GroupTable) (ms ns : List (List ℕ)) → IsMaximalElementaryList G ms
+        → IsMaximalElementaryList G ns → ms ≡ ns }
 {}
 
 /// There is one list of numbered subgroups: basis, members and numbering.
 pub fn numbered_list_is_one()
-    ensures { (G : GroupTable) (ss ts : List NumberedSubgroup) → IsSubgroupList G ss → IsSubgroupList G ts → ss ≡ ts }
+    ensures { (G : GroupTable) (ss ts : List NumberedSubgroup) → IsSubgroupList G ss
+        → IsSubgroupList G ts → ss ≡ ts }
 {}
 
 /// What stands at a place of the list is a subgroup with its numbering.
@@ -41,18 +43,21 @@ pub fn listed_are_subgroups()
 
 /// A set has one greedy basis.
 pub fn basis_is_one()
-    ensures { (G : GroupTable) (members basis other : List ℕ) → IsBasis G members basis → IsBasis G members other → basis ≡ other }
+    ensures { (G : GroupTable) (members basis other : List ℕ) → IsBasis G members basis
+        → IsBasis G members other → basis ≡ other }
 {}
 
-/// There are p^s numbers, and the element at place e is the product of the basis members with the digits of e as exponents.
+/// There are p^s numbers, and the element at place e is the product of the basis members with the digits of e
+/// as exponents.
 pub fn images_are_products()
     ensures { (G : GroupTable) (s : NumberedSubgroup) → IsNumbered G s → (length s.images ≡ size G s.basis)
         × ((e : ℕ) → e < size G s.basis → slice_index s.images e ≡ embed G s.basis e) }
 {}
 
-/// The elementary abelian group of the same rank is the subgroup's group in its own numbering, and `embed` is a homomorphism from it, one to
-/// one onto the members. So subgroups of one rank share one table.
+/// The elementary abelian group of the same rank is the subgroup's group in its own numbering: `embed` is a
+/// homomorphism from it, one to one onto the members. So subgroups of one rank share one table.
 pub fn own_group()
-    ensures { (G : GroupTable) (s : NumberedSubgroup) (q : Prime) → IsGroupTable G → G.p ≡ prime_value q → IsSubgroupOf G s
-        → IsGroupTable (elementary_group G.p (length s.basis)) × IsOwnGroup G s (elementary_group G.p (length s.basis)) }
+    ensures { (G : GroupTable) (s : NumberedSubgroup) (q : Prime) → IsGroupTable G → G.p ≡ prime_value q
+        → IsSubgroupOf G s → IsGroupTable (elementary_group G.p (length s.basis))
+        × IsOwnGroup G s (elementary_group G.p (length s.basis)) }
 {}

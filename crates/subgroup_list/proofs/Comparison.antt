@@ -51,7 +51,11 @@ before_by x (a ∷ m) (b ∷ l) s t f g h n w = elim (cases_lt a b) [
     equal : IsIn x (a ∷ m) → b ≤ a → a ≡ b
     equal hx le =
         let ax = a_le_x hx in
-        let bx : b < x = elim (cases_lt b x) [ inl r ↦ r | inr r ↦ (let q : x ≡ b = omega arith in absurd (n (inl q))) ] in
+        let bx : b < x = elim (cases_lt b x) [
+          | inl r ↦ r
+          | inr r ↦ (let q : x ≡ b = omega arith in
+              absurd (n (inl q)))
+        ] in
         let ab : a ≤ b = b_above (g b bx (inl refl)) in
         omega arith
 
@@ -59,7 +63,8 @@ before_by x (a ∷ m) (b ∷ l) s t f g h n w = elim (cases_lt a b) [
 abbrev pub AgreeBelow : GroupTable → ℕ → ℕ → List ℕ → ℕ → Type 0
 AgreeBelow G g i m x = (k : ℕ) → k < x → IsIn k m ↔ IsIn (product G (product G g k) i) m
 
-module _ {G : GroupTable} (L : HasGroupLaw G) (g i : ℕ) (m l : List ℕ) (a : g < order G) (b : i < order G) (e : product G i g ≡ 0)
+module _ {G : GroupTable} (L : HasGroupLaw G) (g i : ℕ) (m l : List ℕ) (a : g < order G) (b : i < order G)
+    (e : product G i g ≡ 0)
     (F : IsFull G m) (C : IsConjugateBy G g m l) (x : ℕ) (z : x ≤ order G) (A : AgreeBelow G g i m x) where
   there : (k : ℕ) → k < x → IsIn k m → IsIn k l
   there k r h = conjugate_from L g i m l a b e C k (omega arith) ((A k r).0 h)
@@ -74,11 +79,13 @@ module _ {G : GroupTable} (L : HasGroupLaw G) (g i : ℕ) (m l : List ℕ) (a : 
   not_part n s = n ((maximal_from_full L l l_full).maximal m (maximal_from_full L m F).elementary s)
 
   not_part_back : ¬ (m ≡ l) → IsSubset m l → ⊥
-  not_part_back n s = n (sym ((maximal_from_full L m F).maximal l (maximal_from_full L l l_full).elementary s))
+  not_part_back n s = n
+      (sym ((maximal_from_full L m F).maximal l (maximal_from_full L l l_full).elementary s))
 
   pub before_here : x < order G → IsIn x m → (IsIn (product G (product G g x) i) m → ⊥) → IsBefore m l
   before_here xo h n =
-      let no_l : IsIn x l → ⊥ = λ k. n (conjugate_to L g i m l a b e (λ y h. (F.torsion y h).element) C x k) in
+      let no_l : IsIn x l →
+      ⊥ = λ k. n (conjugate_to L g i m l a b e (λ y h. (F.torsion y h).element) C x k) in
       before_by x m l F.is_set C.is_set there here h no_l
       (not_part (λ q. let P : List ℕ → Type 0 = λ w. IsIn x w in no_l (subst P q h)))
 
@@ -89,24 +96,27 @@ module _ {G : GroupTable} (L : HasGroupLaw G) (g i : ℕ) (m l : List ℕ) (a : 
       (not_part_back (λ q. let P : List ℕ → Type 0 = λ w. IsIn x w in n (subst P (sym q) in_l)))
 
   pub agree_all : order G ≤ x → m ≡ l
-  agree_all o = same_set m l F.is_set C.is_set (λ y h. there y (let r : y < order G = (F.torsion y h).element in omega arith) h)
+  agree_all o = same_set m l F.is_set C.is_set
+      (λ y h. there y (let r : y < order G = (F.torsion y h).element in omega arith) h)
       (λ y h. here y (let r : y < order G = C.elements y h in omega arith) h)
 
 pub not_before_self : (xs : List ℕ) → IsBefore xs xs → ⊥
 not_before_self xs h = not_before_both xs xs h h
 
 -- a set that has a conjugate before it is not least
-pub not_least : {G : GroupTable} → HasGroupLaw G → (g : ℕ) (m : List ℕ) → g < order G → ((x : ℕ) → IsIn x m → x < order G) →
+pub not_least : {G : GroupTable} → HasGroupLaw G → (g : ℕ) (m : List ℕ) → g < order G →
+    ((x : ℕ) → IsIn x m → x < order G) →
     ((l : List ℕ) → IsConjugateBy G g m l → IsBefore l m) → IsLeast G m → ⊥
 not_least {G} L g m i below h l = let C = conjugate_exists L g m i below in
     elim (l C.0 (g, i, C.1)) [
-      | inl e ↦ (let P : List ℕ → Type 0 = λ w. IsBefore w m in not_before_self m (subst P (sym e) (h C.0 C.1)))
+      | inl e ↦ (let P : List ℕ → Type 0 = λ w. IsBefore w m in
+          not_before_self m (subst P (sym e) (h C.0 C.1)))
       | inr b ↦ not_before_both m C.0 b (h C.0 C.1)
     ]
 
 -- a set into which conjugation takes its members is its own conjugate
-pub kept_same : {G : GroupTable} → HasGroupLaw G → (g : ℕ) (m l : List ℕ) → g < order G → IsFull G m → IsConjugateBy G g m l →
-    ((x : ℕ) → IsIn x m → (y : ℕ) × IsIn y m × Carries G g x y) → m ≡ l
+pub kept_same : {G : GroupTable} → HasGroupLaw G → (g : ℕ) (m l : List ℕ) → g < order G → IsFull G m →
+    IsConjugateBy G g m l → ((x : ℕ) → IsIn x m → (y : ℕ) × IsIn y m × Carries G g x y) → m ≡ l
 kept_same {G} L g m l i F C k =
     (maximal_from_full L l (conjugate_full L g m l i F C)).maximal m (maximal_from_full L m F).elementary
     (λ y h. let r = C.comes y h in let s = k r.0 r.1 in

@@ -38,12 +38,15 @@ step_small p (suc r) h z i =
     smaller s p a b = grind arith
 
 -- what the code makes from the prime, the rank and the entries
-pub made_is : (p n r : ℕ) (q : ℕ) (entries : List ℕ) → p ≡ q → n ≡ r → entries ≡ (elementary_group p n).entries →
+pub made_is : (p n r : ℕ) (q : ℕ) (entries : List ℕ) → p ≡ q → n ≡ r →
+    entries ≡ (elementary_group p n).entries →
     record { p = p; n = n; entries = entries } ≡ elementary_group q r
 made_is p n r q entries e f g =
-    ap (λ l. record { p = p; n = n; entries = l }) g ∙ ap (λ w. elementary_group w n) e ∙ ap (λ w. elementary_group q w) f
+    ap (λ l. record { p = p; n = n; entries = l }) g ∙ ap (λ w. elementary_group w n) e
+    ∙ ap (λ w. elementary_group q w) f
 
-module _ (G : GroupTable) (L : IsGroupTable G) (q : Prime) (e : prime_value q ≡ G.p) (s : NumberedSubgroup) (S : IsSubgroupOf G s) where
+module _ (G : GroupTable) (L : IsGroupTable G) (q : Prime) (e : prime_value q ≡ G.p) (s : NumberedSubgroup)
+    (S : IsSubgroupOf G s) where
   above : 1 < G.p
   above = subst (λ w. 1 < w) e (above_one q)
 

@@ -30,27 +30,42 @@ set_is_sublist (y ∷ ys) (x ∷ xs) s t f = elim (f y (inl refl)) [
     ys,
     ap (λ w. w ∷ ys) e,
     set_is_sublist ys xs s.1 t.1
-        (λ z h. elim (f z (inr h)) [ inl k ↦ absurd (let l : IsBelow y z = s.0 z h in let l2 : y < z = l in omega arith) | inr k ↦ k ]),
+        (λ z h. elim (f z (inr h)) [
+          | inl k ↦ absurd (let l : IsBelow y z = s.0 z h in let l2 : y < z = l in
+              omega arith)
+          | inr k ↦ k
+        ]),
   )
   | inr g ↦ inr (set_is_sublist (y ∷ ys) xs s t.1
       (λ z h. elim (f z h) [
-        | inl k ↦ absurd (let l : x < y = t.0 y g in elim h [ inl m ↦ omega arith | inr m ↦ (let l2 : y < z = s.0 z m in omega arith) ])
+        | inl k ↦ absurd (let l : x < y = t.0 y g in
+            elim h [ inl m ↦ omega arith | inr m ↦ (let l2 : y < z = s.0 z m in omega arith) ])
         | inr k ↦ k
       ]))
 ]
 
 -- where all taken ones pass the test, the ones that fail can be left out first
-pub sublist_filter : (t : ℕ → Bool) (ys xs : List ℕ) → IsSublist ys xs → ((y : ℕ) → IsIn y ys → t y ≡ true) → IsSublist ys (filter t xs)
+pub sublist_filter : (t : ℕ → Bool) (ys xs : List ℕ) → IsSublist ys xs →
+    ((y : ℕ) → IsIn y ys → t y ≡ true) → IsSublist ys (filter t xs)
 sublist_filter t ys [] e f = e
 sublist_filter t ys (x ∷ xs) (inl s) f =
     let e : t x ≡ true = f x (let P : List ℕ → Type 0 = λ l. IsIn x l in subst P (sym s.1) (inl refl)) in
     let P : List ℕ → Type 0 = λ l. IsSublist ys l in
     subst P (sym (filter_taken t x xs e))
-    (inl (s.0, s.1, sublist_filter t s.0 xs s.2 (λ y h. f y (let Q : List ℕ → Type 0 = λ l. IsIn y l in subst Q (sym s.1) (inr h)))))
+    (inl (
+      s.0,
+      s.1,
+      sublist_filter t s.0 xs s.2 (λ y h. f y (let Q : List ℕ → Type 0 = λ l. IsIn y l in
+          subst Q (sym s.1) (inr h))),
+    ))
 sublist_filter t ys (x ∷ xs) (inr s) f =
     let r = sublist_filter t ys xs s f in
     let P : List ℕ → Type 0 = λ l. IsSublist ys l in
-    elim (bool_cases (t x)) [ inl e ↦ subst P (sym (filter_taken t x xs e)) (inr r) | inr e ↦ subst P (sym (filter_left t x xs e)) r ]
+    elim (bool_cases (t x)) [
+      | inl e ↦ subst P (sym (filter_taken t x xs e)) (inr r)
+      | inr e ↦ subst P
+          (sym (filter_left t x xs e)) r
+    ]
 
 -- what the test lets through is a sublist
 pub filter_sublist : (t : ℕ → Bool) (ys xs : List ℕ) → IsSublist ys (filter t xs) → IsSublist ys xs
@@ -87,5 +102,6 @@ ascending_across (z ∷ xs) ys s x y (inr h) k = ascending_across xs ys s.1 x y 
 -- a shorter end
 pub ascending_end : (xs ys zs : List ℕ) → IsSet (xs ++ ys) → IsSublist zs ys → IsSet (xs ++ zs)
 ascending_end xs ys zs s t =
-    ascending_append IsBelow xs zs (ascending_left xs ys s) (sublist_ascending zs ys t (ascending_right xs ys s))
+    ascending_append IsBelow xs zs (ascending_left xs ys s) (sublist_ascending zs ys t
+    (ascending_right xs ys s))
     (λ x y h k. ascending_across xs ys s x y h (sublist_in zs ys t y k))

@@ -10,7 +10,8 @@ abbrev pub IsSublist : List ℕ → List ℕ → Type 0
 IsSublist ys [] = ys ≡ []
 IsSublist ys (x ∷ xs) = ((zs : List ℕ) × (ys ≡ x ∷ zs) × IsSublist zs xs) ⊎ IsSublist ys xs
 
--- a place of the search: the chosen elements commute, the others commute with them, and every element that does is one of the three
+-- a place of the search: the chosen elements commute, the others commute with them,
+-- and every element that does is one of the three
 pub record IsPlace (G : GroupTable) (chosen free barred : List ℕ) : Type 0 where
   pub is_set : IsSet (chosen ++ free)
   pub torsion : (x : ℕ) → IsIn x chosen → IsTorsion G x
@@ -26,8 +27,8 @@ pub record IsPlace (G : GroupTable) (chosen free barred : List ℕ) : Type 0 whe
 pub record IsFound (G : GroupTable) (chosen free : List ℕ) (ms : List (List ℕ)) : Type 0 where
   pub each : (m : List ℕ) → IsIn m ms →
       (more : List ℕ) × (m ≡ chosen ++ more) × IsSublist more free × IsFull G m × IsLeast G m
-  pub complete : (more : List ℕ) → IsSublist more free → IsFull G (chosen ++ more) → IsLeast G (chosen ++ more) →
-      IsIn (chosen ++ more) ms
+  pub complete : (more : List ℕ) → IsSublist more free → IsFull G (chosen ++ more) →
+      IsLeast G (chosen ++ more) → IsIn (chosen ++ more) ms
   pub ascending : IsAscending IsBefore ms
 
 -- the full set alone, or nothing where it is not least in its class

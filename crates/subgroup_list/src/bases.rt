@@ -61,7 +61,8 @@ fn spread_by(alloc: Global, g: &Group, p: u32, ys: &[u16], x: u16) -> Result<Vec
 fn push_products(g: &Group, ys: &[u16], x: u16, products: &mut Vec<u16>) -> Result<(), AllocError>
     requires elements { AreElements g.now ys.now }
     requires element { x < order g.now }
-    ensures { IfOk result (λ _. products.new.items ≡ products.old.items ++ map (λ y. product g.now y x) ys.now) }
+    ensures { IfOk result (λ _.
+        products.new.items ≡ products.old.items ++ map (λ y. product g.now y x) ys.now) }
 {
     for y in ys {
         products.push(g.mul(*y, x))?;

@@ -38,7 +38,8 @@ fn keeps(g: &Group, m: &[u16], by: u16) -> bool
     true
 }
 
-// Whether the conjugate by an element comes before the set: at the first number that only one of them has, it is the conjugate's.
+// Whether the conjugate by an element comes before the set: at the first number that only one of them has, it
+// is the conjugate's.
 fn conjugate_comes_before(g: &Group, m: &[u16], by: u16) -> bool
     requires full { IsFull g.now m.now }
     requires element { by < order g.now }

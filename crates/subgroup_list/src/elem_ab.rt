@@ -9,7 +9,8 @@ use group_table::{Group, Memory};
 use std::alloc::Global;
 use std::marker::Model;
 
-/// An elementary abelian subgroup of rank s: its basis, its members in ascending order, and its elements by their numbers below p^s.
+/// An elementary abelian subgroup of rank s: its basis, its members in ascending order, and its elements by
+/// their numbers below p^s.
 #[derive(Debug, Drop)]
 pub struct ElemAb {
     basis: Vec<u16>,
@@ -22,7 +23,8 @@ impl Model for ElemAb {
 
     ghost Value = { NumberedSubgroup };
 
-    ghost view = { λ s. record { basis = s.basis.items; members = s.members.items; images = s.images.items } };
+    ghost view = { λ s.
+        record { basis = s.basis.items; members = s.members.items; images = s.images.items } };
 }
 
 impl ElemAb {
@@ -66,8 +68,8 @@ impl ElemAb {
         self.members[i]
     }
 
-    /// The element of the large group with the number e = e_1 + e_2 p + .. in the subgroup: the product of the basis members with the
-    /// exponents e_1, e_2 and so on.
+    /// The element of the large group with the number e = e_1 + e_2 p + .. in the subgroup: the product of
+    /// the basis members with the exponents e_1, e_2 and so on.
     pub fn embed(&self, e: u16) -> u16
         requires { e < length self.now.images }
         ensures { result ≡ slice_index self.now.images e }
@@ -75,7 +77,8 @@ impl ElemAb {
         self.images[e as usize]
     }
 
-    /// The subgroup of g as a group of its own, in its own numbering. Its table depends on p and the rank alone.
+    /// The subgroup of g as a group of its own, in its own numbering. Its table depends on p and the rank
+    /// alone.
     pub fn group(&self, alloc: Global, g: &Group) -> Result<Group, Memory>
         requires { IsSubgroupOf g.now self.now }
         ensures table { IfOk result (λ e. e ≡ elementary_group g.now.p (length self.now.basis)) }

@@ -13,12 +13,7 @@ use std::alloc::{AllocError, Global};
 pub(crate) fn has(xs: &[u16], x: u16) -> bool
     ensures { IsTrue result ↔ IsIn x xs.now }
 {
-    for y in xs {
-        if *y == x {
-            return true;
-        }
-    }
-    false
+    xs.contains(&x)
 }
 
 /// The list with one more at its end.

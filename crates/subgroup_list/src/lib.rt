@@ -1,5 +1,5 @@
-//! The maximal elementary abelian subgroups of a p-group, one of each conjugacy class, each with its basis and its own numbering.
-//! See Quillen, The spectrum of an equivariant cohomology ring, 1971.
+//! The maximal elementary abelian subgroups of a p-group, one of each conjugacy class, each with its basis
+//! and its own numbering. See Quillen, The spectrum of an equivariant cohomology ring, 1971.
 #![tactic(auto)]
 
 mod bases;

@@ -1,5 +1,6 @@
-//! The search for the maximal sets of commuting elements of order 1 or p, by those chosen, those free and those barred (Bron and
-//! Kerbosch, Finding all cliques of an undirected graph, 1973): these sets are the maximal elementary abelian subgroups.
+//! The search for the maximal sets of commuting elements of order 1 or p, by those chosen, those free and
+//! those barred (Bron and Kerbosch, Finding all cliques of an undirected graph, 1973). These sets are the
+//! maximal elementary abelian subgroups.
 
 ghost use Rattle.std.specs.Prelude.{◌≡◌, ◌++◌, ◌↔◌, IfOk, IsTrue, List, ℕ};
 ghost use Rattle.elementary_subgroups.specs.Cliques.{AreElements, IsFull};
@@ -11,7 +12,8 @@ use crate::elements::{commutes_with_all, commuting, pushed, torsion_elements};
 use group_table::Group;
 use std::alloc::{AllocError, Global};
 
-/// The sorted lists of the maximal elementary abelian subgroups that are least in their class, in ascending order.
+/// The sorted lists of the maximal elementary abelian subgroups that are least in their class, in ascending
+/// order.
 pub(crate) fn maximal_lists(alloc: Global, g: &Group) -> Result<Vec<Vec<u16>>, AllocError>
     ensures { IfOk result (λ v. IsMaximalElementaryList g.now (lists v.items)) }
 {

@@ -51,8 +51,8 @@ impl Subgroups {
     }
 }
 
-/// The maximal elementary abelian subgroups, the one with the least sorted list of each conjugacy class, in the ascending order of these
-/// lists. The basis of each is taken greedily by number.
+/// The maximal elementary abelian subgroups, the one with the least sorted list of each conjugacy class, in
+/// the ascending order of these lists. The basis of each is taken greedily by number.
 pub fn max_elementary(alloc: Global, g: &Group) -> Result<Subgroups, Memory>
     ensures { IfOk result (IsSubgroupList g.now) }
 {

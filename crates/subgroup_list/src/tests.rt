@@ -8,8 +8,8 @@ use std::alloc::{AllocError, Global};
 use std::process::Abort;
 use std::test::Fail;
 
-// Groups in which each p-th power and each commutator of the generators is a power of the last one, which is central. The number of an
-// element has its exponents as digits to the base p.
+// Groups in which each p-th power and each commutator of the generators is a power of the last one, which is
+// central. The number of an element has its exponents as digits to the base p.
 #[derive(Clone, Copy, Debug)]
 enum Known {
     Trivial,
@@ -116,8 +116,8 @@ fn assert_bases(
     Ok(())
 }
 
-// By hand: those of an extraspecial group are the singular subspaces of most members for the quadratic form of the squares, each with the
-// centre. For 32 with the plus sign the expected bases are an independent implementation's.
+// By hand: those of an extraspecial 2-group are the centre with the largest subspaces on which the squares
+// are 1. For 32 with the plus sign the expected bases are an independent implementation's.
 #[test]
 fn lists_one_subgroup_of_each_class(rt: HostRuntime) -> Result<(), Fail> {
     for (known, bases) in [
@@ -175,7 +175,8 @@ fn assert_elements(
     Ok(())
 }
 
-// By hand. In the subgroup of 27 with the basis 4, 8 the number 2 is 4^2 = 17, and 5 is 4^2 8 = 22; 5 and 7 are 2 + 3 and 1 + 2 * 3.
+// By hand. In the subgroup of 27 with the basis 4, 8 the number 2 is 4^2 = 17, and 5 is 4^2 8 = 22; 5 and 7
+// are 2 + 3 and 1 + 2 * 3.
 #[test]
 fn numbers_the_elements(rt: HostRuntime) -> Result<(), Fail> {
     let alloc = rt.alloc();

@@ -6,7 +6,9 @@ use Rattle.subgroup_list.proofs.classes.is_least.Goals as goal
 pub returns-then-conjugate_comes_before : goal.returns-then-conjugate_comes_before
 returns-then-conjugate_comes_before c = (
   (λ h. absurd (search rules)),
-  λ l. absurd (not_least (law_of c.args.g.now c.order-by-end.ensures.law) c.loop-by.by c.args.m.now (omega arith) (λ x h. (c.requires.torsion x h).element) (c.if-conjugate_comes_before.ensures.before refl) l),
+  λ l. absurd (not_least (law_of c.args.g.now c.order-by-end.ensures.law) c.loop-by.by c.args.m.now
+      (omega arith) (λ x h. (c.requires.torsion x h).element)
+      (c.if-conjugate_comes_before.ensures.before refl) l),
 )
 
 pub loop-by-preserved : goal.loop-by-preserved

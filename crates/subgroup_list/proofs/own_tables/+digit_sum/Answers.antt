@@ -11,7 +11,8 @@ digit_sum-requires t c = (
 
 pub overflow_mul-result : goal.overflow_mul-result
 overflow_mul-result t c =
-    let b = step_below c.args.p c.args.rank c.digit_sum.result 0 (omega arith) c.digit_sum.ensures.below c.requires.base.0 in
+    let b = step_below c.args.p c.args.rank c.digit_sum.result 0
+    (omega arith) c.digit_sum.ensures.below c.requires.base.0 in
     omega (arith, b)
 
 pub overflow_add-result-2 : goal.overflow_add-result-2
