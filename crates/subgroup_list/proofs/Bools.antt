@@ -1,7 +1,7 @@
 -- Two tests compared.
 use Rattle.std.proofs.Common.{◌≡◌, Bool, true, false, not, refl, ℕ, List, [], ◌∷◌, ◌++◌, length, ap, sym, map}
 use Rattle.std.proofs.lemmas.Bool.{eqb-true}
-use Rattle.std.specs.Prelude.{◌==◌, Vec}
+use Rattle.std.specs.Prelude.{◌==◌}
 use mathlib.Core.Bool.{beq}
 
 pub differ_there : (a b : Bool) → not (beq a b) ≡ true → b ≡ true → a ≡ true → ⊥

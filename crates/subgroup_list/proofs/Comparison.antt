@@ -1,14 +1,12 @@
 -- The first number at which a set and a conjugate differ.
-use Rattle.std.proofs.Common.{◌≡◌, ℕ, zero, suc, ◌<◌, ◌≤◌, List, [], ◌∷◌, Bool, true, false, ◌⊎◌, ◌↔◌, inl, inr, refl, ap, sym, ◌∙◌, subst, arith, eqb}
-use Rattle.std.specs.Prelude.{filter, ◌||◌}
-use Rattle.std.proofs.lemmas.Bool.{eq-eqb, eqb-true, cases_lt}
-use Rattle.group_table.specs.Tables.{GroupTable, order, product, power}
-use Rattle.elementary_subgroups.proofs.GroupLaws.{HasGroupLaw, inverse_right, cancel_left, cancel_right, power_below}
-use Rattle.elementary_subgroups.specs.Sets.{IsIn, IsBelow, IsSet, IsSubset, IsBefore}
+use Rattle.std.proofs.Common.{◌≡◌, ℕ, ◌<◌, ◌≤◌, List, [], ◌∷◌, ◌↔◌, inl, inr, refl, sym, ◌∙◌, subst, arith}
+use Rattle.std.proofs.lemmas.Bool.{cases_lt}
+use Rattle.group_table.specs.Tables.{GroupTable, order, product}
+use Rattle.elementary_subgroups.proofs.GroupLaws.{HasGroupLaw}
+use Rattle.elementary_subgroups.specs.Sets.{IsIn, IsSet, IsSubset, IsBefore}
 use Rattle.elementary_subgroups.specs.Subgroups.{IsConjugateBy, IsLeast}
-use Rattle.elementary_subgroups.specs.Bases.{numbers}
-use Rattle.elementary_subgroups.specs.Cliques.{IsTorsion, Commutes, IsFull}
-use Rattle.elementary_subgroups.proofs.Members.{in_filter, from_filter, filter_ascending, same_set, in_numbers, from_numbers, numbers_ascending, not_before_both}
+use Rattle.elementary_subgroups.specs.Cliques.{IsFull}
+use Rattle.elementary_subgroups.proofs.Members.{same_set, not_before_both}
 use Rattle.elementary_subgroups.proofs.Cliques.{maximal_from_full}
 use Rattle.elementary_subgroups.proofs.Conjugates.{Carries, same_left, conjugate_full, conjugate_to, conjugate_from, conjugate_exists}
 

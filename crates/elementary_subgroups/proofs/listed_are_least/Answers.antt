@@ -1,4 +1,3 @@
-use Rattle.std.proofs.Common.{ℕ}
 use Rattle.elementary_subgroups.proofs.listed_are_least.Goals as goal
 
 pub returns : goal.returns

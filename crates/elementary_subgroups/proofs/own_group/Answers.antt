@@ -1,5 +1,4 @@
-use Rattle.std.proofs.Common.{◌≡◌, ◌<◌, ℕ, subst, sym}
-use Rattle.group_table.specs.Prime.{prime_value}
+use Rattle.std.proofs.Common.{◌<◌, subst, sym}
 use Rattle.elementary_subgroups.proofs.GroupLaws.{law_of}
 use Rattle.elementary_subgroups.proofs.Powers.{above_one}
 use Rattle.elementary_subgroups.proofs.OwnGroup.{own_is, own_group_law}

@@ -1,4 +1,4 @@
-use Rattle.std.proofs.Common.{◌≡◌, sym, ◌∙◌}
+use Rattle.std.proofs.Common.{sym, ◌∙◌}
 use Rattle.elementary_subgroups.proofs.Conjugates.{member_from, member_to}
 use Rattle.subgroup_list.proofs.elements.has.Goals as goal
 

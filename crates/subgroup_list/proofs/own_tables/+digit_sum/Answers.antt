@@ -1,4 +1,4 @@
-use Rattle.std.proofs.Common.{◌<◌, ◌^◌, ◌*◌, ◌+◌, ◌%◌, ◌-◌, ◌≤◌, arith}
+use Rattle.std.proofs.Common.{◌+◌, ◌%◌, arith}
 use Rattle.std.proofs.Math.Nat.{mod-lt}
 use Rattle.subgroup_list.proofs.OwnTables.{digit_step, step_below, step_small}
 use Rattle.subgroup_list.proofs.own_tables.+digit_sum.Goals as goal

@@ -1,4 +1,4 @@
-use Rattle.std.proofs.Common.{◌≡◌, ◌<◌, length, arith}
+use Rattle.std.proofs.Common.{◌≡◌, length, arith}
 use Rattle.group_table.specs.Tables.{order}
 use Rattle.elementary_subgroups.specs.Bases.{IsSubgroupOf}
 use Rattle.elementary_subgroups.proofs.Indices.{in_get}
