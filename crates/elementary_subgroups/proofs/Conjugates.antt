@@ -23,8 +23,8 @@ same_left {G} L g a b i j k e = let v = L.law.inverse g i in
 -- (a g) i = a where i g = 0
 pub undo_right : {G : GroupTable} → HasGroupLaw G → (g i a : ℕ) → g < order G → i < order G → a < order G →
     product G i g ≡ 0 → product G (product G a g) i ≡ a
-undo_right {G} L g i a j k l e = L.law.mul-assoc a g i l j k ∙ ap (λ w. product G a w)
-    (inverse_right L g i j k e) ∙ L.law.mul-one a l
+undo_right {G} L g i a j k l e = L.law.mul-assoc a g i l j k
+    ∙ ap (λ w. product G a w) (inverse_right L g i j k e) ∙ L.law.mul-one a l
 
 -- (a i) g = a where i g = 0
 pub undo_left : {G : GroupTable} → HasGroupLaw G → (g i a : ℕ) → g < order G → i < order G → a < order G →
@@ -121,8 +121,8 @@ pub conjugate_from : {G : GroupTable} → HasGroupLaw G → (g i : ℕ) (m l : L
     IsConjugateBy G g m l → (y : ℕ) → y < order G → IsIn (product G (product G g y) i) m → IsIn y l
 conjugate_from {G} L g i m l a b e C y k h = let r = C.takes (product G (product G g y) i) h in
     let P : ℕ → Type 0 = λ w. IsIn w l in
-    subst P (same_left L g r.0 y a (C.elements r.0 r.1) k (r.2 ∙ undo_left L g i (product G g y) a b
-    (L.law.closed g y a k) e)) r.1
+    subst P (same_left L g r.0 y a (C.elements r.0 r.1) k (r.2
+    ∙ undo_left L g i (product G g y) a b (L.law.closed g y a k) e)) r.1
 
 -- membership as a test
 abbrev pub member : List ℕ → ℕ → Bool
@@ -169,8 +169,8 @@ conjugate_exists {G} L g m i below = let n = L.law.inverse g i in
               y,
               in_filter t y (numbers (order G)) (in_numbers (order G) y yb)
                   (member_from m (product G (product G g y) n.0)
-                  (subst P (sym (ap (λ w. product G w n.0) e ∙ undo_right L g n.0 x i n.1
-                  (below x h) n.3)) h)),
+                  (subst P (sym (ap (λ w. product G w n.0) e
+                  ∙ undo_right L g n.0 x i n.1 (below x h) n.3)) h)),
               e,
             );
         comes = λ y h.

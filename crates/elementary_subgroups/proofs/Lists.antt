@@ -17,8 +17,8 @@ map_map g f (x ∷ xs) = ap (λ l. g (f x) ∷ l) (map_map g f xs)
 pub map_same : {A B : Type 0} (f g : A → B) (xs : List A) → ((x : A) → IsIn x xs → f x ≡ g x) →
     map f xs ≡ map g xs
 map_same f g [] h = refl
-map_same f g (x ∷ xs) h = ap (λ w. w ∷ map f xs) (h x (inl refl)) ∙ ap (λ l. g x ∷ l)
-    (map_same f g xs (λ y k. h y (inr k)))
+map_same f g (x ∷ xs) h = ap (λ w. w ∷ map f xs) (h x (inl refl))
+    ∙ ap (λ l. g x ∷ l) (map_same f g xs (λ y k. h y (inr k)))
 
 pub in_map : {A B : Type 0} (f : A → B) (x : A) (xs : List A) → IsIn x xs → IsIn (f x) (map f xs)
 in_map f x [] h = elim h [ ]
@@ -66,8 +66,8 @@ length_map f (x ∷ xs) = ap suc (length_map f xs)
 
 pub length_numbers : (n : ℕ) → length (numbers n) ≡ n
 length_numbers zero = refl
-length_numbers (suc n) = length-append (numbers n) (n ∷ []) ∙ ap (λ w. w + length (n ∷ []))
-    (length_numbers n) ∙ one n
+length_numbers (suc n) = length-append (numbers n) (n ∷ []) ∙ ap (λ w. w + length (n ∷ [])) (length_numbers n)
+    ∙ one n
   where
     one : (n : ℕ) → n + length (n ∷ []) ≡ suc n
     one n = omega arith

@@ -88,5 +88,5 @@ images_length {G} s N = ap length N.images_are ∙ length_map (embed G s.basis) 
 
 pub image_at : {G : GroupTable} (s : NumberedSubgroup) → IsNumbered G s → (e : ℕ) → e < size G s.basis →
     get_or s.images e 0 ≡ embed G s.basis e
-image_at {G} s N e h = ap (λ l. get_or l e 0) N.images_are ∙ at_map_numbers (embed G s.basis)
-    (size G s.basis) e h
+image_at {G} s N e h = ap (λ l. get_or l e 0) N.images_are
+    ∙ at_map_numbers (embed G s.basis) (size G s.basis) e h

@@ -82,8 +82,8 @@ zero_embed_from : {G : GroupTable} → HasGroupLaw G → 0 < G.p → (bs : List 
 zero_embed_from L z [] = refl
 zero_embed_from {G} L z (b ∷ bs) =
     ap (λ w. product G (power G b w) (embed G bs (0 / G.p))) (zero_digits G.p z).0
-    ∙ ap (λ w. product G 0 (embed G bs w)) (zero_digits G.p z).1 ∙ ap (λ w. product G 0 w)
-    (zero_embed_from L z bs) ∙ L.law.one-mul 0 L.law.some
+    ∙ ap (λ w. product G 0 (embed G bs w)) (zero_digits G.p z).1
+    ∙ ap (λ w. product G 0 w) (zero_embed_from L z bs) ∙ L.law.one-mul 0 L.law.some
 
 below_power : (p k : ℕ) → 1 < p → k < p ^ k
 below_power p zero h = rw (pow-zero p) (omega arith)

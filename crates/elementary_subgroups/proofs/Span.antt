@@ -42,8 +42,8 @@ embed_commutes {G} L (b ∷ bs) e x h i c =
     let bb = h b (inl refl) in
     let iB = power_below L b (e % G.p) bb in
     let iU = embed_below L bs (e / G.p) (λ y k. h y (inr k)) in
-    L.law.mul-assoc B U x iB iU i ∙ ap (λ w. product G B w) (embed_commutes L bs (e / G.p) x
-    (λ y k. h y (inr k)) i (λ y k. c y (inr k)))
+    L.law.mul-assoc B U x iB iU i
+    ∙ ap (λ w. product G B w) (embed_commutes L bs (e / G.p) x (λ y k. h y (inr k)) i (λ y k. c y (inr k)))
     ∙ sym (L.law.mul-assoc B x U iB i iU) ∙ ap (λ w. product G w U) (commutes_power L b x (e % G.p) bb i
     (c b (inl refl))) ∙ L.law.mul-assoc x B U i iB iU
 

@@ -24,14 +24,14 @@ pub record IsBasisSoFar (G : GroupTable) (members basis images : List ℕ) (i : 
 spread_numbering : {G : GroupTable} → HasGroupLaw G → 0 < G.p → (bs : List ℕ) (x k : ℕ) → AreElements G bs →
     x < order G → k ≤ G.p →
     spread G (numbering G bs) x k ≡ map (embed G (bs ++ x ∷ [])) (numbers (k * size G bs))
-spread_numbering {G} L z bs x zero h i m = ap (λ n. map (embed G (bs ++ x ∷ [])) (numbers n))
-    (none (size G bs))
+spread_numbering {G} L z bs x zero h i m =
+    ap (λ n. map (embed G (bs ++ x ∷ [])) (numbers n)) (none (size G bs))
   where
     none : (s : ℕ) → 0 ≡ 0 * s
     none s = omega arith
 spread_numbering {G} L z bs x (suc k) h i m =
-    ap (λ l. l ++ map (λ y. product G y (power G x k)) (numbering G bs)) (spread_numbering L z bs x k h i
-    (omega arith))
+    ap (λ l. l ++ map (λ y. product G y (power G x k)) (numbering G bs))
+    (spread_numbering L z bs x k h i (omega arith))
     ∙ ap (λ l. map E (numbers (k * s)) ++ l)
     (map_map (λ y. product G y (power G x k)) (embed G bs) (numbers s)
     ∙ map_same (λ e. product G (embed G bs e) (power G x k)) (λ e. E (k * s + e)) (numbers s)

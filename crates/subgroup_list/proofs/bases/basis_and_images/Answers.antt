@@ -28,14 +28,14 @@ loop-x-preserved c =
           c.if-not-has.images.items c.if-not-has.basis.items
           (omega arith) c.requires c.loop-x.invariant w.deref-then-not-has.ensures.value
           (λ h. let P : List ℕ → Type 0 = λ m. IsIn (get_or c.args.members.now c.loop-x.x-index 0) m in
-          let bad = w.if-not-has.ensures.1 (subst P (w.deref-then-not-has.ensures.value
-          ∙ sym c.deref.ensures.value) h) in cc)
-          (c.from-p.ensures ∙ c.value.ensures ∙ c.prime.ensures) (ap (λ v. v.items) w.images-is
-          ∙ w.in_ok-images-2.ensures) (ap (λ v. v.items) w.basis-is ∙ w.in_ok-push.ensures.items)
+          let same = w.deref-then-not-has.ensures.value ∙ sym c.deref.ensures.value in
+          let bad = w.if-not-has.ensures.1 (subst P same h) in cc)
+          (c.from-p.ensures ∙ c.value.ensures ∙ c.prime.ensures)
+          (ap (λ v. v.items) w.images-is ∙ w.in_ok-images-2.ensures)
+          (ap (λ v. v.items) w.basis-is ∙ w.in_ok-push.ensures.items)
       | else-not-has w ↦
           basis_left c.args.members.now c.loop-x.basis.items c.loop-x.images.items c.loop-x.x-index
-          c.deref.result.now
-          c.if-not-has.images.items c.if-not-has.basis.items
-          (omega arith) c.loop-x.invariant c.deref.ensures.value
+          c.deref.result.now c.if-not-has.images.items c.if-not-has.basis.items (omega arith)
+          c.loop-x.invariant c.deref.ensures.value
           (w.if-not-has.ensures.0 refl) (ap (λ v. v.items) w.images-is) (ap (λ v. v.items) w.basis-is)
     ]

@@ -1,16 +1,15 @@
 use Rattle.std.proofs.Common.{ℕ, arith, below_more, refl, ap, ◌∙◌}
 use Rattle.group_table.specs.Tables.{product}
-use Rattle.elementary_subgroups.proofs.GroupLaws.{cancel_right}
+use Rattle.elementary_subgroups.proofs.GroupLaws.{cancel_right, law_of}
 use Rattle.elementary_subgroups.specs.Sets.{IsIn}
 use Rattle.elementary_subgroups.proofs.Indices.{in_at, each_in}
 use Rattle.elementary_subgroups.proofs.Conjugates.{Carries}
 use Rattle.subgroup_list.proofs.Comparison.{kept_same}
-use Rattle.elementary_subgroups.proofs.GroupLaws.{law_of}
 use Rattle.subgroup_list.proofs.classes.keeps.Goals as goal
 
 pub mul-requires-clause-left : goal.mul-requires-clause-left
-mul-requires-clause-left c = (c.requires.full.torsion _ (in_at c.args.m.now c.loop-x.x-index 0
-    (omega arith))).element
+mul-requires-clause-left c =
+    (c.requires.full.torsion _ (in_at c.args.m.now c.loop-x.x-index 0 (omega arith))).element
 
 pub loop-x-preserved : goal.loop-x-preserved
 loop-x-preserved c = below_more _ _ c.loop-x.invariant (

@@ -26,17 +26,19 @@ keep_if_least-requires t c =
     (λ b. let h = c.if-is_blocked.ensures.1 b in cc)
 
 pub commuting-requires-clause-element : goal.commuting-requires-clause-element
-commuting-requires-clause-element t c = (c.requires.place.free_torsion _ (in_at c.args.free.now 0 0
-    (not_empty c.args.free.now c.if-is_empty.ensures))).element
+commuting-requires-clause-element t c =
+    let some = not_empty c.args.free.now c.if-is_empty.ensures in
+    (c.requires.place.free_torsion _ (in_at c.args.free.now 0 0 some)).element
 
 pub commuting-requires-clause-elements : goal.commuting-requires-clause-elements
 commuting-requires-clause-elements t c = λ x h.
-    (c.requires.place.free_torsion x (in_rest c.args.free.now _ _ (head_tail c.args.free.now
-    (not_empty c.args.free.now c.if-is_empty.ensures)) x h)).element
+    let e = head_tail c.args.free.now (not_empty c.args.free.now c.if-is_empty.ensures) in
+    (c.requires.place.free_torsion x (in_rest c.args.free.now _ _ e x h)).element
 
 pub commuting-requires-2-clause-element : goal.commuting-requires-2-clause-element
-commuting-requires-2-clause-element t c = (c.requires.place.free_torsion _ (in_at c.args.free.now 0 0
-    (not_empty c.args.free.now c.if-is_empty.ensures))).element
+commuting-requires-2-clause-element t c =
+    let some = not_empty c.args.free.now c.if-is_empty.ensures in
+    (c.requires.place.free_torsion _ (in_at c.args.free.now 0 0 some)).element
 
 pub commuting-requires-2-clause-elements : goal.commuting-requires-2-clause-elements
 commuting-requires-2-clause-elements t c = λ x h. (c.requires.place.barred_torsion x h).element
@@ -45,13 +47,13 @@ pub explore-requires : goal.explore-requires
 explore-requires t c =
     let e = head_tail c.args.free.now (not_empty c.args.free.now c.if-is_empty.ensures) in
     let q : length c.deref-2.result.now < length c.args.free.now =
-    shorter_filter c.args.free.now _ _ c.deref-2.result.now _ e (c.deref-2.ensures.value
-    ∙ c.in_ok-free_with.ensures) in (
+    shorter_filter c.args.free.now _ _ c.deref-2.result.now _ e
+    (c.deref-2.ensures.value ∙ c.in_ok-free_with.ensures) in (
       omega (arith, q),
       step_with c.args.chosen.now c.args.free.now c.args.barred.now _ _ c.deref.result.now
           c.deref-2.result.now c.deref-3.result.now e
-          (c.deref.ensures.value ∙ c.in_ok-with_x.ensures) (c.deref-2.ensures.value
-          ∙ c.in_ok-free_with.ensures)
+          (c.deref.ensures.value ∙ c.in_ok-with_x.ensures)
+          (c.deref-2.ensures.value ∙ c.in_ok-free_with.ensures)
           (c.deref-3.ensures.value ∙ c.in_ok-barred_with.ensures) c.requires.place,
     )
 
@@ -81,6 +83,6 @@ returns t c =
     (lists c.explore.new.found.items) (lists c.explore-2.new.found.items)
     _ _ c.deref.result.now c.deref-2.result.now
     (head_tail c.args.free.now (not_empty c.args.free.now c.if-is_empty.ensures))
-    (c.deref.ensures.value ∙ c.in_ok-with_x.ensures) (c.deref-2.ensures.value
-    ∙ c.in_ok-free_with.ensures) c.requires.place
+    (c.deref.ensures.value ∙ c.in_ok-with_x.ensures)
+    (c.deref-2.ensures.value ∙ c.in_ok-free_with.ensures) c.requires.place
     c.in_ok-explore.ensures c.in_ok-explore-2.ensures

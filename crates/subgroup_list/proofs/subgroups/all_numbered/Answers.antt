@@ -38,10 +38,8 @@ loop-members-preserved c =
           (subst P c.in_ok-push.ensures.items h)) [
             | inl a ↦ c.loop-members.invariant.numbered s a
             | inr a ↦ elim a [
-              | inl e ↦ (let Q : NumberedSubgroup → Type 0 = λ t.
-                  IsNumbered c.args.g.now t in subst Q (sym e) c.in_ok-numbered.ensures.numbered)
-              | inr n ↦
-                  absurd n
+              | inl e ↦ subst (IsNumbered c.args.g.now) (sym e) c.in_ok-numbered.ensures.numbered
+              | inr n ↦ absurd n
             ]
           ];
     }
