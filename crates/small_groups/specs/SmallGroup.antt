@@ -1,7 +1,7 @@
 -- The primes, ranks and orders of small groups.
 use Rattle.std.specs.Prelude.{ℕ}
 use Rattle.small_groups.specs.declared.SmallGroup.{SmallGroup}
-use Rattle.small_groups.specs.declared.SmallGroup.TheVariants.{Trivial, Two, Four, Three, Klein, Nine, Dihedral, Quaternion, Sixteen, TwentySeven}
+use Rattle.small_groups.specs.declared.SmallGroup.TheVariants.{Trivial, Two, Four, Three, Klein, Nine, Dihedral, Quaternion, Sixteen, TwentySeven, ThirtyTwoPlus, ThirtyTwoMinus}
 
 abbrev pub prime_of : SmallGroup → ℕ
 prime_of Trivial = 2
@@ -14,6 +14,8 @@ prime_of Dihedral = 2
 prime_of Quaternion = 2
 prime_of Sixteen = 2
 prime_of TwentySeven = 3
+prime_of ThirtyTwoPlus = 2
+prime_of ThirtyTwoMinus = 2
 
 abbrev pub rank_of : SmallGroup → ℕ
 rank_of Trivial = 0
@@ -26,6 +28,8 @@ rank_of Dihedral = 3
 rank_of Quaternion = 3
 rank_of Sixteen = 4
 rank_of TwentySeven = 3
+rank_of ThirtyTwoPlus = 5
+rank_of ThirtyTwoMinus = 5
 
 -- the number of elements, p^n
 abbrev pub order_of : SmallGroup → ℕ
@@ -39,3 +43,5 @@ order_of Dihedral = 8
 order_of Quaternion = 8
 order_of Sixteen = 16
 order_of TwentySeven = 27
+order_of ThirtyTwoPlus = 32
+order_of ThirtyTwoMinus = 32

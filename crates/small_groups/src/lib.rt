@@ -26,11 +26,15 @@ pub enum SmallGroup {
     Sixteen,
     /// The extraspecial group of order 27 and exponent 3: g_3 is the commutator of g_2 and g_1.
     TwentySeven,
+    /// The extraspecial groups of order 32: g_5 is the commutator of g_2 and g_1 and that of g_4 and g_3, and in the
+    /// one of minus type the square of g_3 and of g_4.
+    ThirtyTwoPlus,
+    ThirtyTwoMinus,
 }
 
 // Digit i of a number in base p.
 fn digit(p: u16, a: u16, i: u32) -> u16
-    requires { (1 < p) × (p ≤ 3) × (i < 4) }
+    requires { (1 < p) × (p ≤ 3) × (i < 5) }
     ensures { result < p }
 {
     let mut rest = a;
@@ -61,6 +65,7 @@ impl SmallGroup {
             SmallGroup::Four | SmallGroup::Klein | SmallGroup::Nine => 2,
             SmallGroup::Dihedral | SmallGroup::Quaternion | SmallGroup::TwentySeven => 3,
             SmallGroup::Sixteen => 4,
+            SmallGroup::ThirtyTwoPlus | SmallGroup::ThirtyTwoMinus => 5,
         }
     }
 
@@ -78,27 +83,40 @@ impl SmallGroup {
             SmallGroup::Nine => 9,
             SmallGroup::Sixteen => 16,
             SmallGroup::TwentySeven => 27,
+            SmallGroup::ThirtyTwoPlus | SmallGroup::ThirtyTwoMinus => 32,
         }
     }
 
     // What the powers and the commutator add to digit i of the product of a and b.
     fn carry(self, i: u32, a: u16, b: u16) -> u16
-        ensures { result ≤ 12 }
+        ensures { result ≤ 16 }
     {
         let p = u16::from(self.prime().value());
-        let (a1, a2) = (digit(p, a, 0), digit(p, a, 1));
-        let (b1, b2) = (digit(p, b, 0), digit(p, b, 1));
+        let (a1, a2, a3, a4) = (
+            digit(p, a, 0),
+            digit(p, a, 1),
+            digit(p, a, 2),
+            digit(p, a, 3),
+        );
+        let (b1, b2, b3, b4) = (
+            digit(p, b, 0),
+            digit(p, b, 1),
+            digit(p, b, 2),
+            digit(p, b, 3),
+        );
         match (self, i) {
             (SmallGroup::Four, 1) | (SmallGroup::Sixteen, 3) => a1 * b1,
             (SmallGroup::Dihedral | SmallGroup::TwentySeven, 2) => a2 * b1,
             (SmallGroup::Quaternion, 2) => a1 * b1 + a2 * b1 + a2 * b2,
+            (SmallGroup::ThirtyTwoPlus, 4) => a2 * b1 + a4 * b3,
+            (SmallGroup::ThirtyTwoMinus, 4) => a2 * b1 + a4 * b3 + a3 * b3 + a4 * b4,
             _ => 0,
         }
     }
 
     // Digit i of the product of a and b.
     fn product_digit(self, i: u32, a: u16, b: u16) -> u16
-        requires { i < 4 }
+        requires { i < 5 }
         ensures { result ≤ 2 }
     {
         let p = u16::from(self.prime().value());
@@ -116,7 +134,9 @@ impl SmallGroup {
         let p = u16::from(self.prime().value());
         let low = self.product_digit(0, a, b) + p * self.product_digit(1, a, b);
         let high = self.product_digit(2, a, b) + p * self.product_digit(3, a, b);
-        (low + p * p * high) % self.order()
+        // Only groups of order 32 have a fifth digit.
+        let last = 16 * self.product_digit(4, a, b);
+        (low + p * p * high + last) % self.order()
     }
 
     // The entries of the multiplication table, row by row.
@@ -148,7 +168,7 @@ mod tests {
     use super::*;
     use std::test::Fail;
 
-    const ALL: [SmallGroup; 10] = [
+    const ALL: [SmallGroup; 12] = [
         SmallGroup::Trivial,
         SmallGroup::Two,
         SmallGroup::Four,
@@ -159,6 +179,8 @@ mod tests {
         SmallGroup::Quaternion,
         SmallGroup::Sixteen,
         SmallGroup::TwentySeven,
+        SmallGroup::ThirtyTwoPlus,
+        SmallGroup::ThirtyTwoMinus,
     ];
 
     #[test]
