@@ -6,8 +6,8 @@ use Rattle.elementary_subgroups.proofs.NumberedLists.{subgroup_in}
 use Rattle.elementary_subgroups.proofs.OwnGroup.{images-own_order}
 use Rattle.subgroup_list.proofs.tests.assert_elements.Goals as goal
 
-pub group-requires : goal.group-requires
-group-requires g c =
+pub group-requires-2 : goal.group-requires-2
+group-requires-2 g c =
     subgroup_in c.in_ok-g.g c.in_ok-subgroups.subgroups c.get-s.result.now c.in_ok-subgroups.ensures
     (in_get c.in_ok-subgroups.subgroups c.args.arg3.1 c.get-s.result.now c.get-s.ensures)
 
