@@ -6,3 +6,5 @@ pub mod PlaceLemmas
 pub mod BitLemmas
 pub mod SolvingLemmas
 pub mod TableLemmas
+mod PivotSearch
+pub mod Turns
