@@ -1,5 +1,6 @@
 -- Finite types by a list in which each member stands once, and counting.
-use Rattle.std.specs.Prelude.{◌≡◌, ◌≢◌, ℕ, zero, suc, refl, List, [], ◌∷◌, ◌++◌, map, ◌+◌, ◌*◌, ◌<◌, ◌≤◌, ◌⊎◌, Bool, true, false, not, ◌&&◌, eqb}
+use Rattle.std.specs.Prelude.{◌≡◌, ◌≢◌, ℕ, zero, suc, refl, List, [], ◌∷◌, ◌++◌, map, ◌+◌, ◌*◌, ◌<◌, ◌≤◌, ◌⊎◌,
+    Bool, true, false, not, ◌&&◌, eqb}
 use Rattle.std.proofs.Common.{sym, ◌∙◌, ap, ap₂, arith, inl, inr}
 use Rattle.std.proofs.lemmas.Bool.{and_from, and_parts, false_from_ne_true, true≢false, eq-eqb, eqb-true}
 use Rattle.std.proofs.lemmas.Bool.Decides.{eqb_tells}
@@ -52,13 +53,15 @@ module _ {A : Type 0} where
   sum-append [] ys f = omega arith
   sum-append (x ∷ xs) ys f = omega (arith, sum-append xs ys f)
 
-  pub sum-swap : {B : Type 0} (xs : List A) (ys : List B) (f : A → B → ℕ) → sum xs (λ x. sum ys (f x)) ≡ sum ys (λ y. sum xs (λ x. f x y))
+  pub sum-swap : {B : Type 0} (xs : List A) (ys : List B) (f : A → B → ℕ)
+      → sum xs (λ x. sum ys (f x)) ≡ sum ys (λ y. sum xs (λ x. f x y))
   sum-swap [] ys f = sym (zeros ys)
     where
       zeros : {B : Type 0} (ys : List B) → sum ys (λ y. 0) ≡ 0
       zeros [] = refl
       zeros (y ∷ ys) = omega (arith, zeros ys)
-  sum-swap (x ∷ xs) ys f = ap (λ k. sum ys (f x) + k) (sum-swap xs ys f) ∙ sym (apart ys (f x) (λ y. sum xs (λ x. f x y)))
+  sum-swap (x ∷ xs) ys f = ap (λ k. sum ys (f x) + k) (sum-swap xs ys f)
+      ∙ sym (apart ys (f x) (λ y. sum xs (λ x. f x y)))
     where
       apart : {B : Type 0} (ys : List B) (f g : B → ℕ) → sum ys (λ y. f y + g y) ≡ sum ys f + sum ys g
       apart [] f g = refl
@@ -77,14 +80,16 @@ module _ {A : Type 0} where
   look [] f = inr tt
   look (x ∷ xs) f = at (tell (f x)) (look xs f)
     where
-      at : (f x ≡ true) ⊎ (f x ≡ false) → ((x : A) × (f x ≡ true)) ⊎ Fails xs f → ((x : A) × (f x ≡ true)) ⊎ Fails (x ∷ xs) f
+      at : (f x ≡ true) ⊎ (f x ≡ false) → ((x : A) × (f x ≡ true)) ⊎ Fails xs f → ((x : A) × (f x ≡ true))
+          ⊎ Fails (x ∷ xs) f
       at (inl e) r = inl (x, e)
       at (inr e) (inl r) = inl r
       at (inr e) (inr r) = inr (e, r)
 
   pub sum-fails : (xs : List A) (w : A → ℕ) (f : A → Bool) → Fails xs f → sum xs (λ x. w x * bit (f x)) ≡ 0
   sum-fails [] w f h = refl
-  sum-fails (x ∷ xs) w f h = ap₂ ◌+◌ (ap (λ b. w x * bit b) h.0 ∙ (let e : w x * 0 ≡ 0 = omega arith in e)) (sum-fails xs w f h.1)
+  sum-fails (x ∷ xs) w f h = ap₂ ◌+◌ (ap (λ b. w x * bit b) h.0
+      ∙ (let e : w x * 0 ≡ 0 = omega arith in e)) (sum-fails xs w f h.1)
 
 abbrev pub is-left : {P Q : Type 0} → P ⊎ Q → Bool
 is-left (inl p) = true
@@ -116,7 +121,8 @@ module _ {A : Type 0} (F : Finite A) where
   pub pick : (x : A) (f : A → ℕ) → sum F.all (λ y. bit (F.same x y) * f y) ≡ f x
   pick x f =
       sum-same F.all (λ y. bit (F.same x y) * f y) (λ y. bit (F.same x y) * f x) (λ y. pick-at x y f)
-      ∙ sum-scale F.all (λ y. bit (F.same x y)) (f x) ∙ ap (λ k. k * f x) (F.once x) ∙ (let e : 1 * f x ≡ f x = omega arith in e)
+      ∙ sum-scale F.all (λ y. bit (F.same x y)) (f x) ∙ ap (λ k. k * f x) (F.once x)
+          ∙ (let e : 1 * f x ≡ f x = omega arith in e)
 
   -- the test holds somewhere or nowhere
   pub search-all : (f : A → Bool) → ((x : A) × (f x ≡ true)) ⊎ ((x : A) → f x ≡ false)
@@ -128,14 +134,16 @@ module _ {A : Type 0} (F : Finite A) where
 
       at : ((x : A) × (f x ≡ true)) ⊎ Fails F.all f → ((x : A) × (f x ≡ true)) ⊎ ((x : A) → f x ≡ false)
       at (inl r) = inl r
-      at (inr r) = inr (λ x. zero-bit (f x) (sym (pick x (λ y. bit (f y))) ∙ sum-fails F.all (λ y. bit (F.same x y)) f r))
+      at (inr r) = inr (λ x. zero-bit (f x) (sym (pick x (λ y. bit (f y)))
+          ∙ sum-fails F.all (λ y. bit (F.same x y)) f r))
 
   zero-bit : (b : Bool) → bit b ≡ 0 → b ≡ false
   zero-bit true e = absurd (omega (arith, e))
   zero-bit false e = refl
 
   pub fails-at : (f : A → Bool) → Fails F.all f → (x : A) → f x ≡ false
-  fails-at f h x = zero-bit (f x) (sym (pick x (λ y. bit (f y))) ∙ sum-fails F.all (λ y. bit (F.same x y)) f h)
+  fails-at f h x = zero-bit (f x) (sym (pick x (λ y. bit (f y)))
+      ∙ sum-fails F.all (λ y. bit (F.same x y)) f h)
 
   -- some member passes the test; each does
   abbrev pub some : (A → Bool) → Bool
@@ -151,7 +159,8 @@ module _ {A : Type 0} (F : Finite A) where
   pub some-from : (f : A → Bool) → some f ≡ true → (x : A) × (f x ≡ true)
   some-from f = go (search-all f)
     where
-      go : (r : ((x : A) × (f x ≡ true)) ⊎ ((x : A) → f x ≡ false)) → is-left r ≡ true → (x : A) × (f x ≡ true)
+      go : (r : ((x : A) × (f x ≡ true)) ⊎ ((x : A) → f x ≡ false)) → is-left r ≡ true → (x : A)
+          × (f x ≡ true)
       go (inl r) e = r
       go (inr r) e = absurd (true≢false (sym e))
 
@@ -174,10 +183,12 @@ module _ {A : Type 0} (F : Finite A) where
 
   pub every-from : (f : A → Bool) → ((x : A) → f x ≡ true) → every f ≡ true
   every-from f h = ap not (false_from_ne_true (some (λ x. not (f x)))
-      (λ e. let r : (x : A) × (not (f x) ≡ true) = some-from (λ x. not (f x)) e in true≢false (sym r.1 ∙ ap not (h r.0))))
+      (λ e. let r : (x : A) × (not (f x) ≡ true) = some-from (λ x. not (f x)) e in true≢false (sym r.1
+          ∙ ap not (h r.0))))
 
   pub every-fails : (f : A → Bool) → every f ≡ false → (x : A) × (f x ≡ false)
-  every-fails f e = let r : (x : A) × (not (f x) ≡ true) = some-from (λ x. not (f x)) (un (some (λ x. not (f x))) e) in (r.0, un-not (f r.0) r.1)
+  every-fails f e = let r : (x : A) × (not (f x) ≡ true) =
+      some-from (λ x. not (f x)) (un (some (λ x. not (f x))) e) in (r.0, un-not (f r.0) r.1)
     where
       un : (b : Bool) → not b ≡ false → b ≡ true
       un true e = refl
@@ -199,7 +210,8 @@ off-new n x = at (eqb_tells x.0 n)
 eqb-flip : (a b : ℕ) → eqb a b ≡ eqb b a
 eqb-flip a b = at (eqb_tells a b) (eqb_tells b a)
   where
-    at : ((eqb a b ≡ true) × (a ≡ b)) ⊎ ((eqb a b ≡ false) × (a ≢ b)) → ((eqb b a ≡ true) × (b ≡ a)) ⊎ ((eqb b a ≡ false) × (b ≢ a)) → eqb a b ≡ eqb b a
+    at : ((eqb a b ≡ true) × (a ≡ b)) ⊎ ((eqb a b ≡ false) × (a ≢ b)) → ((eqb b a ≡ true) × (b ≡ a))
+        ⊎ ((eqb b a ≡ false) × (b ≢ a)) → eqb a b ≡ eqb b a
     at (inl h) (inl k) = h.0 ∙ sym k.0
     at (inl h) (inr k) = absurd (k.1 (sym h.1))
     at (inr h) (inl k) = absurd (h.1 (sym k.1))
@@ -208,14 +220,18 @@ eqb-flip a b = at (eqb_tells a b) (eqb_tells b a)
 pub once-below : (n : ℕ) (x : Below n) → sum (below n) (λ y. bit (eqb x.0 y.0)) ≡ 1
 once-below zero x = absurd (let h : x.0 < 0 = x.1 in omega (arith, h))
 once-below (suc n) x =
-    ap (λ k. bit (eqb x.0 n) + k) (sum-map (λ i. up i) (below n) (λ y. bit (eqb x.0 y.0))) ∙ at (eqb_tells x.0 n) (λ y. once-below n y)
+    ap (λ k. bit (eqb x.0 n) + k) (sum-map (λ i. up i) (below n) (λ y. bit (eqb x.0 y.0)))
+        ∙ at (eqb_tells x.0 n) (λ y. once-below n y)
   where
-    at : ((eqb x.0 n ≡ true) × (x.0 ≡ n)) ⊎ ((eqb x.0 n ≡ false) × (x.0 ≢ n)) → ((y : Below n) → sum (below n) (λ z. bit (eqb y.0 z.0)) ≡ 1)
+    at : ((eqb x.0 n ≡ true) × (x.0 ≡ n)) ⊎ ((eqb x.0 n ≡ false) × (x.0 ≢ n))
+        → ((y : Below n) → sum (below n) (λ z. bit (eqb y.0 z.0)) ≡ 1)
         → bit (eqb x.0 n) + sum (below n) (λ y. bit (eqb x.0 y.0)) ≡ 1
     at (inl h) ih =
         ap₂ ◌+◌ (ap bit h.0)
-        (sum-same (below n) (λ y. bit (eqb x.0 y.0)) (λ y. 0) (λ y. ap bit (ap (λ k. eqb k y.0) h.1 ∙ eqb-flip n y.0) ∙ off-new n y) ∙ sum-zero (below n))
-    at (inr h) ih = ap₂ ◌+◌ (ap bit h.0) (ih (x.0, (let l : x.0 < suc n = x.1 in let e : x.0 ≢ n = h.1 in omega (arith, l, e))))
+        (sum-same (below n) (λ y. bit (eqb x.0 y.0)) (λ y. 0)
+            (λ y. ap bit (ap (λ k. eqb k y.0) h.1 ∙ eqb-flip n y.0) ∙ off-new n y) ∙ sum-zero (below n))
+    at (inr h) ih = ap₂ ◌+◌ (ap bit h.0)
+        (ih (x.0, (let l : x.0 < suc n = x.1 in let e : x.0 ≢ n = h.1 in omega (arith, l, e))))
 
 abbrev pub finite-below : (n : ℕ) → Finite (Below n)
 finite-below n = record {
@@ -228,14 +244,16 @@ finite-below n = record {
 
 pub size-below : (n : ℕ) → sum (below n) (λ x. 1) ≡ n
 size-below zero = refl
-size-below (suc n) = ap (λ k. 1 + k) (sum-map (λ i. up i) (below n) (λ x. 1) ∙ size-below n) ∙ (let e : 1 + n ≡ suc n = omega arith in e)
+size-below (suc n) = ap (λ k. 1 + k) (sum-map (λ i. up i) (below n) (λ x. 1) ∙ size-below n)
+    ∙ (let e : 1 + n ≡ suc n = omega arith in e)
 
 -- ---- pairs, and functions on the numbers below b
 
 pub once-pair : {A B : Type 0} (F : Finite A) (H : Finite B) (x : A) (y : B)
     → sum F.all (λ a. sum H.all (λ b. bit (F.same x a && H.same y b))) ≡ 1
 once-pair F H x y =
-    sum-same F.all (λ a. sum H.all (λ b. bit (F.same x a && H.same y b))) (λ a. bit (F.same x a)) (λ a. at (F.same x a)) ∙ F.once x
+    sum-same F.all (λ a. sum H.all (λ b. bit (F.same x a && H.same y b))) (λ a. bit (F.same x a))
+        (λ a. at (F.same x a)) ∙ F.once x
   where
     at : (t : Bool) → sum H.all (λ b. bit (t && H.same y b)) ≡ bit t
     at true = H.once y
@@ -246,29 +264,35 @@ abbrev pub pairs : {A B : Type 0} → List A → List B → List (A × B)
 pairs [] ys = []
 pairs (x ∷ xs) ys = map (λ y. (x, y)) ys ++ pairs xs ys
 
-pub sum-pairs : {A B : Type 0} (xs : List A) (ys : List B) (f : A × B → ℕ) → sum (pairs xs ys) f ≡ sum xs (λ x. sum ys (λ y. f (x, y)))
+pub sum-pairs : {A B : Type 0} (xs : List A) (ys : List B) (f : A × B → ℕ)
+    → sum (pairs xs ys) f ≡ sum xs (λ x. sum ys (λ y. f (x, y)))
 sum-pairs [] ys f = refl
 sum-pairs (x ∷ xs) ys f =
-    sum-append (map (λ y. (x, y)) ys) (pairs xs ys) f ∙ ap₂ ◌+◌ (sum-map (λ y. (x, y)) ys f) (sum-pairs xs ys f)
+    sum-append (map (λ y. (x, y)) ys) (pairs xs ys) f
+        ∙ ap₂ ◌+◌ (sum-map (λ y. (x, y)) ys f) (sum-pairs xs ys f)
 
 abbrev pub finite-pair : {A B : Type 0} → Finite A → Finite B → Finite (A × B)
 finite-pair F H = record {
   all = pairs F.all H.all;
   same = λ a b. F.same a.0 b.0 && H.same a.1 b.1;
   same-self = λ a. and_from (F.same a.0 a.0) (H.same a.1 a.1) (F.same-self a.0) (H.same-self a.1);
-  same-path = λ a b e. let r : (F.same a.0 b.0 ≡ true) × (H.same a.1 b.1 ≡ true) = and_parts (F.same a.0 b.0) (H.same a.1 b.1) e in
+  same-path = λ a b e. let r : (F.same a.0 b.0 ≡ true) × (H.same a.1 b.1 ≡ true) =
+      and_parts (F.same a.0 b.0) (H.same a.1 b.1) e in
       ap₂ (λ x y. (x, y)) (F.same-path a.0 b.0 r.0) (H.same-path a.1 b.1 r.1);
   once = λ a. sum-pairs F.all H.all (λ b. bit (F.same a.0 b.0 && H.same a.1 b.1)) ∙ once-pair F H a.0 a.1;
 }
 
 -- a type that corresponds to a finite one is finite
-abbrev pub finite-by : {A B : Type 0} → Finite A → (f : A → B) (g : B → A) → ((b : B) → f (g b) ≡ b) → ((a : A) → g (f a) ≡ a) → Finite B
+abbrev pub finite-by : {A B : Type 0} → Finite A → (f : A → B) (g : B → A) → ((b : B) → f (g b) ≡ b)
+    → ((a : A) → g (f a) ≡ a) → Finite B
 finite-by F f g fg gf = record {
   all = map f F.all;
   same = λ a b. F.same (g a) (g b);
   same-self = λ a. F.same-self (g a);
   same-path = λ a b e. sym (fg a) ∙ ap f (F.same-path (g a) (g b) e) ∙ fg b;
-  once = λ b. sum-map f F.all (λ c. bit (F.same (g b) (g c))) ∙ sum-same F.all (λ a. bit (F.same (g b) (g (f a)))) (λ a. bit (F.same (g b) a)) (λ a. ap (λ c. bit (F.same (g b) c)) (gf a)) ∙ F.once (g b);
+  once = λ b. sum-map f F.all (λ c. bit (F.same (g b) (g c)))
+      ∙ sum-same F.all (λ a. bit (F.same (g b) (g (f a)))) (λ a. bit (F.same (g b) a))
+      (λ a. ap (λ c. bit (F.same (g b) c)) (gf a)) ∙ F.once (g b);
 }
 
 pub up-lt : (i b : ℕ) → i < b → suc i < suc b
@@ -294,12 +318,14 @@ split-function b f = (f (0, first-lt b), λ i. f (suc i.0, up-lt i.0 b i.1))
 pub join-split : {A : Type 0} (b : ℕ) (f : Below (suc b) → A) → join-function b (split-function b f) ≡ f
 join-split {A} b f = fun_ext (λ i. at i.0 i.1)
   where
-    at : (i : ℕ) (l : i < suc b) → join-at b (f (0, first-lt b)) (λ i. f (suc i.0, up-lt i.0 b i.1)) i l ≡ f (i, l)
+    at : (i : ℕ) (l : i < suc b) → join-at b (f (0, first-lt b)) (λ i. f (suc i.0, up-lt i.0 b i.1)) i l ≡ f
+        (i, l)
     at zero l = ap f (below-path (0, first-lt b) (0, l) refl)
     at (suc i) l = ap f (below-path (suc i, up-lt i b (down-lt i b l)) (suc i, l) refl)
 
 pub split-join : {A : Type 0} (b : ℕ) (r : A × (Below b → A)) → split-function b (join-function b r) ≡ r
-split-join b r = ap (λ f. (r.0, f)) (fun_ext (λ i. ap r.1 (below-path (i.0, down-lt i.0 b (up-lt i.0 b i.1)) i refl)))
+split-join b r = ap (λ f. (r.0, f)) (fun_ext
+    (λ i. ap r.1 (below-path (i.0, down-lt i.0 b (up-lt i.0 b i.1)) i refl)))
 
 -- the one function on no numbers
 pub no-function : {A : Type 0} (f g : Below 0 → A) → f ≡ g
@@ -316,4 +342,5 @@ finite-function F zero = record {
   same-path = λ f g e. no-function f g;
   once = λ f. refl;
 }
-finite-function F (suc b) = finite-by (finite-pair F (finite-function F b)) (join-function b) (split-function b) (join-split b) (split-join b)
+finite-function F (suc b) = finite-by (finite-pair F (finite-function F b)) (join-function b)
+    (split-function b) (join-split b) (split-join b)

@@ -45,7 +45,8 @@ module _ {q : ℕ} {G : Monoid} (M : Module (suc q) G) where
       moved-in x (both {x = a} {y = b} m l) = T.add-in a b (moved-in a m) (moved-in b l)
       moved-in x (moved g v k) = sub-in (M.act g v) v (T.act-in g v k) k
 
-module _ {n : ℕ} (q e : ℕ) (Γ : Group n) (W : IsPrime (suc q)) (size : n ≡ suc q ^ e) (M : Module (suc q) (monoid Γ)) (F : Finite M.of) where
+module _ {n : ℕ} (q e : ℕ) (Γ : Group n) (W : IsPrime (suc q)) (size : n ≡ suc q ^ e)
+    (M : Module (suc q) (monoid Γ)) (F : Finite M.of) where
   T : ℕ → M.of → Type 0
   T i x = S q e Γ W size M F i x ≡ true
 
@@ -55,7 +56,8 @@ module _ {n : ℕ} (q e : ℕ) (Γ : Group n) (W : IsPrime (suc q)) (size : n �
   down i K h x (both {x = a} {y = b} m l) = S-add q e Γ W size M F i a b (down i K h a m) (down i K h b l)
   down i K h x (moved g v k) = at-each q e Γ W size M F i v (h v k) g
 
-  descend : (K : M.of → Type 0) → ((v : M.of) → K v → Moved M K v) → (i : ℕ) → ((v : M.of) → K v → T i v) → (v : M.of) → K v → v ≡ M.zero
+  descend : (K : M.of → Type 0) → ((v : M.of) → K v → Moved M K v) → (i : ℕ) → ((v : M.of) → K v → T i v)
+      → (v : M.of) → K v → v ≡ M.zero
   unfolding T
   descend K f zero h v k = F.same-path v M.zero (h v k)
   descend K f (suc i) h v k = descend K f i (λ v k. down i K h v (f v k)) v k
@@ -81,9 +83,12 @@ module _ {n : ℕ} (q e : ℕ) (Γ : Group n) (W : IsPrime (suc q)) (size : n �
   pub nilpotent : (N : ℕ) × ((x : M.of) → Radical M N x → x ≡ M.zero)
   unfolding T
   nilpotent = let r : (N : ℕ) × ((x : M.of) → S q e Γ W size M F N x ≡ true) = vanish q e Γ W size M F in
-      (r.0, λ x m. F.same-path x M.zero (radical-down r.0 0 (λ x. subst (λ k. S q e Γ W size M F k x ≡ true) (sym (far-sum r.0 0 ∙ (let k : r.0 + 0 ≡ r.0 = omega arith in k))) (r.1 x)) x m))
+      (r.0, λ x m. F.same-path x M.zero (radical-down r.0 0
+          (λ x. subst (λ k. S q e Γ W size M F k x ≡ true)
+          (sym (far-sum r.0 0 ∙ (let k : r.0 + 0 ≡ r.0 = omega arith in k))) (r.1 x)) x m))
 
-  module _ (K L : M.of → Type 0) (U : IsSubmodule M L) (f : (v : M.of) → K v → (x y : M.of) × L x × Moved M K y × (v ≡ M.add x y)) where
+  module _ (K L : M.of → Type 0) (U : IsSubmodule M L) (f : (v : M.of) → K v → (x y : M.of) × L x
+      × Moved M K y × (v ≡ M.add x y)) where
     Parts : ℕ → M.of → Type 0
     Parts i v = (x y : M.of) × L x × T i y × (v ≡ M.add x y)
 
@@ -93,7 +98,8 @@ module _ {n : ℕ} (q e : ℕ) (Γ : Group n) (W : IsPrime (suc q)) (size : n �
     parts-down i h y (both {x = a} {y = b} m l) = join (parts-down i h a m) (parts-down i h b l)
       where
         join : Parts i a → Parts i b → Parts i (M.add a b)
-        join r s = (M.add r.0 s.0, M.add r.1 s.1, U.add-in r.0 s.0 r.2 s.2, S-add q e Γ W size M F i r.1 s.1 r.3 s.3, ap₂ M.add r.4 s.4 ∙ swap M r.0 r.1 s.0 s.1)
+        join r s = (M.add r.0 s.0, M.add r.1 s.1, U.add-in r.0 s.0 r.2 s.2,
+            S-add q e Γ W size M F i r.1 s.1 r.3 s.3, ap₂ M.add r.4 s.4 ∙ swap M r.0 r.1 s.0 s.1)
     parts-down i h y (moved g v k) = go (h v k)
       where
         go : Parts (suc i) v → Parts i (sub M (M.act g v) v)
@@ -102,7 +108,8 @@ module _ {n : ℕ} (q e : ℕ) (Γ : Group n) (W : IsPrime (suc q)) (size : n �
           sub M (M.act g r.1) r.1,
           sub-in M L U (M.act g r.0) r.0 (U.act-in g r.0 r.2) r.2,
           at-each q e Γ W size M F i r.1 r.3 g,
-          ap (λ w. sub M (M.act g w) w) r.4 ∙ ap (λ w. sub M w (M.add r.0 r.1)) (M.act-add g r.0 r.1) ∙ sub-add M (M.act g r.0) (M.act g r.1) r.0 r.1,
+          ap (λ w. sub M (M.act g w) w) r.4 ∙ ap (λ w. sub M w (M.add r.0 r.1)) (M.act-add g r.0 r.1)
+              ∙ sub-add M (M.act g r.0) (M.act g r.1) r.0 r.1,
         )
 
     parts-descend : (i : ℕ) → ((v : M.of) → K v → Parts i v) → (v : M.of) → K v → Parts 0 v
@@ -114,12 +121,14 @@ module _ {n : ℕ} (q e : ℕ) (Γ : Group n) (W : IsPrime (suc q)) (size : n �
         once v r = go (parts-down i h r.1 r.3)
           where
             go : Parts i r.1 → Parts i v
-            go s = (M.add r.0 s.0, s.1, U.add-in r.0 s.0 r.2 s.2, s.3, r.4 ∙ ap (M.add r.0) s.4 ∙ sym (M.add-assoc r.0 s.0 s.1))
+            go s = (M.add r.0 s.0, s.1, U.add-in r.0 s.0 r.2 s.2, s.3, r.4 ∙ ap (M.add r.0) s.4
+                ∙ sym (M.add-assoc r.0 s.0 s.1))
 
     -- Nakayama's lemma: K lies in a submodule L where K lies in L plus the span of all (g - 1) v with v in K
     pub nakayama : (v : M.of) → K v → L v
     unfolding Parts T
-    nakayama v k = go (parts-descend (vanish q e Γ W size M F).0 (λ v k. (M.zero, v, U.zero-in, (vanish q e Γ W size M F).1 v, sym (zero-add M v))) v k)
+    nakayama v k = go (parts-descend (vanish q e Γ W size M F).0
+        (λ v k. (M.zero, v, U.zero-in, (vanish q e Γ W size M F).1 v, sym (zero-add M v))) v k)
       where
         go : Parts 0 v → L v
         go r = subst L (sym (r.4 ∙ ap (M.add r.0) (F.same-path r.1 M.zero r.3) ∙ M.add-zero r.0)) r.2

@@ -24,8 +24,10 @@ module _ {n : ℕ} (q : ℕ) (Γ : Group n) (b : ℕ) where
   -- J^N is 0 for some N; where J^i lies in J^(i+1) it is 0; and so for every set in place of J^i
   pub record RadicalClaims : Type 0 where
     pub nilpotent : (N : ℕ) × ((v : T.of) → Radical T N v → v ≡ T.zero)
-    pub proper : (i : ℕ) → ((v : T.of) → Radical T i v → Radical T (suc i) v) → (v : T.of) → Radical T i v → v ≡ T.zero
-    pub proper-of : (K : T.of → Bool) → ((v : T.of) → Passing K v → Moved T (Passing K) v) → (v : T.of) → Passing K v → v ≡ T.zero
+    pub proper : (i : ℕ) → ((v : T.of) → Radical T i v → Radical T (suc i) v) → (v : T.of) → Radical T i v
+        → v ≡ T.zero
+    pub proper-of : (K : T.of → Bool) → ((v : T.of) → Passing K v → Moved T (Passing K) v) → (v : T.of)
+        → Passing K v → v ≡ T.zero
 
   -- Nakayama's lemma: K lies in a submodule L where it lies in L plus the span of all (g - 1) v with v in K
   abbrev pub NakayamaClaim : Type 0
@@ -37,5 +39,7 @@ module _ {n : ℕ} (q : ℕ) (Γ : Group n) (b : ℕ) where
   -- no fewer rows do, and what they take to 0 has blocks of sum 0
   pub record GeneratorClaims (K : T.of → Bool) (m : ℕ) (row : Below m → T.of) : Type 0 where
     pub generate : Generate q Γ T (Passing K) m row
-    pub fewest : (l : ℕ) (s : Below l → T.of) → ((i : Below l) → Passing K (s i)) → Generate q Γ T (Passing K) l s → m ≤ l
-    pub kernel : (u : (Table q Γ m).of) → lin T row (terms q Γ m u) ≡ T.zero → (i : Below m) → block-sum q Γ m u i ≡ residue q 0
+    pub fewest : (l : ℕ) (s : Below l → T.of) → ((i : Below l) → Passing K (s i))
+        → Generate q Γ T (Passing K) l s → m ≤ l
+    pub kernel : (u : (Table q Γ m).of) → lin T row (terms q Γ m u) ≡ T.zero → (i : Below m)
+        → block-sum q Γ m u i ≡ residue q 0

@@ -32,5 +32,6 @@ module _ {m n : ℕ} (Δ : Group m) (Γ : Group n) (f : Below m → Below n) (h 
     act-mul = λ g k x. ap (λ g. M.act g x) (h g k) ∙ M.act-mul (f g) (f k) x;
   }
 
-  pub linear-along : {p : ℕ} (M N : Module p (monoid Γ)) (u : M.of → N.of) → IsLinear M N u → IsLinear (module_along M) (module_along N) u
+  pub linear-along : {p : ℕ} (M N : Module p (monoid Γ)) (u : M.of → N.of) → IsLinear M N u
+      → IsLinear (module_along M) (module_along N) u
   linear-along M N u l = record { on-add = l.on-add; on-act = λ g x. l.on-act (f g) x }

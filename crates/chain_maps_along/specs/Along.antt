@@ -1,4 +1,5 @@
--- Maps of minimal resolutions along a homomorphism of groups, and the restriction of classes (Brown, "Cohomology of Groups", III.8).
+-- Maps of minimal resolutions along a homomorphism of groups, and the restriction of classes (Brown,
+-- "Cohomology of Groups", III.8).
 use Rattle.std.specs.Prelude.{◌≡◌, ℕ}
 use Rattle.group_modules.specs.Operations.{Ops, linear}
 use Rattle.group_modules.specs.Module.{ops}
@@ -21,10 +22,12 @@ along f M = record { of = M.of; zero = M.zero; add = M.add; act = λ g x. M.act 
 -- a group Δ with its stages A, and a map f to the group Γ with its stages S
 module _ {m n : ℕ} (q : ℕ) (Δ : Group m) (Γ : Group n) (f : Below m → Below n)
     (J : Coordinates q Δ) (A : StageRows) (K : Coordinates q Γ) (S : StageRows) where
-  -- where the basis elements go: 1 to 1, and those of degree d + 1 to the sections, in S, of the values at their boundaries
+  -- where the basis elements go: 1 to 1, and those of degree d + 1 to the sections, in S, of the values at
+  -- their boundaries
   abbrev pub image : (d : ℕ) → Below (rank q Δ A.ranks d) → (free q Γ K S d).of
   image =
-      steps (λ d. Below (rank q Δ A.ranks d)) (row_terms q Δ J A) (λ d. along f (ops (free q Γ K S d))) (section_table q Γ K S)
+      steps (λ d. Below (rank q Δ A.ranks d)) (row_terms q Δ J A) (λ d. along f (ops (free q Γ K S d)))
+          (section_table q Γ K S)
       (λ i. unit q Γ 1 (residue 0 0))
 
   -- the map of degree d, linear along f

@@ -45,7 +45,8 @@ module _ {p : ℕ} {G : Monoid} (M : Module p G) where
 
   -- (x - y) + y = x
   pub sub-back : (x y : M.of) → M.add (sub M x y) y ≡ x
-  sub-back x y = M.add-assoc x (M.neg y) y ∙ ap (M.add x) (M.add-comm (M.neg y) y ∙ M.add-neg y) ∙ M.add-zero x
+  sub-back x y = M.add-assoc x (M.neg y) y ∙ ap (M.add x) (M.add-comm (M.neg y) y ∙ M.add-neg y)
+      ∙ M.add-zero x
 
   -- elements with difference 0 are equal
   pub sub-eq : (x y : M.of) → sub M x y ≡ M.zero → x ≡ y
@@ -63,7 +64,8 @@ module _ {p : ℕ} {G : Monoid} (M : Module p G) where
 
   pub times-sum : (m n : ℕ) (x : M.of)
       → times M.add M.zero (m + n) x ≡ M.add (times M.add M.zero m x) (times M.add M.zero n x)
-  times-sum zero n x = ap (λ k. times M.add M.zero k x) (let e : 0 + n ≡ n = omega arith in e) ∙ sym (zero-add (times M.add M.zero n x))
+  times-sum zero n x = ap (λ k. times M.add M.zero k x) (let e : 0 + n ≡ n = omega arith in e)
+      ∙ sym (zero-add (times M.add M.zero n x))
   times-sum (suc m) n x =
       ap (λ k. times M.add M.zero k x) (let e : suc m + n ≡ suc (m + n) = omega arith in e)
       ∙ ap (M.add x) (times-sum m n x) ∙ sym (M.add-assoc x _ _)
@@ -78,7 +80,8 @@ module _ {p : ℕ} {G : Monoid} (M : Module p G) where
   pub times-mod : (n : ℕ) (x : M.of) → times M.add M.zero (n % p) x ≡ times M.add M.zero n x
   times-mod n x =
       sym
-      (ap (λ k. times M.add M.zero k x) (sym (div-add-mod n p) ∙ (let e : p * (n / p) + n % p ≡ (n / p) * p + n % p = omega arith in e))
+      (ap (λ k. times M.add M.zero k x) (sym (div-add-mod n p)
+          ∙ (let e : p * (n / p) + n % p ≡ (n / p) * p + n % p = omega arith in e))
       ∙ times-sum ((n / p) * p) (n % p) x
       ∙ ap (λ y. M.add y (times M.add M.zero (n % p) x)) (times-multiple (n / p) x) ∙ zero-add _)
 
@@ -89,7 +92,8 @@ module _ {p : ℕ} {G : Monoid} (M : Module p G) where
       ∙ ap (λ z. M.add z (M.neg x)) e ∙ M.add-neg x
 
   pub act-zero : (g : G.elem) → M.act g M.zero ≡ M.zero
-  act-zero g = double-zero (M.act g M.zero) (sym (M.act-add g M.zero M.zero) ∙ ap (M.act g) (M.add-zero M.zero))
+  act-zero g = double-zero (M.act g M.zero) (sym (M.act-add g M.zero M.zero)
+      ∙ ap (M.act g) (M.add-zero M.zero))
 
   pub act-neg : (g : G.elem) (x : M.of) → M.act g (M.neg x) ≡ M.neg (M.act g x)
   act-neg g x =
@@ -117,11 +121,13 @@ module _ {p : ℕ} {G : Monoid} (M : Module p G) where
       (lin-add f g ts)
       ∙ swap _ _ _ _
 
-  pub lin-neg : {X : Type 0} (f : X → M.of) (t : List (Term G X)) → lin M (λ x. M.neg (f x)) t ≡ M.neg (lin M f t)
+  pub lin-neg : {X : Type 0} (f : X → M.of) (t : List (Term G X))
+      → lin M (λ x. M.neg (f x)) t ≡ M.neg (lin M f t)
   lin-neg f [] = sym neg-zero
   lin-neg f (t ∷ ts) =
       ap₂ M.add
-      (ap (times M.add M.zero t.coef) (act-neg t.elem (f t.base)) ∙ times-neg t.coef (M.act t.elem (f t.base)))
+      (ap (times M.add M.zero t.coef) (act-neg t.elem (f t.base))
+          ∙ times-neg t.coef (M.act t.elem (f t.base)))
       (lin-neg f ts)
       ∙ sym (neg-add _ _)
 
@@ -150,13 +156,16 @@ map-lin M N f l u [] = map-zero M N f l.on-add
 map-lin M N f l u (t ∷ ts) =
     l.on-add _ _
     ∙ ap₂ N.add
-    (map-times M N f l.on-add t.coef (M.act t.elem (u t.base)) ∙ ap (times N.add N.zero t.coef) (l.on-act t.elem (u t.base)))
+    (map-times M N f l.on-add t.coef (M.act t.elem (u t.base))
+        ∙ ap (times N.add N.zero t.coef) (l.on-act t.elem (u t.base)))
     (map-lin M N f l u ts)
 
-pub lin-zero : {p : ℕ} {G : Monoid} (M : Module p G) {X : Type 0} (t : List (Term G X)) → lin M (λ x. M.zero) t ≡ M.zero
+pub lin-zero : {p : ℕ} {G : Monoid} (M : Module p G) {X : Type 0} (t : List (Term G X))
+    → lin M (λ x. M.zero) t ≡ M.zero
 lin-zero M [] = refl
 lin-zero M (t ∷ ts) =
-    ap₂ M.add (ap (times M.add M.zero t.coef) (act-zero M t.elem) ∙ times-zero M t.coef) (lin-zero M ts) ∙ M.add-zero M.zero
+    ap₂ M.add (ap (times M.add M.zero t.coef) (act-zero M t.elem) ∙ times-zero M t.coef) (lin-zero M ts)
+        ∙ M.add-zero M.zero
 
 -- one linear map after another
 pub then-linear : {p : ℕ} {G : Monoid} (M N K : Module p G) (f : M.of → N.of) (g : N.of → K.of)

@@ -39,7 +39,8 @@ module _ {n : ℕ} (q : ℕ) (Γ : Group n) where
     abbrev part : (Table b).of → Below b → Below n → M.of
     part v i g = tables.part q Γ M b u v i g
 
-    block-terms-sum : (v : (Table b).of) (i : Below b) (gs : List (Below n)) → lin M u (block-terms b v i gs) ≡ total M gs (part v i)
+    block-terms-sum : (v : (Table b).of) (i : Below b) (gs : List (Below n))
+        → lin M u (block-terms b v i gs) ≡ total M gs (part v i)
     block-terms-sum v i [] = refl
     block-terms-sum v i (g ∷ gs) = ap (M.add (part v i g)) (block-terms-sum v i gs)
 
@@ -48,10 +49,13 @@ module _ {n : ℕ} (q : ℕ) (Γ : Group n) where
         → lin M u (terms-of b v is) ≡ total M is (λ i. total M (below n) (part v i))
     lin-terms v [] = refl
     lin-terms v (i ∷ is) =
-        lin-append M u (block-terms b v i (below n)) (terms-of b v is) ∙ ap₂ M.add (block-terms-sum v i (below n)) (lin-terms v is)
+        lin-append M u (block-terms b v i (below n)) (terms-of b v is)
+            ∙ ap₂ M.add (block-terms-sum v i (below n)) (lin-terms v is)
 
-    part-add : (v w : (Table b).of) (i : Below b) (g : Below n) → part (table-add b v w) i g ≡ M.add (part v i g) (part w i g)
-    part-add v w i g = times-mod M ((v i g).0 + (w i g).0) (M.act g (u i)) ∙ times-sum M (v i g).0 (w i g).0 (M.act g (u i))
+    part-add : (v w : (Table b).of) (i : Below b) (g : Below n)
+        → part (table-add b v w) i g ≡ M.add (part v i g) (part w i g)
+    part-add v w i g = times-mod M ((v i g).0 + (w i g).0) (M.act g (u i))
+        ∙ times-sum M (v i g).0 (w i g).0 (M.act g (u i))
 
     pub terms-add : IsAdditive (Table b) M (λ v. lin M u (terms b v))
     terms-add v w =
@@ -63,7 +67,8 @@ module _ {n : ℕ} (q : ℕ) (Γ : Group n) where
         ∙ sym (ap₂ M.add (lin-terms v (below b)) (lin-terms w (below b)))
 
     -- at `g unit(i)` it is g u(i)
-    pub terms-at-unit : (g : Below n) (i : Below b) → lin M u (terms b ((Table b).act g (unit b i))) ≡ M.act g (u i)
+    pub terms-at-unit : (g : Below n) (i : Below b)
+        → lin M u (terms b ((Table b).act g (unit b i))) ≡ M.act g (u i)
     terms-at-unit g i =
         let v : (Table b).of = (Table b).act g (unit b i) in
         lin-terms v (below b)
@@ -71,7 +76,8 @@ module _ {n : ℕ} (q : ℕ) (Γ : Group n) where
         (λ j e. total-zero M (below n) (part v j) (λ h. off j h e (eqb_tells j.0 i.0)))
         ∙ total-only M n (part v i) g (λ h e. off-elem h e (eqb_tells (Γ.mul (Γ.inv g) h).0 Γ.one.0))
         ∙ ap (λ c. times M.add M.zero (mark c).0 (M.act g (u i)))
-        (ap₂ ◌&&◌ (eq-eqb i.0 i.0 refl) (eq-eqb (Γ.mul (Γ.inv g) g).0 Γ.one.0 (ap (λ (k : Below n). k.0) (Γ.inv-mul g))))
+        (ap₂ ◌&&◌ (eq-eqb i.0 i.0 refl) (eq-eqb (Γ.mul (Γ.inv g) g).0 Γ.one.0
+            (ap (λ (k : Below n). k.0) (Γ.inv-mul g))))
         ∙ times-mod M 1 (M.act g (u i)) ∙ M.add-zero (M.act g (u i))
       where
         off : (j : Below b) (h : Below n) → j.0 ≢ i.0
@@ -83,10 +89,12 @@ module _ {n : ℕ} (q : ℕ) (Γ : Group n) where
             ∙ times-mod M 0 (M.act h (u j))
 
         off-elem : (h : Below n) → h.0 ≢ g.0
-            → ((eqb (Γ.mul (Γ.inv g) h).0 Γ.one.0 ≡ true) × ((Γ.mul (Γ.inv g) h).0 ≡ Γ.one.0)) ⊎ ((eqb (Γ.mul (Γ.inv g) h).0 Γ.one.0 ≡ false) × ((Γ.mul (Γ.inv g) h).0 ≢ Γ.one.0))
+            → ((eqb (Γ.mul (Γ.inv g) h).0 Γ.one.0 ≡ true) × ((Γ.mul (Γ.inv g) h).0 ≡ Γ.one.0))
+                ⊎ ((eqb (Γ.mul (Γ.inv g) h).0 Γ.one.0 ≡ false) × ((Γ.mul (Γ.inv g) h).0 ≢ Γ.one.0))
             → part ((Table b).act g (unit b i)) i h ≡ M.zero
         off-elem h e (inl k) =
-            absurd (e (ap (λ (k : Below n). k.0) (inv-inv-mul q Γ g h (below-path (Γ.mul (Γ.inv g) h) Γ.one k.1))))
+            absurd (e (ap (λ (k : Below n). k.0)
+                (inv-inv-mul q Γ g h (below-path (Γ.mul (Γ.inv g) h) Γ.one k.1))))
         off-elem h e (inr k) =
             ap (λ c. times M.add M.zero (mark c).0 (M.act h (u i))) (ap₂ ◌&&◌ (eq-eqb i.0 i.0 refl) k.0)
             ∙ times-mod M 0 (M.act h (u i))

@@ -21,8 +21,12 @@ module _ {n : ℕ} (q : ℕ) (Γ : Group n) where
     pub section : (d : ℕ) → (Table q Γ (rank ranks d)).of → (Table q Γ (rank ranks (suc d))).of
     pub section-nil : (d : ℕ) → section d (λ i g. residue q 0) ≡ (λ i g. residue q 0)
     -- minimal: each block of each row has sum 0
-    pub minimal : (d : ℕ) (i : Below (rank ranks (suc d))) (j : Below (rank ranks d)) → block-sum q Γ (rank ranks d) (row d i) j ≡ residue q 0
-    pub complex : (d : ℕ) (i : Below (rank ranks (suc (suc d)))) → map-of ranks row d (row (suc d) i) ≡ (λ i g. residue q 0)
-    pub exact-zero : (v : (Table q Γ 1).of) → block-sum q Γ 1 v (residue 0 0) ≡ residue q 0 → map-of ranks row 0 (section 0 v) ≡ v
-    pub exact-suc : (d : ℕ) (v : (Table q Γ (rank ranks (suc d))).of) → map-of ranks row d v ≡ (λ i g. residue q 0)
+    pub minimal : (d : ℕ) (i : Below (rank ranks (suc d))) (j : Below (rank ranks d))
+        → block-sum q Γ (rank ranks d) (row d i) j ≡ residue q 0
+    pub complex : (d : ℕ) (i : Below (rank ranks (suc (suc d))))
+        → map-of ranks row d (row (suc d) i) ≡ (λ i g. residue q 0)
+    pub exact-zero : (v : (Table q Γ 1).of) → block-sum q Γ 1 v (residue 0 0) ≡ residue q 0
+        → map-of ranks row 0 (section 0 v) ≡ v
+    pub exact-suc : (d : ℕ) (v : (Table q Γ (rank ranks (suc d))).of)
+        → map-of ranks row d v ≡ (λ i g. residue q 0)
         → map-of ranks row (suc d) (section (suc d) v) ≡ v

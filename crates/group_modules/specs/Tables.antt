@@ -3,7 +3,8 @@ use Rattle.std.specs.Prelude.{ℕ, suc, refl, List, [], ◌∷◌, ◌++◌, Boo
 use Rattle.group_modules.specs.Module.{Monoid, Module, times, Term}
 use Rattle.group_modules.specs.Field.{Below, Fp, residue, plus, minus}
 use Rattle.group_modules.specs.Sums.{below, total}
-use Rattle.numbered_groups.proofs.Entries.{entries-set, entries-assoc, entries-comm, entries-zero, entries-neg, entries-p, move-one, move-mul}
+use Rattle.numbered_groups.proofs.Entries.{entries-set, entries-assoc, entries-comm, entries-zero,
+    entries-neg, entries-p, move-one, move-mul}
 pub use Rattle.numbered_groups.specs.Groups.{Group}
 
 -- the group, of which only the product and the unit are used
@@ -18,7 +19,8 @@ monoid {n} Γ = record {
 }
 
 module _ {n : ℕ} (q : ℕ) (Γ : Group n) where
-  abbrev pub table-add : (b : ℕ) → (v w : Below b → Below n → Below (suc q)) → Below b → Below n → Below (suc q)
+  abbrev pub table-add : (b : ℕ) → (v w : Below b → Below n → Below (suc q)) → Below b → Below n
+      → Below (suc q)
   table-add b v w i g = plus q (v i g) (w i g)
 
   -- a coefficient for each block and group element; h moves the entry at g to h g
@@ -49,7 +51,8 @@ module _ {n : ℕ} (q : ℕ) (Γ : Group n) where
   unit b i j h = mark (eqb j.0 i.0 && eqb h.0 Γ.one.0)
 
   -- block i of v as a formal sum, and v as a formal sum
-  abbrev pub block-terms : (b : ℕ) → (Table b).of → Below b → List (Below n) → List (Term (monoid Γ) (Below b))
+  abbrev pub block-terms : (b : ℕ) → (Table b).of → Below b → List (Below n)
+      → List (Term (monoid Γ) (Below b))
   block-terms b v i [] = []
   block-terms b v i (g ∷ gs) = record { coef = (v i g).0; elem = g; base = i } ∷ block-terms b v i gs
 

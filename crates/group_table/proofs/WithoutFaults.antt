@@ -5,7 +5,8 @@ use Rattle.std.proofs.Math.Nat.{one-le-pow}
 use Rattle.group_table.specs.Prime.{prime_value}
 use Rattle.group_table.specs.declared.Prime.{Prime}
 use Rattle.group_table.specs.declared.Prime.TheVariants.{P2, P3, P5, P7}
-use Rattle.group_table.specs.TableFaults.{HasUnit, HasLatinRows, IsAssociative, IsLatinAt, IsAssociativeAt, IsFirstFailure, IsFirstNotAssociative}
+use Rattle.group_table.specs.TableFaults.{HasUnit, HasLatinRows, IsAssociative, IsLatinAt, IsAssociativeAt,
+    IsFirstFailure, IsFirstNotAssociative}
 use Rattle.group_table.specs.Tables.{GroupTable, IsTable, IsGroupTable, order, order_is, product, product_is}
 use Rattle.group_table.proofs.Laws.{place-below}
 use Rattle.group_table.proofs.Pigeonhole.{preimage}
@@ -16,20 +17,24 @@ order-positive P3 n = one-le-pow n 3 (omega arith)
 order-positive P5 n = one-le-pow n 5 (omega arith)
 order-positive P7 n = one-le-pow n 7 (omega arith)
 
-pub table-of : (G : GroupTable) → length G.entries ≡ G.p ^ G.n * G.p ^ G.n → All (λ e. e < G.p ^ G.n) G.entries → IsTable G
+pub table-of : (G : GroupTable) → length G.entries ≡ G.p ^ G.n * G.p ^ G.n
+    → All (λ e. e < G.p ^ G.n) G.entries → IsTable G
 table-of G size entries =
     record {
       size = rw order_is size;
       closed = λ a b i j.
           let e = order_is G in
-          let p : a * (G.p ^ G.n) + b < length G.entries = rw size (place-below a b (G.p ^ G.n) (rw (← e) i) (rw (← e) j)) in
-          rw (product_is, order_is) (All-get_or (λ e. e < G.p ^ G.n) G.entries (a * (G.p ^ G.n) + b) 0 p entries);
+          let p : a * (G.p ^ G.n) + b < length G.entries =
+              rw size (place-below a b (G.p ^ G.n) (rw (← e) i) (rw (← e) j)) in
+          rw (product_is, order_is) (All-get_or (λ e. e < G.p ^ G.n) G.entries
+              (a * (G.p ^ G.n) + b) 0 p entries);
     }
 
 ordered : (i j : ℕ) → (i < j) ⊎ ((i ≡ j) ⊎ (j < i))
 ordered i j = grind arith
 
-latin-one : (G : GroupTable) (a : ℕ) → IsLatinAt G a → (i j : ℕ) → i < order G → j < order G → product G a i ≡ product G a j → i ≡ j
+latin-one : (G : GroupTable) (a : ℕ) → IsLatinAt G a → (i j : ℕ) → i < order G → j < order G
+    → product G a i ≡ product G a j → i ≡ j
 latin-one G a latin i j p q e = go (ordered i j)
   where
     go : (i < j) ⊎ ((i ≡ j) ⊎ (j < i)) → i ≡ j
@@ -37,7 +42,8 @@ latin-one G a latin i j p q e = go (ordered i j)
     go (inr (inl h)) = h
     go (inr (inr h)) = absurd (latin j i h p (sym e))
 
-pub group-of : (G : GroupTable) → 0 < order G → IsTable G → HasUnit G → HasLatinRows G → IsAssociative G → IsGroupTable G
+pub group-of : (G : GroupTable) → 0 < order G → IsTable G → HasUnit G → HasLatinRows G → IsAssociative G
+    → IsGroupTable G
 group-of G some table unit latin associative =
     record {
       closed = table.closed;
@@ -49,12 +55,14 @@ group-of G some table unit latin associative =
           let b = right a i in
           let c = right b.0 b.1 in
           let same : a ≡ c.0 =
-          sym ((unit a i).1) ∙ ap (product G a) (sym c.2) ∙ sym (associative a b.0 c.0 i b.1 c.1) ∙ ap (λ x. product G x c.0) b.2 ∙ (unit c.0 c.1).0 in
+          sym ((unit a i).1) ∙ ap (product G a) (sym c.2) ∙ sym (associative a b.0 c.0 i b.1 c.1)
+              ∙ ap (λ x. product G x c.0) b.2 ∙ (unit c.0 c.1).0 in
           (b.0, b.1, b.2, ap (product G b.0) same ∙ c.2);
     }
   where
     right : (a : ℕ) → a < order G → (b : ℕ) × (b < order G) × (product G a b ≡ 0)
-    right a i = preimage (order G) (product G a) (λ b j. table.closed a b i j) (latin-one G a (latin a i)) 0 some
+    right a i = preimage (order G) (product G a) (λ b j. table.closed a b i j)
+        (latin-one G a (latin a i)) 0 some
 
 -- what comes first place by place comes first in the order of triples
 pub first-triple : (G : GroupTable) (a b c : ℕ) → a < order G

@@ -2,7 +2,8 @@
 use Rattle.std.specs.Prelude.{◌≡◌, ◌≢◌, ℕ, ◌<◌, ◌⊎◌}
 use Rattle.group_table.specs.Tables.{GroupTable, order, product}
 use Rattle.group_table.specs.declared.table_fault.TableFault.{TableFault}
-use Rattle.group_table.specs.declared.table_fault.TableFault.TheVariants.{NotUnit, NotLatin, NotAssociative, Memory}
+use Rattle.group_table.specs.declared.table_fault.TableFault.TheVariants.{NotUnit, NotLatin, NotAssociative,
+    Memory}
 
 -- 0 is a unit for a on both sides
 abbrev pub IsUnitAt : GroupTable → ℕ → Type 0
@@ -40,7 +41,8 @@ pub record IsFirstNotAssociative (G : GroupTable) (a b c : ℕ) : Type 0 where
   pub middle : b < order G
   pub right : c < order G
   pub fails : ¬ IsAssociativeAt G a b c
-  pub earlier : (i j k : ℕ) → i < order G → j < order G → k < order G → IsBefore i j k a b c → IsAssociativeAt G i j k
+  pub earlier : (i j k : ℕ) → i < order G → j < order G → k < order G → IsBefore i j k a b c
+      → IsAssociativeAt G i j k
 
 -- the fault comes first: the unit is looked at before the rows, and these before associativity
 abbrev pub IsFirstFault : GroupTable → TableFault → Type 0

@@ -52,10 +52,12 @@ same_below h k l = sym (mod-eq_of_lt k) ∙ h.same_remainder ∙ mod-eq_of_lt l
 
 -- c * a + (p - 1) * (c * a) is 0: p - 1 stands for -1
 pub congruent_minus : {p : ℕ} (a : ℕ) → 1 < p → IsCongruent p (a + (p - 1) * a) 0
-congruent_minus {p} a h = to_congruent 0 a (let e : (1 + (p - 1)) * a ≡ p * a = ap (λ x. x * a) (omega arith) in omega (arith, e))
+congruent_minus {p} a h = to_congruent 0 a
+    (let e : (1 + (p - 1)) * a ≡ p * a = ap (λ x. x * a) (omega arith) in omega (arith, e))
 
 -- a field has no zero divisors
-pub no_zero_divisors : {p : ℕ} → IsFieldModulo p → (a b : ℕ) → IsCongruent p (a * b) 0 → a % p ≢ 0 → IsCongruent p b 0
+pub no_zero_divisors : {p : ℕ} → IsFieldModulo p → (a b : ℕ) → IsCongruent p (a * b) 0 → a % p ≢ 0
+    → IsCongruent p b 0
 no_zero_divisors {p} f a b h n = let i = f.inverse a n in
     congruent_trans (congruent_eq (omega arith))
     (congruent_trans (congruent_sym (congruent_mul_right b i.1))

@@ -1,14 +1,18 @@
 -- One more row in a reduced echelon list.
-use Rattle.std.proofs.Common.{◌≡◌, ◌≢◌, ℕ, suc, ◌+◌, ◌*◌, ◌-◌, ◌<◌, ◌≤◌, ◌⊎◌, List, [], ◌∷◌, ◌++◌, length, inl, inr, arith, ap, sym, ◌∙◌, refl}
+use Rattle.std.proofs.Common.{◌≡◌, ◌≢◌, ℕ, suc, ◌+◌, ◌*◌, ◌-◌, ◌<◌, ◌≤◌, ◌⊎◌, List, [], ◌∷◌, ◌++◌, length,
+    inl, inr, arith, ap, sym, ◌∙◌, refl}
 use Rattle.std.specs.Prelude.{insert}
 use Rattle.std.proofs.lemmas.Bool.{cases_lt, cases_order}
-use Rattle.std.proofs.lemmas.List.Edits.{length-insert, get_or-insert_below, get_or-insert_at, get_or-insert_above}
+use Rattle.std.proofs.lemmas.List.Edits.{length-insert, get_or-insert_below, get_or-insert_at,
+    get_or-insert_above}
 use Rattle.std.proofs.Math.Nat.{sub-zero}
 use Rattle.linear_algebra.specs.Modular.{IsCongruent}
 use Rattle.linear_algebra.specs.Rows.{entry, row, pivot, IsRow, IsMatrix, IsEchelon, IsInSpan, AreInSpan}
 use Rattle.linear_algebra.specs.Elimination.{AreCleared, IsPlace}
-use Rattle.linear_algebra.proofs.Congruences.{congruent_refl, congruent_add, congruent_trans, congruent_eq, congruent_sym, same_below, to_congruent}
-use Rattle.linear_algebra.proofs.Spans.{in_span_congruent, in_span_row, in_span_add, in_span_pushed, are_in_span_push, are_in_span_with}
+use Rattle.linear_algebra.proofs.Congruences.{congruent_refl, congruent_add, congruent_trans, congruent_eq,
+    congruent_sym, same_below, to_congruent}
+use Rattle.linear_algebra.proofs.Spans.{in_span_congruent, in_span_row, in_span_add, in_span_pushed,
+    are_in_span_push, are_in_span_with}
 use Rattle.linear_algebra.proofs.PivotLemmas.{before_pivot, pivot_is}
 
 -- what the new row v, with the pivot t, is to the list E
@@ -19,11 +23,14 @@ pub record IsNewRow (p width t : ℕ) (E : List (List ℕ)) (v : List ℕ) : Typ
   pub monic : entry v t ≡ 1
   pub zero_at_pivots : (i : ℕ) → i < length E → entry v (pivot (row E i)) ≡ 0
 
-module _ {p width t : ℕ} {E D : List (List ℕ)} {v : List ℕ} (one : 1 < p) (M : IsMatrix p width E) (e : IsEchelon E)
+module _ {p width t : ℕ} {E D : List (List ℕ)} {v : List ℕ} (one : 1 < p) (M : IsMatrix p width E)
+    (e : IsEchelon E)
     (n : IsNewRow p width t E v) (c : AreCleared p width t v E D) where
   -- an entry of a cleared row that is congruent to a number below p
-  cleared_entry : (i j a : ℕ) → i < length E → j < width → a < p → IsCongruent p (entry (row E i) j + (p - entry (row E i) t) * entry v j) a → entry (row D i) j ≡ a
-  cleared_entry i j a l w b h = same_below (congruent_trans ((c.each i l).each j) h) ((c.each i l).is_row.below j w) b
+  cleared_entry : (i j a : ℕ) → i < length E → j < width → a < p
+      → IsCongruent p (entry (row E i) j + (p - entry (row E i) t) * entry v j) a → entry (row D i) j ≡ a
+  cleared_entry i j a l w b h = same_below (congruent_trans ((c.each i l).each j) h)
+      ((c.each i l).is_row.below j w) b
 
   pivot_inside : (i : ℕ) → i < length E → pivot (row E i) < width
   pivot_inside i l = omega (arith, e.not_zero i l, (M i l).length_is)
@@ -34,12 +41,16 @@ module _ {p width t : ℕ} {E D : List (List ℕ)} {v : List ℕ} (one : 1 < p) 
 
   cleared_before : (i j : ℕ) → i < length E → j < pivot (row E i) → (j < t) ⊎ (t ≤ j) → entry (row D i) j ≡ 0
   cleared_before i j l b (inl a) = cleared_entry i j 0 l (omega (arith, pivot_inside i l)) (omega arith)
-      (congruent_eq (rw (before_pivot (row E i) j b, before_pivot v j (omega (arith, n.pivot_is_t))) (omega arith)))
+      (congruent_eq (rw (before_pivot (row E i) j b,
+          before_pivot v j (omega (arith, n.pivot_is_t))) (omega arith)))
   cleared_before i j l b (inr a) = cleared_entry i j 0 l (omega (arith, pivot_inside i l)) (omega arith)
-      (to_congruent 0 (entry v j) (rw (before_pivot (row E i) j b, before_pivot (row E i) t (omega arith), sub-zero) (omega arith)))
+      (to_congruent 0 (entry v j) (rw (before_pivot (row E i) j b, before_pivot (row E i) t (omega arith),
+          sub-zero) (omega arith)))
 
-  cleared_at_pivot : (i k : ℕ) → i < length E → k < length E → entry (row D k) (pivot (row E i)) ≡ entry (row E k) (pivot (row E i))
-  cleared_at_pivot i k l m = cleared_entry k (pivot (row E i)) (entry (row E k) (pivot (row E i))) m (pivot_inside i l) ((M k m).below (pivot (row E i)) (pivot_inside i l))
+  cleared_at_pivot : (i k : ℕ) → i < length E → k < length E
+      → entry (row D k) (pivot (row E i)) ≡ entry (row E k) (pivot (row E i))
+  cleared_at_pivot i k l m = cleared_entry k (pivot (row E i)) (entry (row E k) (pivot (row E i))) m
+      (pivot_inside i l) ((M k m).below (pivot (row E i)) (pivot_inside i l))
       (congruent_eq (rw (n.zero_at_pivots i l) (omega arith)))
 
   pub cleared_pivot : (i : ℕ) → i < length E → pivot (row D i) ≡ pivot (row E i)
@@ -59,7 +70,8 @@ module _ {p width t : ℕ} {E D : List (List ℕ)} {v : List ℕ} (one : 1 < p) 
       is_v : row (insert D pos v) k ≡ v
 
     length_new : length (insert D pos v) ≡ suc (length E)
-    length_new = length-insert D pos v (let a = P.within in let b = c.same_length in omega arith) ∙ (let b = c.same_length in omega arith)
+    length_new = length-insert D pos v (let a = P.within in let b = c.same_length in omega arith)
+        ∙ (let b = c.same_length in omega arith)
 
     which : (k : ℕ) → k < length (insert D pos v) → OldRow k ⊎ NewRow k
     which k l = go (cases_order k pos)
@@ -68,12 +80,16 @@ module _ {p width t : ℕ} {E D : List (List ℕ)} {v : List ℕ} (one : 1 < p) 
         room = let a = P.within in let b = c.same_length in omega arith
 
         shift : (m : ℕ) → pos < m → m < suc (length E) → row (insert D pos v) m ≡ row D (m - 1)
-        shift m a b = let s : m ≡ (m - 1) + 1 = omega arith in ap (row (insert D pos v)) s ∙ get_or-insert_above D pos v [] (m - 1) (omega arith) room
+        shift m a b = let s : m ≡ (m - 1) + 1 = omega arith in ap (row (insert D pos v)) s
+            ∙ get_or-insert_above D pos v [] (m - 1) (omega arith) room
 
         go : (k ≡ pos) ⊎ ((k < pos) ⊎ (pos < k)) → OldRow k ⊎ NewRow k
-        go (inl e) = inr (record { at_pos = e; is_v = ap (row (insert D pos v)) e ∙ get_or-insert_at D pos v [] room })
-        go (inr (inl b)) = inl (record { at = k; inside_E = let a = P.within in omega arith; is_row_k = get_or-insert_below D pos v [] k b room; side = inl (b, refl) })
-        go (inr (inr a)) = inl (record { at = k - 1; inside_E = let q = length_new in omega arith; is_row_k = shift k a (let q = length_new in omega arith); side = inr (a, omega arith) })
+        go (inl e) = inr (record { at_pos = e; is_v = ap (row (insert D pos v)) e
+            ∙ get_or-insert_at D pos v [] room })
+        go (inr (inl b)) = inl (record { at = k; inside_E = let a = P.within in omega arith;
+            is_row_k = get_or-insert_below D pos v [] k b room; side = inl (b, refl) })
+        go (inr (inr a)) = inl (record { at = k - 1; inside_E = let q = length_new in omega arith;
+            is_row_k = shift k a (let q = length_new in omega arith); side = inr (a, omega arith) })
 
     old_pivot : {k : ℕ} (o : OldRow k) → pivot (row (insert D pos v) k) ≡ pivot (row E o.at)
     old_pivot o = ap pivot o.is_row_k ∙ cleared_pivot o.at o.inside_E
@@ -89,14 +105,19 @@ module _ {p width t : ℕ} {E D : List (List ℕ)} {v : List ℕ} (one : 1 < p) 
     inserted_not_zero k (inl o) = rw (old_pivot o) (pivot_inside o.at o.inside_E)
     inserted_not_zero k (inr w) = rw (new_pivot w) n.inside
 
-    inserted_monic : (k : ℕ) → OldRow k ⊎ NewRow k → entry (row (insert D pos v) k) (pivot (row (insert D pos v) k)) ≡ 1
-    inserted_monic k (inl o) = rw (old_pivot o, o.is_row_k) (cleared_at_pivot o.at o.at o.inside_E o.inside_E ∙ e.monic o.at o.inside_E)
+    inserted_monic : (k : ℕ) → OldRow k ⊎ NewRow k
+        → entry (row (insert D pos v) k) (pivot (row (insert D pos v) k)) ≡ 1
+    inserted_monic k (inl o) = rw (old_pivot o, o.is_row_k) (cleared_at_pivot o.at o.at o.inside_E o.inside_E
+        ∙ e.monic o.at o.inside_E)
     inserted_monic k (inr w) = rw (new_pivot w, w.is_v) n.monic
 
-    inserted_ascending : (i k : ℕ) → i < k → OldRow i ⊎ NewRow i → OldRow k ⊎ NewRow k → pivot (row (insert D pos v) i) < pivot (row (insert D pos v) k)
-    inserted_ascending i k l (inl o) (inl q) = rw (old_pivot o, old_pivot q) (e.ascending o.at q.at (sides o.side q.side) q.inside_E)
+    inserted_ascending : (i k : ℕ) → i < k → OldRow i ⊎ NewRow i → OldRow k ⊎ NewRow k
+        → pivot (row (insert D pos v) i) < pivot (row (insert D pos v) k)
+    inserted_ascending i k l (inl o) (inl q) =
+        rw (old_pivot o, old_pivot q) (e.ascending o.at q.at (sides o.side q.side) q.inside_E)
       where
-        sides : ((i < pos) × (o.at ≡ i)) ⊎ ((pos < i) × (i ≡ suc o.at)) → ((k < pos) × (q.at ≡ k)) ⊎ ((pos < k) × (k ≡ suc q.at)) → o.at < q.at
+        sides : ((i < pos) × (o.at ≡ i)) ⊎ ((pos < i) × (i ≡ suc o.at)) → ((k < pos) × (q.at ≡ k))
+            ⊎ ((pos < k) × (k ≡ suc q.at)) → o.at < q.at
         sides (inl a) (inl b) = omega arith
         sides (inl a) (inr b) = omega arith
         sides (inr a) (inl b) = omega arith
@@ -106,17 +127,22 @@ module _ {p width t : ℕ} {E D : List (List ℕ)} {v : List ℕ} (one : 1 < p) 
         sides : ((i < pos) × (o.at ≡ i)) ⊎ ((pos < i) × (i ≡ suc o.at)) → o.at < pos
         sides (inl a) = omega arith
         sides (inr a) = let b = w.at_pos in omega arith
-    inserted_ascending i k l (inr w) (inl q) = rw (new_pivot w, old_pivot q) (P.above q.at (sides q.side) q.inside_E)
+    inserted_ascending i k l (inr w) (inl q) =
+        rw (new_pivot w, old_pivot q) (P.above q.at (sides q.side) q.inside_E)
       where
         sides : ((k < pos) × (q.at ≡ k)) ⊎ ((pos < k) × (k ≡ suc q.at)) → pos ≤ q.at
         sides (inl a) = let b = w.at_pos in omega arith
         sides (inr a) = omega arith
     inserted_ascending i k l (inr w) (inr x) = absurd (let a = w.at_pos in let b = x.at_pos in omega arith)
 
-    inserted_cleared : (i k : ℕ) → i ≢ k → OldRow i ⊎ NewRow i → OldRow k ⊎ NewRow k → entry (row (insert D pos v) k) (pivot (row (insert D pos v) i)) ≡ 0
-    inserted_cleared i k l (inl o) (inl q) = rw (old_pivot o, q.is_row_k) (cleared_at_pivot o.at q.at o.inside_E q.inside_E ∙ e.cleared o.at q.at o.inside_E q.inside_E (sides o.side q.side))
+    inserted_cleared : (i k : ℕ) → i ≢ k → OldRow i ⊎ NewRow i → OldRow k ⊎ NewRow k
+        → entry (row (insert D pos v) k) (pivot (row (insert D pos v) i)) ≡ 0
+    inserted_cleared i k l (inl o) (inl q) =
+        rw (old_pivot o, q.is_row_k) (cleared_at_pivot o.at q.at o.inside_E q.inside_E
+        ∙ e.cleared o.at q.at o.inside_E q.inside_E (sides o.side q.side))
       where
-        sides : ((i < pos) × (o.at ≡ i)) ⊎ ((pos < i) × (i ≡ suc o.at)) → ((k < pos) × (q.at ≡ k)) ⊎ ((pos < k) × (k ≡ suc q.at)) → o.at ≢ q.at
+        sides : ((i < pos) × (o.at ≡ i)) ⊎ ((pos < i) × (i ≡ suc o.at)) → ((k < pos) × (q.at ≡ k))
+            ⊎ ((pos < k) × (k ≡ suc q.at)) → o.at ≢ q.at
         sides (inl a) (inl b) = omega arith
         sides (inl a) (inr b) = omega arith
         sides (inr a) (inl b) = omega arith
@@ -137,8 +163,10 @@ module _ {p width t : ℕ} {E D : List (List ℕ)} {v : List ℕ} (one : 1 < p) 
     }
 
     -- the rows and v span the new list
-    inserted_spanned : (k : ℕ) → OldRow k ⊎ NewRow k → IsInSpan p (E ++ v ∷ []) (entry (row (insert D pos v) k))
-    inserted_spanned k (inl o) = rw o.is_row_k (in_span_congruent (λ j. congruent_sym ((c.each o.at o.inside_E).each j))
+    inserted_spanned : (k : ℕ) → OldRow k ⊎ NewRow k
+        → IsInSpan p (E ++ v ∷ []) (entry (row (insert D pos v) k))
+    inserted_spanned k (inl o) = rw o.is_row_k
+        (in_span_congruent (λ j. congruent_sym ((c.each o.at o.inside_E).each j))
         (in_span_add (p - entry (row E o.at) t) (are_in_span_push E v o.at o.inside_E) (in_span_pushed E v)))
     inserted_spanned k (inr w) = rw w.is_v (in_span_pushed E v)
 
@@ -148,26 +176,36 @@ module _ {p width t : ℕ} {E D : List (List ℕ)} {v : List ℕ} (one : 1 < p) 
     -- the new list spans v and the rows
     pub spans_new : IsInSpan p (insert D pos v) (entry v)
     spans_new = let room : pos ≤ length D = let a = P.within in let b = c.same_length in omega arith in
-        let h : IsInSpan p (insert D pos v) (entry (row (insert D pos v) pos)) = in_span_row (insert D pos v) pos (let a = P.within in omega (arith, length_new)) in
+        let h : IsInSpan p (insert D pos v) (entry (row (insert D pos v) pos)) =
+            in_span_row (insert D pos v) pos (let a = P.within in omega (arith, length_new)) in
         rw (get_or-insert_at D pos v [] room) at h
 
-    spans_cleared : (i : ℕ) → i < length E → (i < pos) ⊎ (pos ≤ i) → IsInSpan p (insert D pos v) (entry (row D i))
-    spans_cleared i l (inl b) = let room : pos ≤ length D = let a = P.within in let b = c.same_length in omega arith in
-        let h : IsInSpan p (insert D pos v) (entry (row (insert D pos v) i)) = in_span_row (insert D pos v) i (omega (arith, length_new)) in
+    spans_cleared : (i : ℕ) → i < length E → (i < pos) ⊎ (pos ≤ i)
+        → IsInSpan p (insert D pos v) (entry (row D i))
+    spans_cleared i l (inl b) = let room : pos ≤ length D = let a = P.within in let b = c.same_length in
+        omega arith in
+        let h : IsInSpan p (insert D pos v) (entry (row (insert D pos v) i)) =
+            in_span_row (insert D pos v) i (omega (arith, length_new)) in
         rw (get_or-insert_below D pos v [] i b room) at h
-    spans_cleared i l (inr a) = let room : pos ≤ length D = let a = P.within in let b = c.same_length in omega arith in
-        let h : IsInSpan p (insert D pos v) (entry (row (insert D pos v) (i + 1))) = in_span_row (insert D pos v) (i + 1) (omega (arith, length_new)) in
+    spans_cleared i l (inr a) = let room : pos ≤ length D = let a = P.within in let b = c.same_length in
+        omega arith in
+        let h : IsInSpan p (insert D pos v) (entry (row (insert D pos v) (i + 1))) =
+            in_span_row (insert D pos v) (i + 1) (omega (arith, length_new)) in
         rw (get_or-insert_above D pos v [] i a room) at h
 
-    restored : (i j : ℕ) → i < length E → IsCongruent p (entry (row D i) j + entry (row E i) t * entry v j) (entry (row E i) j)
-    restored i j l = congruent_trans (congruent_add ((c.each i l).each j) (congruent_refl (entry (row E i) t * entry v j)))
+    restored : (i j : ℕ) → i < length E → IsCongruent p (entry (row D i) j + entry (row E i) t * entry v j)
+        (entry (row E i) j)
+    restored i j l = congruent_trans (congruent_add ((c.each i l).each j)
+        (congruent_refl (entry (row E i) t * entry v j)))
         (back (entry (row E i) j) (entry (row E i) t) (entry v j) ((M i l).below t n.inside))
       where
         back : (x a y : ℕ) → a < p → IsCongruent p (x + (p - a) * y + a * y) x
-        back x a y b = to_congruent 0 y (let h : (p - a + a) * y ≡ p * y = ap (λ z. z * y) (omega arith) in omega (arith, h))
+        back x a y b = to_congruent 0 y (let h : (p - a + a) * y ≡ p * y = ap (λ z. z * y)
+            (omega arith) in omega (arith, h))
 
     pub spans_rows : AreInSpan p (insert D pos v) E
-    spans_rows i l = in_span_congruent (λ j. restored i j l) (in_span_add (entry (row E i) t) (spans_cleared i l (cases_lt i pos)) spans_new)
+    spans_rows i l = in_span_congruent (λ j. restored i j l)
+        (in_span_add (entry (row E i) t) (spans_cleared i l (cases_lt i pos)) spans_new)
 
     pub spans_rows_and_new : AreInSpan p (insert D pos v) (E ++ v ∷ [])
     spans_rows_and_new = are_in_span_with E v spans_rows spans_new

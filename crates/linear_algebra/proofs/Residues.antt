@@ -25,7 +25,8 @@ module _ (q : ℕ) where
   residue-self a = below-path (residue a.0) a (mod-eq_of_lt a.1)
 
   pub plus-residue : (m n : ℕ) → plus (residue m) (residue n) ≡ residue (m + n)
-  plus-residue m n = below-path (plus (residue m) (residue n)) (residue (m + n)) (add-mod-mod (m % suc q) n (suc q) ∙ mod-add-mod m (suc q) n)
+  plus-residue m n = below-path (plus (residue m) (residue n)) (residue (m + n))
+      (add-mod-mod (m % suc q) n (suc q) ∙ mod-add-mod m (suc q) n)
 
   pub times-residue : (n : ℕ) (a : Below (suc q)) → times plus (residue 0) n a ≡ residue (n * a.0)
   times-residue zero a = ap residue (omega arith)
@@ -40,20 +41,23 @@ module _ (q : ℕ) where
   pub plus-assoc : (a b c : Below (suc q)) → plus (plus a b) c ≡ plus a (plus b c)
   plus-assoc a b c =
       below-path _ _
-      (mod-add-mod (a.0 + b.0) (suc q) c.0 ∙ ap (λ n. n % suc q) (add_assoc a.0 b.0 c.0) ∙ sym (add-mod-mod a.0 (b.0 + c.0) (suc q)))
+      (mod-add-mod (a.0 + b.0) (suc q) c.0 ∙ ap (λ n. n % suc q) (add_assoc a.0 b.0 c.0)
+          ∙ sym (add-mod-mod a.0 (b.0 + c.0) (suc q)))
 
   pub plus-comm : (a b : Below (suc q)) → plus a b ≡ plus b a
   plus-comm a b = ap residue (add_comm a.0 b.0)
 
   pub plus-zero : (a : Below (suc q)) → plus a (residue 0) ≡ a
   plus-zero a =
-      ap (λ b. plus b (residue 0)) (sym (residue-self a)) ∙ plus-residue a.0 0 ∙ ap residue (omega arith) ∙ residue-self a
+      ap (λ b. plus b (residue 0)) (sym (residue-self a)) ∙ plus-residue a.0 0 ∙ ap residue (omega arith)
+          ∙ residue-self a
 
   pub plus-minus : (a : Below (suc q)) → plus a (residues.minus q a) ≡ residue 0
   plus-minus a =
       ap (λ b. plus b (residue (q * a.0))) (sym (residue-self a)) ∙ plus-residue a.0 (q * a.0)
       ∙ below-path _ _
-      (ap (λ n. n % suc q) (let e : a.0 + q * a.0 ≡ suc q * a.0 = omega arith in e) ∙ mul-mod_right (suc q) a.0 ∙ sym (zero-mod (suc q)))
+      (ap (λ n. n % suc q) (let e : a.0 + q * a.0 ≡ suc q * a.0 = omega arith in e)
+          ∙ mul-mod_right (suc q) a.0 ∙ sym (zero-mod (suc q)))
 
   -- p times a is 0
   pub times-p : (a : Below (suc q)) → times plus (residue 0) (suc q) a ≡ residue 0

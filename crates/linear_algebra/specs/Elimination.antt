@@ -1,4 +1,5 @@
--- One step of Gauss-Jordan elimination: a row is reduced and scaled, its column is cleared, and it is inserted by its pivot.
+-- One step of Gauss-Jordan elimination: a row is reduced and scaled, its column is cleared, and it is
+-- inserted by its pivot.
 use Rattle.std.specs.Prelude.{◌≡◌, ℕ, ◌+◌, ◌-◌, ◌*◌, ◌<◌, ◌≤◌, List, [], ◌∷◌, ◌++◌, length}
 use Rattle.linear_algebra.specs.Modular.{IsCongruent}
 use Rattle.linear_algebra.specs.Rows.{entry, row, pivot, IsRow, IsInSpan}
@@ -8,7 +9,8 @@ pub record IsCleared (p width t : ℕ) (v r d : List ℕ) : Type 0 where
   pub is_row : IsRow p width d
   pub each : (j : ℕ) → IsCongruent p (entry d j) (entry r j + (p - entry r t) * entry v j)
 
--- s is v up to members of the span of E and a factor, is 0 at E's pivots, and its first entry that is not 0 is 1
+-- s is v up to members of the span of E and a factor, is 0 at E's pivots, and its first entry that is not 0
+-- is 1
 pub record IsPrepared (p width : ℕ) (E : List (List ℕ)) (v s : List ℕ) : Type 0 where
   pub is_row : IsRow p width s
   pub zero_at_pivots : (i : ℕ) → i < length E → entry s (pivot (row E i)) ≡ 0

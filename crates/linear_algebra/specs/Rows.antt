@@ -1,5 +1,7 @@
--- Rows, combinations, spans and reduced row echelon form (Hoffman and Kunze, "Linear Algebra", sections 1.4 and 2.5).
-use Rattle.std.specs.Prelude.{◌≡◌, ◌≢◌, ℕ, zero, suc, ◌+◌, ◌-◌, ◌*◌, ◌%◌, ◌<◌, Bool, false, ◌||◌, eqb, List, [], ◌∷◌, length, replicate, slice_index_or}
+-- Rows, combinations, spans and reduced row echelon form (Hoffman and Kunze, "Linear Algebra", sections 1.4
+-- and 2.5).
+use Rattle.std.specs.Prelude.{◌≡◌, ◌≢◌, ℕ, zero, suc, ◌+◌, ◌-◌, ◌*◌, ◌%◌, ◌<◌, Bool, false, ◌||◌, eqb, List,
+    [], ◌∷◌, length, replicate, slice_index_or}
 use Rattle.linear_algebra.specs.Modular.{IsCongruent, sum_below}
 
 -- the entry of a row at place j, and 0 past its end
@@ -65,12 +67,14 @@ abbrev pub is_pivot : List (List ℕ) → ℕ → Bool
 is_pivot [] k = false
 is_pivot (r ∷ rows) k = eqb (pivot r) k || is_pivot rows k
 
--- a reduced row echelon list: no row is 0, the pivots ascend, and each pivot's column is 1 in its own row and 0 elsewhere
+-- a reduced row echelon list: no row is 0, the pivots ascend, and each pivot's column is 1 in its own row and
+-- 0 elsewhere
 pub record IsEchelon (rows : List (List ℕ)) : Type 0 where
   pub not_zero : (i : ℕ) → i < length rows → pivot (row rows i) < length (row rows i)
   pub ascending : (i k : ℕ) → i < k → k < length rows → pivot (row rows i) < pivot (row rows k)
   pub monic : (i : ℕ) → i < length rows → entry (row rows i) (pivot (row rows i)) ≡ 1
-  pub cleared : (i k : ℕ) → i < length rows → k < length rows → i ≢ k → entry (row rows k) (pivot (row rows i)) ≡ 0
+  pub cleared : (i k : ℕ) → i < length rows → k < length rows → i ≢ k
+      → entry (row rows k) (pivot (row rows i)) ≡ 0
 
 -- rows is Ech of the span of these generators
 pub record IsEchelonOf (p width : ℕ) (generators rows : List (List ℕ)) : Type 0 where

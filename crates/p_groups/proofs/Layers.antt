@@ -11,7 +11,8 @@ use Rattle.p_groups.proofs.Fields.{field, prime_power}
 
 module _ (G : PGroup) where
   -- sum coordinates are given by a rule
-  pub sum_coordinates_exist : (K : RowForm (order_of G) (Table (largest_residue G) (group G) 1)) × IsSumForm (largest_residue G) (group G) K
+  pub sum_coordinates_exist : (K : RowForm (order_of G) (Table (largest_residue G) (group G) 1))
+      × IsSumForm (largest_residue G) (group G) K
   sum_coordinates_exist = (
     sum-form (largest_residue G) (group G) G.law.law.some,
     record {

@@ -38,14 +38,17 @@ module _ (n : ℕ) (mul : ℕ → ℕ → ℕ) (G : IsGroup n mul) where
 
   inverse-one : (a : ℕ) → a < n → (x y : Inverse a) → x.0 ≡ y.0
   inverse-one a l x y =
-      sym (G.mul-one x.0 x.1) ∙ ap (mul x.0) (sym y.2) ∙ sym (G.mul-assoc x.0 a y.0 x.1 l y.1) ∙ ap (λ k. mul k y.0) x.3 ∙ G.one-mul y.0 y.1
+      sym (G.mul-one x.0 x.1) ∙ ap (mul x.0) (sym y.2) ∙ sym (G.mul-assoc x.0 a y.0 x.1 l y.1)
+          ∙ ap (λ k. mul k y.0) x.3 ∙ G.one-mul y.0 y.1
 
   inverse-prop : (a : ℕ) → a < n → IsProp (Inverse a)
   inverse-prop a l x y i = (
     inverse-one a l x y i,
     is_prop→PathP (λ i. inverse-one a l x y i < n) (λ i. le_prop) x.1 y.1 i,
-    is_prop→PathP (λ i. mul a (inverse-one a l x y i) ≡ 0) (λ i. ℕ_set (mul a (inverse-one a l x y i)) 0) x.2 y.2 i,
-    is_prop→PathP (λ i. mul (inverse-one a l x y i) a ≡ 0) (λ i. ℕ_set (mul (inverse-one a l x y i) a) 0) x.3 y.3 i,
+    is_prop→PathP (λ i. mul a (inverse-one a l x y i) ≡ 0)
+        (λ i. ℕ_set (mul a (inverse-one a l x y i)) 0) x.2 y.2 i,
+    is_prop→PathP (λ i. mul (inverse-one a l x y i) a ≡ 0)
+        (λ i. ℕ_set (mul (inverse-one a l x y i) a) 0) x.3 y.3 i,
   )
 
 pub IsGroup-prop : (n : ℕ) (mul : ℕ → ℕ → ℕ) → IsProp (IsGroup n mul)
@@ -54,7 +57,8 @@ IsGroup-prop n mul G H i = record {
   some = below-prop 0 n G.some H.some i;
   one-mul = λ a l. ℕ_set (mul 0 a) a (G.one-mul a l) (H.one-mul a l) i;
   mul-one = λ a l. ℕ_set (mul a 0) a (G.mul-one a l) (H.mul-one a l) i;
-  mul-assoc = λ a b c l m o. ℕ_set (mul (mul a b) c) (mul a (mul b c)) (G.mul-assoc a b c l m o) (H.mul-assoc a b c l m o) i;
+  mul-assoc = λ a b c l m o. ℕ_set (mul (mul a b) c) (mul a (mul b c)) (G.mul-assoc a b c l m o)
+      (H.mul-assoc a b c l m o) i;
   inverse = λ a l. inverse-prop n mul G a l (G.inverse a l) (H.inverse a l) i;
 }
 
@@ -66,4 +70,5 @@ IsPGroup-prop G h k i = record {
 
 -- p-groups are equal where their tables are
 pub same_table : (G H : PGroup) → G.table ≡ H.table → G ≡ H
-same_table G H e i = record { table = e i; law = is_prop→PathP (λ i. IsPGroup (e i)) (λ i. IsPGroup-prop (e i)) G.law H.law i }
+same_table G H e i = record { table = e i;
+    law = is_prop→PathP (λ i. IsPGroup (e i)) (λ i. IsPGroup-prop (e i)) G.law H.law i }

@@ -1,4 +1,5 @@
--- Places of an algebra with layers of 1, 2, 2, 2 and 1 members (as of the dihedral group of order 8), in two blocks.
+-- Places of an algebra with layers of 1, 2, 2, 2 and 1 members (as of the dihedral group of order 8), in two
+-- blocks.
 use Rattle.std.specs.Prelude.{◌≡◌, ℕ, List, [], ◌∷◌}
 use Rattle.std.proofs.Common.{refl}
 use Rattle.radical_layers.specs.Placing.{place_of, block_at, member_at, size_of}

@@ -38,11 +38,13 @@ abbrev pub layers_of : List (List (List ℕ)) → List (List ℕ) → Layers
 layers_of Es xs = record { powers = λ i. get_or Es i []; positions = λ i. get_or xs i []; count = length Es }
 
 -- the powers that are not 0 and their greedy positions, as lists
-pub record AreLayerLists {n : ℕ} (q : ℕ) (Γ : Group n) (K : RowForm n (Table q Γ 1)) (Es : List (List (List ℕ))) (xs : List (List ℕ)) : Type 0 where
+pub record AreLayerLists {n : ℕ} (q : ℕ) (Γ : Group n) (K : RowForm n (Table q Γ 1))
+    (Es : List (List (List ℕ))) (xs : List (List ℕ)) : Type 0 where
   pub powers_are : (i : ℕ) → i < length Es → IsPowerList q Γ K i (get_or Es i [])
   pub last_is : IsPowerList q Γ K (length Es) []
   pub not_empty : (i : ℕ) → i < length Es → 0 < length (get_or Es i [])
-  pub positions_are : (i : ℕ) → i < length Es → IsGreedy (suc q) (get_or Es i []) (get_or Es (suc i) []) (get_or xs i [])
+  pub positions_are : (i : ℕ) → i < length Es
+      → IsGreedy (suc q) (get_or Es i []) (get_or Es (suc i) []) (get_or xs i [])
   pub same_count : length xs ≡ length Es
 
 -- the layer basis
@@ -68,12 +70,16 @@ pub record IsSumForm {n : ℕ} (q : ℕ) (Γ : Group n) (K : RowForm n (Table q 
 
 -- the layer basis has n members; and for each number of blocks a row has at the place of block i and member k
 -- the coefficient of member k in block i
-pub record LayerBasisClaims {n : ℕ} (q : ℕ) (Γ : Group n) (K : RowForm n (Table q Γ 1)) (Y : Layers) : Type 0 where
+pub record LayerBasisClaims {n : ℕ} (q : ℕ) (Γ : Group n) (K : RowForm n (Table q Γ 1))
+    (Y : Layers) : Type 0 where
   pub size : size_of (layer_sizes Y) ≡ n
   pub coordinates : Coordinates q Γ
   pub expand : (b : ℕ) (v : (Table q Γ b).of) (i : Below b)
       → (λ z g. v i g)
       ≡ total (Table q Γ 1) (below (length (layer_basis Y)))
-      (λ k. times (Table q Γ 1).add (Table q Γ 1).zero (entry ((coordinates b).row v) (place_of (layer_sizes Y) b i.0 k.0)) (K.table (row (layer_basis Y) k.0)))
+      (λ k. times (Table q Γ 1).add (Table q Γ 1).zero
+          (entry ((coordinates b).row v) (place_of (layer_sizes Y) b i.0 k.0))
+          (K.table (row (layer_basis Y) k.0)))
   -- the sum of block i is the entry at place i
-  pub sums : SumFirst q Γ K → 0 < n → (b : ℕ) (v : (Table q Γ b).of) (i : Below b) → (block-sum q Γ b v i).0 ≡ entry ((coordinates b).row v) i.0
+  pub sums : SumFirst q Γ K → 0 < n → (b : ℕ) (v : (Table q Γ b).of) (i : Below b)
+      → (block-sum q Γ b v i).0 ≡ entry ((coordinates b).row v) i.0

@@ -16,7 +16,8 @@ abbrev pub size_of : List ℕ → ℕ
 size_of [] = 0
 size_of (s ∷ sizes) = s + size_of sizes
 
--- the place of member k in block i of b blocks: layer by layer, in a layer block by block, in a block by position
+-- the place of member k in block i of b blocks: layer by layer, in a layer block by block, in a block by
+-- position
 abbrev pub place_of : List ℕ → ℕ → ℕ → ℕ → ℕ
 place_of [] b i k = 0
 place_of (s ∷ sizes) b i k = cond (ltb k s) (i * s + k) (b * s + place_of sizes b i (k - s))
