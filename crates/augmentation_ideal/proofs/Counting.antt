@@ -1,15 +1,11 @@
 -- A set on which a group of p^e elements acts with no fixed point has a multiple of p members.
-use Rattle.std.specs.Prelude.{◌≡◌, ◌≢◌, ℕ, zero, suc, refl, ◌+◌, ◌*◌, ◌%◌, ◌/◌, ◌<◌, ◌≤◌, ◌⊎◌, ◌^◌, Bool,
-    true, false, not, ◌&&◌}
+use Rattle.std.specs.Prelude.{◌≡◌, ◌≢◌, ℕ, zero, suc, refl, ◌+◌, ◌*◌, ◌%◌, ◌/◌, ◌<◌, ◌≤◌, ◌⊎◌, ◌^◌, Bool, true, false, not, ◌&&◌}
 use Rattle.std.proofs.Common.{sym, ◌∙◌, ap, arith, inl, inr}
 use Rattle.std.proofs.lemmas.Bool.{and_from, and_parts, false_from_ne_true, true≢false}
-use Rattle.std.proofs.Math.Nat.{div-add-mod, mul-mod_right, zero-mod, pow-suc, pow-zero, add-mod-mod,
-    mul-div_cancel_left}
+use Rattle.std.proofs.Math.Nat.{div-add-mod, mul-mod_right, zero-mod, pow-suc, pow-zero, add-mod-mod, mul-div_cancel_left}
 use Rattle.group_modules.specs.Field.{Below}
 use Rattle.group_modules.specs.Tables.{Group}
-use Rattle.augmentation_ideal.proofs.Finite.{bit, sum, tell, same-test, sum-same, sum-add, sum-scale,
-    sum-zero, sum-le, sum-swap, Finite, same-of, pick, search-all, some, some-at, some-from, some-none,
-    finite-below, size-below}
+use Rattle.augmentation_ideal.proofs.Finite.{bit, sum, tell, same-test, sum-same, sum-add, sum-scale, sum-zero, sum-le, sum-swap, Finite, same-of, pick, search-all, some, some-at, some-from, some-none, finite-below, size-below}
 use Rattle.group_modules.specs.Sums.{below}
 use Rattle.augmentation_ideal.specs.Primes.{IsPrime}
 
@@ -58,20 +54,20 @@ module _ {n : ℕ} (Γ : Group n) {X : Type 0} (F : Finite X) (act : Below n →
   translate : (h : Below n) (f : Below n → ℕ) → sum (below n) (λ g. f (Γ.mul h g)) ≡ sum (below n) f
   translate h f =
       sum-same (below n) (λ g. f (Γ.mul h g)) (λ g. sum (below n) (λ k. bit (G.same (Γ.mul h g) k) * f k))
-          (λ g. sym (pick G (Γ.mul h g) f))
+      (λ g. sym (pick G (Γ.mul h g) f))
       ∙ sum-swap (below n) (below n) (λ g k. bit (G.same (Γ.mul h g) k) * f k)
       ∙ sum-same (below n) (λ k. sum (below n) (λ g. bit (G.same (Γ.mul h g) k) * f k)) f
       (λ k. sum-scale (below n) (λ g. bit (G.same (Γ.mul h g) k)) (f k)
       ∙ ap (λ m. m * f k) (sum-same (below n) (λ g. bit (G.same (Γ.mul h g) k))
-          (λ g. bit (G.same (Γ.mul (Γ.inv h) k) g)) (λ g. ap bit (turn g k)) ∙ G.once (Γ.mul (Γ.inv h) k))
+      (λ g. bit (G.same (Γ.mul (Γ.inv h) k) g)) (λ g. ap bit (turn g k)) ∙ G.once (Γ.mul (Γ.inv h) k))
       ∙ (let e : 1 * f k ≡ f k = omega arith in e))
     where
       turn : (g k : Below n) → G.same (Γ.mul h g) k ≡ G.same (Γ.mul (Γ.inv h) k) g
       turn g k = same-test (G.same (Γ.mul h g) k) (G.same (Γ.mul (Γ.inv h) k) g)
           (λ e. same-of G (Γ.mul (Γ.inv h) k) g (ap (Γ.mul (Γ.inv h)) (sym (G.same-path (Γ.mul h g) k e))
-              ∙ sym (Γ.mul-assoc (Γ.inv h) h g) ∙ ap (λ x. Γ.mul x g) (Γ.inv-mul h) ∙ Γ.one-mul g))
+          ∙ sym (Γ.mul-assoc (Γ.inv h) h g) ∙ ap (λ x. Γ.mul x g) (Γ.inv-mul h) ∙ Γ.one-mul g))
           (λ e. same-of G (Γ.mul h g) k (ap (Γ.mul h) (sym (G.same-path (Γ.mul (Γ.inv h) k) g e))
-              ∙ sym (Γ.mul-assoc h (Γ.inv h) k) ∙ ap (λ x. Γ.mul x k) (Γ.mul-inv h) ∙ Γ.one-mul k))
+          ∙ sym (Γ.mul-assoc h (Γ.inv h) k) ∙ ap (λ x. Γ.mul x k) (Γ.mul-inv h) ∙ Γ.one-mul k))
 
   module _ (P : X → Bool) (A : Acts P) where
     undo : (g : Below n) (x : X) → P x ≡ true → act (Γ.inv g) (act g x) ≡ x
@@ -99,10 +95,10 @@ module _ {n : ℕ} (Γ : Group n) {X : Type 0} (F : Finite X) (act : Below n →
               (λ k. same-of F (act g x) x
               (sym (undo r.0 (act g x) (A.stays g x px))
               ∙ ap (act (Γ.inv r.0)) (sym (A.mul r.0 g x px) ∙ F.same-path (act (Γ.mul r.0 g) x) y k
-                  ∙ sym (F.same-path (act r.0 x) y r.1))
+              ∙ sym (F.same-path (act r.0 x) y r.1))
               ∙ undo r.0 x px))
               (λ k. same-of F (act (Γ.mul r.0 g) x) y (A.mul r.0 g x px
-                  ∙ ap (act r.0) (F.same-path (act g x) x k) ∙ F.same-path (act r.0 x) y r.1))))
+              ∙ ap (act r.0) (F.same-path (act g x) x k) ∙ F.same-path (act r.0 x) y r.1))))
 
       at-each : (y : X) → sum (below n) (λ g. bit (F.same (act g x) y)) ≡ bit (orbit y) * stab
       at-each y = at (tell (orbit y))
@@ -113,19 +109,19 @@ module _ {n : ℕ} (Γ : Group n) {X : Type 0} (F : Finite X) (act : Below n →
               ∙ ap (λ b. bit b * stab) (sym e)
           at (inr e) =
               sum-same (below n) (λ g. bit (F.same (act g x) y)) (λ g. 0)
-                  (λ g. ap bit (some-none G (λ g. F.same (act g x) y) e g))
+              (λ g. ap bit (some-none G (λ g. F.same (act g x) y) e g))
               ∙ sum-zero (below n) ∙ (let k : 0 ≡ 0 * stab = omega arith in k)
-                  ∙ ap (λ b. bit b * stab) (sym e)
+              ∙ ap (λ b. bit b * stab) (sym e)
 
       -- the size of the orbit times the number of elements that fix x
       orbit-stab : sum F.all (λ y. bit (orbit y)) * stab ≡ n
       orbit-stab =
           sym (sum-scale F.all (λ y. bit (orbit y)) stab)
           ∙ sym (sum-same F.all (λ y. sum (below n) (λ g. bit (F.same (act g x) y)))
-              (λ y. bit (orbit y) * stab) at-each)
+          (λ y. bit (orbit y) * stab) at-each)
           ∙ sum-swap F.all (below n) (λ y g. bit (F.same (act g x) y))
           ∙ sum-same (below n) (λ g. sum F.all (λ y. bit (F.same (act g x) y))) (λ g. 1)
-              (λ g. F.once (act g x))
+          (λ g. F.once (act g x))
           ∙ size-below n
 
       in-orbit : (g : Below n) → orbit (act g x) ≡ true
@@ -139,7 +135,7 @@ module _ {n : ℕ} (Γ : Group n) {X : Type 0} (F : Finite X) (act : Below n →
       two g e = joined (sum-le F.all (λ y. bit (F.same x y) + bit (F.same (act g x) y)) (λ y. bit (orbit y))
           (λ y. at y (tell (F.same x y)) (tell (F.same (act g x) y))))
           (sum-add F.all (λ y. bit (F.same x y)) (λ y. bit (F.same (act g x) y))) (F.once x)
-              (F.once (act g x))
+          (F.once (act g x))
         where
           joined : {s a b c : ℕ} → s ≤ c → s ≡ a + b → a ≡ 1 → b ≡ 1 → 2 ≤ c
           joined l h i j = omega arith
@@ -149,10 +145,18 @@ module _ {n : ℕ} (Γ : Group n) {X : Type 0} (F : Finite X) (act : Below n →
               → bit (F.same x y) + bit (F.same (act g x) y) ≤ bit (orbit y)
           at y (inl k) (inl l) = absurd (true≢false
               (sym (same-of F (act g x) x (F.same-path (act g x) y l ∙ sym (F.same-path x y k))) ∙ e))
-          at y (inl k) (inr l) = rw (k, l, sym (ap orbit (F.same-path x y k))
-              ∙ self-in-orbit) (let z : 1 + 0 ≤ 1 = omega arith in z)
-          at y (inr k) (inl l) = rw (k, l, sym (ap orbit (F.same-path (act g x) y l))
-              ∙ in-orbit g) (let z : 0 + 1 ≤ 1 = omega arith in z)
+          at y (inl k) (inr l) = rw (
+            k,
+            l,
+            sym (ap orbit (F.same-path x y k))
+                ∙ self-in-orbit,
+          ) (let z : 1 + 0 ≤ 1 = omega arith in z)
+          at y (inr k) (inl l) = rw (
+            k,
+            l,
+            sym (ap orbit (F.same-path (act g x) y l))
+                ∙ in-orbit g,
+          ) (let z : 0 + 1 ≤ 1 = omega arith in z)
           at y (inr k) (inr l) = rw (k, l) (let z : 0 + 0 ≤ bit (orbit y) = omega arith in z)
 
       -- the test holds on the orbit
@@ -171,7 +175,7 @@ module _ {n : ℕ} (Γ : Group n) {X : Type 0} (F : Finite X) (act : Below n →
         stays = λ g y e. let both : (P y ≡ true) × (not (orbit y) ≡ true) =
             and_parts (P y) (not (orbit y)) e in
             and_from (P (act g y)) (not (orbit (act g y))) (A.stays g y both.0)
-                (ap not (false_from_ne_true (orbit (act g y)) (λ k. back g y both.0 both.1 k)));
+            (ap not (false_from_ne_true (orbit (act g y)) (λ k. back g y both.0 both.1 k)));
         one = λ y e. A.one y (and_parts (P y) (not (orbit y)) e).0;
         mul = λ g h y e. A.mul g h y (and_parts (P y) (not (orbit y)) e).0;
       }
@@ -182,7 +186,7 @@ module _ {n : ℕ} (Γ : Group n) {X : Type 0} (F : Finite X) (act : Below n →
               at : ((h : Below n) × (F.same (act h x) (act g y) ≡ true)) → ⊥
               at r = true≢false (sym out ∙ ap not (ap orbit
                   (sym (undo g y py) ∙ ap (act (Γ.inv g)) (sym (F.same-path (act r.0 x) (act g y) r.1))
-                      ∙ sym (A.mul (Γ.inv g) r.0 x px)) ∙ in-orbit (Γ.mul (Γ.inv g) r.0)))
+                  ∙ sym (A.mul (Γ.inv g) r.0 x px)) ∙ in-orbit (Γ.mul (Γ.inv g) r.0)))
 
       split : sum F.all (λ y. bit (P y)) ≡ sum F.all (λ y. bit (rest y)) + sum F.all (λ y. bit (orbit y))
       split = sum-same F.all (λ y. bit (P y)) (λ y. bit (rest y) + bit (orbit y)) (λ y. at y (tell (orbit y)))
@@ -216,7 +220,7 @@ module _ {n : ℕ} (Γ : Group n) {X : Type 0} (F : Finite X) (act : Below n →
     where
       at : ((x : X) × (P x ≡ true)) ⊎ ((x : X) → P x ≡ false)
           → ((Q : X → Bool) → Acts Q → ((x : X) → Q x ≡ true → (g : Below n) × (F.same (act g x) x ≡ false))
-              → sum F.all (λ y. bit (Q y)) ≤ k → sum F.all (λ y. bit (Q y)) % p ≡ 0)
+          → sum F.all (λ y. bit (Q y)) ≤ k → sum F.all (λ y. bit (Q y)) % p ≡ 0)
           → sum F.all (λ y. bit (P y)) % p ≡ 0
       at (inr none) ih = ap (λ k. k % p) (sum-same F.all (λ y. bit (P y)) (λ y. 0) (λ y. ap bit (none y))
           ∙ sum-zero F.all) ∙ zero-mod p
@@ -224,7 +228,7 @@ module _ {n : ℕ} (Γ : Group n) {X : Type 0} (F : Finite X) (act : Below n →
           ap (λ k. k % p) (split P A r.0 r.1)
           ∙ both (sum F.all (λ y. bit (rest P A r.0 r.1 y))) (sum F.all (λ y. bit (orbit P A r.0 r.1 y)))
           (ih (rest P A r.0 r.1) (acts-rest P A r.0 r.1)
-              (λ y e. moves y (and_parts (P y) (not (orbit P A r.0 r.1 y)) e).0)
+          (λ y e. moves y (and_parts (P y) (not (orbit P A r.0 r.1 y)) e).0)
           (less l (split P A r.0 r.1) (two P A r.0 r.1 (moves r.0 r.1).0 (moves r.0 r.1).1)))
           (orbit-multiple P A r.0 r.1 p e W h (moves r.0 r.1).0 (moves r.0 r.1).1)
         where

@@ -1,6 +1,5 @@
 -- Finite types by a list in which each member stands once, and counting.
-use Rattle.std.specs.Prelude.{◌≡◌, ◌≢◌, ℕ, zero, suc, refl, List, [], ◌∷◌, ◌++◌, map, ◌+◌, ◌*◌, ◌<◌, ◌≤◌, ◌⊎◌,
-    Bool, true, false, not, ◌&&◌, eqb}
+use Rattle.std.specs.Prelude.{◌≡◌, ◌≢◌, ℕ, zero, suc, refl, List, [], ◌∷◌, ◌++◌, map, ◌+◌, ◌*◌, ◌<◌, ◌≤◌, ◌⊎◌, Bool, true, false, not, ◌&&◌, eqb}
 use Rattle.std.proofs.Common.{sym, ◌∙◌, ap, ap₂, arith, inl, inr}
 use Rattle.std.proofs.lemmas.Bool.{and_from, and_parts, false_from_ne_true, true≢false, eq-eqb, eqb-true}
 use Rattle.std.proofs.lemmas.Bool.Decides.{eqb_tells}
@@ -122,7 +121,7 @@ module _ {A : Type 0} (F : Finite A) where
   pick x f =
       sum-same F.all (λ y. bit (F.same x y) * f y) (λ y. bit (F.same x y) * f x) (λ y. pick-at x y f)
       ∙ sum-scale F.all (λ y. bit (F.same x y)) (f x) ∙ ap (λ k. k * f x) (F.once x)
-          ∙ (let e : 1 * f x ≡ f x = omega arith in e)
+      ∙ (let e : 1 * f x ≡ f x = omega arith in e)
 
   -- the test holds somewhere or nowhere
   pub search-all : (f : A → Bool) → ((x : A) × (f x ≡ true)) ⊎ ((x : A) → f x ≡ false)
@@ -184,7 +183,7 @@ module _ {A : Type 0} (F : Finite A) where
   pub every-from : (f : A → Bool) → ((x : A) → f x ≡ true) → every f ≡ true
   every-from f h = ap not (false_from_ne_true (some (λ x. not (f x)))
       (λ e. let r : (x : A) × (not (f x) ≡ true) = some-from (λ x. not (f x)) e in true≢false (sym r.1
-          ∙ ap not (h r.0))))
+      ∙ ap not (h r.0))))
 
   pub every-fails : (f : A → Bool) → every f ≡ false → (x : A) × (f x ≡ false)
   every-fails f e = let r : (x : A) × (not (f x) ≡ true) =
@@ -221,7 +220,7 @@ pub once-below : (n : ℕ) (x : Below n) → sum (below n) (λ y. bit (eqb x.0 y
 once-below zero x = absurd (let h : x.0 < 0 = x.1 in omega (arith, h))
 once-below (suc n) x =
     ap (λ k. bit (eqb x.0 n) + k) (sum-map (λ i. up i) (below n) (λ y. bit (eqb x.0 y.0)))
-        ∙ at (eqb_tells x.0 n) (λ y. once-below n y)
+    ∙ at (eqb_tells x.0 n) (λ y. once-below n y)
   where
     at : ((eqb x.0 n ≡ true) × (x.0 ≡ n)) ⊎ ((eqb x.0 n ≡ false) × (x.0 ≢ n))
         → ((y : Below n) → sum (below n) (λ z. bit (eqb y.0 z.0)) ≡ 1)
@@ -229,7 +228,7 @@ once-below (suc n) x =
     at (inl h) ih =
         ap₂ ◌+◌ (ap bit h.0)
         (sum-same (below n) (λ y. bit (eqb x.0 y.0)) (λ y. 0)
-            (λ y. ap bit (ap (λ k. eqb k y.0) h.1 ∙ eqb-flip n y.0) ∙ off-new n y) ∙ sum-zero (below n))
+        (λ y. ap bit (ap (λ k. eqb k y.0) h.1 ∙ eqb-flip n y.0) ∙ off-new n y) ∙ sum-zero (below n))
     at (inr h) ih = ap₂ ◌+◌ (ap bit h.0)
         (ih (x.0, (let l : x.0 < suc n = x.1 in let e : x.0 ≢ n = h.1 in omega (arith, l, e))))
 
@@ -253,7 +252,7 @@ pub once-pair : {A B : Type 0} (F : Finite A) (H : Finite B) (x : A) (y : B)
     → sum F.all (λ a. sum H.all (λ b. bit (F.same x a && H.same y b))) ≡ 1
 once-pair F H x y =
     sum-same F.all (λ a. sum H.all (λ b. bit (F.same x a && H.same y b))) (λ a. bit (F.same x a))
-        (λ a. at (F.same x a)) ∙ F.once x
+    (λ a. at (F.same x a)) ∙ F.once x
   where
     at : (t : Bool) → sum H.all (λ b. bit (t && H.same y b)) ≡ bit t
     at true = H.once y
@@ -269,7 +268,7 @@ pub sum-pairs : {A B : Type 0} (xs : List A) (ys : List B) (f : A × B → ℕ)
 sum-pairs [] ys f = refl
 sum-pairs (x ∷ xs) ys f =
     sum-append (map (λ y. (x, y)) ys) (pairs xs ys) f
-        ∙ ap₂ ◌+◌ (sum-map (λ y. (x, y)) ys f) (sum-pairs xs ys f)
+    ∙ ap₂ ◌+◌ (sum-map (λ y. (x, y)) ys f) (sum-pairs xs ys f)
 
 abbrev pub finite-pair : {A B : Type 0} → Finite A → Finite B → Finite (A × B)
 finite-pair F H = record {

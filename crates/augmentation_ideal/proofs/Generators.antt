@@ -4,8 +4,7 @@ use Rattle.std.specs.Prelude.{◌≡◌, ℕ, suc, refl, List, [], ◌∷◌, �
 use Rattle.std.proofs.Common.{sym, ◌∙◌, ap, ap₂}
 use mathlib.Core.Path.{subst, fun_ext}
 use Rattle.group_modules.specs.Module.{Monoid, Module, sub, times, lin, IsLinear}
-use Rattle.group_modules.proofs.Laws.{sub-zero, sub-add, sub-self, sub-back, sub-eq, neg-unique, neg-neg,
-    neg-add, times-add, times-neg, times-mod, times-sum, map-zero}
+use Rattle.group_modules.proofs.Laws.{sub-zero, sub-add, sub-self, sub-back, sub-eq, neg-unique, neg-neg, neg-add, times-add, times-neg, times-mod, times-sum, map-zero}
 use Rattle.group_modules.specs.Field.{Below, residue, Fp, plus, minus}
 use Rattle.group_modules.specs.Tables.{Group, monoid, Table, terms, unit, part, block-sum}
 use Rattle.group_modules.proofs.TermLaws.{lin-terms}
@@ -58,9 +57,9 @@ module _ {n : ℕ} (q : ℕ) (Γ : Group n) (M : Module (suc q) (monoid Γ)) (K 
   split b r k u =
       subst (λ x. Close M K x (combine M b r (block-sum q Γ b u))) (sym (lin-terms q Γ M b r u (below b)))
       (close-total M K (below b) (λ i. total M (below n) (part q Γ M b r u i))
-          (λ i. times M.add M.zero (block-sum q Γ b u i).0 (r i))
+      (λ i. times M.add M.zero (block-sum q Γ b u i).0 (r i))
       (λ i. subst (Close M K (total M (below n) (part q Γ M b r u i)))
-          (total-times q Γ M (below n) (u i) (r i))
+      (total-times q Γ M (below n) (u i) (r i))
       (close-total M K (below n) (part q Γ M b r u i) (λ g. times M.add M.zero (u i g).0 (r i))
       (λ g. close-times M K (u i g).0 (M.act g (r i)) (r i) (moved g (r i) (k i))))))
 
@@ -70,23 +69,23 @@ module _ {n : ℕ} (q : ℕ) (Γ : Group n) (M : Module (suc q) (monoid Γ)) (K 
         → block-sum q Γ m u i ≡ residue q 0
     kernel-minimal u e = B.independent (block-sum q Γ m u)
         (close-zero M K _ (close-sym M K M.zero _
-            (subst (λ x. Close M K x (combine M m row (block-sum q Γ m u))) e (split m row B.members u))))
+        (subst (λ x. Close M K x (combine M m row (block-sum q Γ m u))) e (split m row B.members u))))
 
     combine-minus : (c d : Below m → Below (suc q))
         → combine M m row (λ i. plus q (c i) (minus q (d i))) ≡ sub M (combine M m row c) (combine M m row d)
     combine-minus c d =
         ap (total M (below m)) (fun_ext (λ i. times-mod M ((c i).0 + (minus q (d i)).0) (row i)
-            ∙ times-sum M (c i).0 (minus q (d i)).0 (row i)))
+        ∙ times-sum M (c i).0 (minus q (d i)).0 (row i)))
         ∙ total-add M (below m) (λ i. times M.add M.zero (c i).0 (row i))
-            (λ i. times M.add M.zero (minus q (d i)).0 (row i))
+        (λ i. times M.add M.zero (minus q (d i)).0 (row i))
         ∙ ap (M.add (combine M m row c))
-            (neg-unique M (combine M m row d) (combine M m row (λ i. minus q (d i)))
+        (neg-unique M (combine M m row d) (combine M m row (λ i. minus q (d i)))
         (sym (total-add M (below m) (λ i. times M.add M.zero (d i).0 (row i))
-            (λ i. times M.add M.zero (minus q (d i)).0 (row i)))
+        (λ i. times M.add M.zero (minus q (d i)).0 (row i)))
         ∙ ap (total M (below m)) (fun_ext (λ i. sym (times-sum M (d i).0 (minus q (d i)).0 (row i))
-            ∙ sym (times-mod M ((d i).0 + (minus q (d i)).0) (row i))
+        ∙ sym (times-mod M ((d i).0 + (minus q (d i)).0) (row i))
         ∙ ap (λ (a : Below (suc q)). times M.add M.zero a.0 (row i)) ((Fp q (monoid Γ)).add-neg (d i))
-            ∙ times-mod M 0 (row i)))
+        ∙ times-mod M 0 (row i)))
         ∙ zeros (below m)))
       where
         zeros : {A : Type 0} (xs : List A) → total M xs (λ i. M.zero) ≡ M.zero
@@ -115,7 +114,7 @@ module _ {n : ℕ} (q : ℕ) (Γ : Group n) (M : Module (suc q) (monoid Γ)) (K 
     fewest h U l s k f = dimension-le (suc q) m l h coefficients (λ c d e. same-coefficients c d
         (close-trans M K (combine M m row c) (combine M l s (coefficients c)) (combine M m row d) (near c)
         (close-sym M K (combine M m row d) (combine M l s (coefficients c))
-            (subst (λ a. Close M K (combine M m row d) (combine M l s a)) (sym e) (near d)))))
+        (subst (λ a. Close M K (combine M m row d) (combine M l s a)) (sym e) (near d)))))
       where
         coefficients : (Below m → Below (suc q)) → Below l → Below (suc q)
         coefficients c = block-sum q Γ l (f (combine M m row c) (combine-in U c)).0
@@ -134,8 +133,11 @@ module _ {n : ℕ} (q : ℕ) (Γ : Group n) (M : Module (suc q) (monoid Γ)) (K 
 
     pub image-submodule : IsSubmodule M Image
     image-submodule = record {
-      zero-in = ((Table q Γ m).zero, map-zero (Table q Γ m) M
-          (λ u. lin M row (terms q Γ m u)) image-linear.on-add);
+      zero-in = (
+        (Table q Γ m).zero,
+        map-zero (Table q Γ m) M
+            (λ u. lin M row (terms q Γ m u)) image-linear.on-add,
+      );
       add-in = λ x y a b. ((Table q Γ m).add a.0 b.0, image-linear.on-add a.0 b.0 ∙ ap₂ M.add a.1 b.1);
       act-in = λ g x a. ((Table q Γ m).act g a.0, image-linear.on-act g a.0 ∙ ap (M.act g) a.1);
     }
@@ -153,6 +155,10 @@ module _ {n : ℕ} (q : ℕ) (Γ : Group n) (M : Module (suc q) (monoid Γ)) (K 
     pub generate : (e : ℕ) → IsPrime (suc q) → n ≡ suc q ^ e → Finite M.of → Generate q Γ M K m row
     generate e W size F = nakayama q e Γ W size M F K Image image-submodule
         (λ v k. let r : (c : Below m → Below (suc q))
-            × Moved M K (sub M v (combine M m row c)) = B.spanning v k in
-        (combine M m row r.0, sub M v (combine M m row r.0), combine-image r.0, r.1,
-            sym (M.add-comm (combine M m row r.0) _ ∙ sub-back M v (combine M m row r.0))))
+        × Moved M K (sub M v (combine M m row c)) = B.spanning v k in (
+          combine M m row r.0,
+          sub M v (combine M m row r.0),
+          combine-image r.0,
+          r.1,
+          sym (M.add-comm (combine M m row r.0) _ ∙ sub-back M v (combine M m row r.0)),
+        ))

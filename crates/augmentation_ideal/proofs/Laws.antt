@@ -4,8 +4,7 @@ use Rattle.group_modules.specs.Field.{Below}
 use Rattle.group_modules.specs.Tables.{Group, Table}
 use Rattle.augmentation_ideal.specs.Radical.{Radical, IsSubmodule}
 use Rattle.augmentation_ideal.specs.Generators.{IsBasisModuloMoved}
-use Rattle.augmentation_ideal.specs.Claims.{IsPrimePower, Passing, RadicalClaims, NakayamaClaim,
-    GeneratorClaims}
+use Rattle.augmentation_ideal.specs.Claims.{IsPrimePower, Passing, RadicalClaims, NakayamaClaim, GeneratorClaims}
 use Rattle.augmentation_ideal.proofs.Finite.{Finite, finite-function, finite-below}
 use Rattle.augmentation_ideal.proofs.Nakayama as N
 use Rattle.augmentation_ideal.proofs.Generators as R
@@ -30,7 +29,7 @@ module _ {n : ℕ} (q : ℕ) (Γ : Group n) where
   pub generator-claims : IsPrimePower q n
       → (b : ℕ) (K : (Table q Γ b).of → Bool) (m : ℕ) (row : Below m → (Table q Γ b).of)
       → IsSubmodule (Table q Γ b) (Passing K) → IsBasisModuloMoved (Table q Γ b) (Passing K) m row
-          → GeneratorClaims q Γ b K m row
+      → GeneratorClaims q Γ b K m row
   generator-claims P b K m row U B = record {
     generate = R.generate q Γ (Table q Γ b) (Passing K) m row B P.exponent P.prime P.power (finite-table b);
     fewest = R.fewest q Γ (Table q Γ b) (Passing K) m row B P.prime.above-one U;

@@ -82,10 +82,12 @@ module _ {n : ℕ} (q e : ℕ) (Γ : Group n) (W : IsPrime (suc q)) (size : n �
   -- J is nilpotent
   pub nilpotent : (N : ℕ) × ((x : M.of) → Radical M N x → x ≡ M.zero)
   unfolding T
-  nilpotent = let r : (N : ℕ) × ((x : M.of) → S q e Γ W size M F N x ≡ true) = vanish q e Γ W size M F in
-      (r.0, λ x m. F.same-path x M.zero (radical-down r.0 0
-          (λ x. subst (λ k. S q e Γ W size M F k x ≡ true)
-          (sym (far-sum r.0 0 ∙ (let k : r.0 + 0 ≡ r.0 = omega arith in k))) (r.1 x)) x m))
+  nilpotent = let r : (N : ℕ) × ((x : M.of) → S q e Γ W size M F N x ≡ true) = vanish q e Γ W size M F in (
+    r.0,
+    λ x m. F.same-path x M.zero (radical-down r.0 0
+        (λ x. subst (λ k. S q e Γ W size M F k x ≡ true)
+        (sym (far-sum r.0 0 ∙ (let k : r.0 + 0 ≡ r.0 = omega arith in k))) (r.1 x)) x m),
+  )
 
   module _ (K L : M.of → Type 0) (U : IsSubmodule M L) (f : (v : M.of) → K v → (x y : M.of) × L x
       × Moved M K y × (v ≡ M.add x y)) where
@@ -98,8 +100,13 @@ module _ {n : ℕ} (q e : ℕ) (Γ : Group n) (W : IsPrime (suc q)) (size : n �
     parts-down i h y (both {x = a} {y = b} m l) = join (parts-down i h a m) (parts-down i h b l)
       where
         join : Parts i a → Parts i b → Parts i (M.add a b)
-        join r s = (M.add r.0 s.0, M.add r.1 s.1, U.add-in r.0 s.0 r.2 s.2,
-            S-add q e Γ W size M F i r.1 s.1 r.3 s.3, ap₂ M.add r.4 s.4 ∙ swap M r.0 r.1 s.0 s.1)
+        join r s = (
+          M.add r.0 s.0,
+          M.add r.1 s.1,
+          U.add-in r.0 s.0 r.2 s.2,
+          S-add q e Γ W size M F i r.1 s.1 r.3 s.3,
+          ap₂ M.add r.4 s.4 ∙ swap M r.0 r.1 s.0 s.1,
+        )
     parts-down i h y (moved g v k) = go (h v k)
       where
         go : Parts (suc i) v → Parts i (sub M (M.act g v) v)
@@ -121,8 +128,14 @@ module _ {n : ℕ} (q e : ℕ) (Γ : Group n) (W : IsPrime (suc q)) (size : n �
         once v r = go (parts-down i h r.1 r.3)
           where
             go : Parts i r.1 → Parts i v
-            go s = (M.add r.0 s.0, s.1, U.add-in r.0 s.0 r.2 s.2, s.3, r.4 ∙ ap (M.add r.0) s.4
-                ∙ sym (M.add-assoc r.0 s.0 s.1))
+            go s = (
+              M.add r.0 s.0,
+              s.1,
+              U.add-in r.0 s.0 r.2 s.2,
+              s.3,
+              r.4 ∙ ap (M.add r.0) s.4
+                  ∙ sym (M.add-assoc r.0 s.0 s.1),
+            )
 
     -- Nakayama's lemma: K lies in a submodule L where K lies in L plus the span of all (g - 1) v with v in K
     pub nakayama : (v : M.of) → K v → L v

@@ -1,18 +1,15 @@
 -- A group of p^e elements acts nilpotently on a finite module over the field of p elements.
-use Rattle.std.specs.Prelude.{◌≡◌, ℕ, zero, suc, refl, List, [], ◌∷◌, ◌+◌, ◌*◌, ◌%◌, ◌≤◌, ◌⊎◌, ◌^◌, Bool,
-    true, false, not, ◌&&◌}
+use Rattle.std.specs.Prelude.{◌≡◌, ℕ, zero, suc, refl, List, [], ◌∷◌, ◌+◌, ◌*◌, ◌%◌, ◌≤◌, ◌⊎◌, ◌^◌, Bool, true, false, not, ◌&&◌}
 use Rattle.std.proofs.Common.{sym, ◌∙◌, ap, ap₂, arith, inl, inr}
 use Rattle.std.proofs.lemmas.Bool.{and_from, and_parts, false_from_ne_true, true≢false}
 use Rattle.std.proofs.Math.Nat.{pow-suc, pow-zero, mod-add-mod, mod-eq_of_lt, le_refl}
 use mathlib.Core.Path.{fun_ext, subst}
 use Rattle.group_modules.specs.Module.{Module, sub, times}
-use Rattle.group_modules.proofs.Laws.{zero-add, neg-zero, neg-add, neg-neg, sub-self, sub-zero, sub-add,
-    sub-back, act-zero, act-neg, times-mod, times-sum}
+use Rattle.group_modules.proofs.Laws.{zero-add, neg-zero, neg-add, neg-neg, sub-self, sub-zero, sub-add, sub-back, act-zero, act-neg, times-mod, times-sum}
 use Rattle.group_modules.specs.Field.{Below, Fp, residue, plus, minus}
 use Rattle.group_modules.specs.Tables.{Group, monoid}
 use Rattle.augmentation_ideal.specs.Primes.{IsPrime}
-use Rattle.augmentation_ideal.proofs.Finite.{bit, sum, tell, same-test, sum-same, sum-add, sum-le, Finite,
-    Fails, fails-at, apart, same-of, search-all, every, every-at, every-from, every-fails, finite-below}
+use Rattle.augmentation_ideal.proofs.Finite.{bit, sum, tell, same-test, sum-same, sum-add, sum-le, Finite, Fails, fails-at, apart, same-of, search-all, every, every-at, every-from, every-fails, finite-below}
 use Rattle.augmentation_ideal.proofs.Counting.{Acts, no-fixed}
 
 -- the numbers modulo p as a group
@@ -94,7 +91,7 @@ module _ {n : ℕ} (q e : ℕ) (Γ : Group n) (W : IsPrime (suc q)) (size : n �
       ∙ ap (λ z. sub M z (M.act g x))
       (sym (M.act-mul g c x)
       ∙ ap (λ m. M.act m x) (sym (Γ.mul-assoc g (Γ.inv g) (Γ.mul k g))
-          ∙ ap (λ m. Γ.mul m (Γ.mul k g)) (Γ.mul-inv g) ∙ Γ.one-mul (Γ.mul k g))
+      ∙ ap (λ m. Γ.mul m (Γ.mul k g)) (Γ.mul-inv g) ∙ Γ.one-mul (Γ.mul k g))
       ∙ M.act-mul k g x))
       (S-act i g _ (at-each i x h c)))
 
@@ -116,7 +113,7 @@ module _ {n : ℕ} (q e : ℕ) (Γ : Group n) (W : IsPrime (suc q)) (size : n �
     near-trans : (x y z : M.of) → Near x y → Near y z → Near x z
     near-trans x y z h k = move i (M.add (sub M x y) (sub M y z)) (sub M x z)
         (sym (M.add-assoc (sub M x y) y (M.neg z))
-            ∙ ap (λ w. M.add w (M.neg z)) (sub-back M x y)) (S-add i _ _ h k)
+        ∙ ap (λ w. M.add w (M.neg z)) (sub-back M x y)) (S-add i _ _ h k)
 
     near-act : (g : Below n) (x y : M.of) → Near x y → Near (M.act g x) (M.act g y)
     near-act g x y h = move i (M.act g (sub M x y)) (sub M (M.act g x) (M.act g y)) (act-sub g x y)
@@ -166,9 +163,9 @@ module _ {n : ℕ} (q e : ℕ) (Γ : Group n) (W : IsPrime (suc q)) (size : n �
       one = λ x h. ap r (ap (M.add x) (times-mod M 0 w) ∙ M.add-zero x) ∙ rep-path x h;
       mul = λ a b x h.
           ap r (ap (M.add x) (times-mod M (a.0 + b.0) w ∙ times-sum M a.0 b.0 w ∙ M.add-comm _ _)
-              ∙ sym (M.add-assoc x _ _))
+          ∙ sym (M.add-assoc x _ _))
           ∙ r-same _ _ (near-add (M.add x (times M.add M.zero b.0 w)) (shift w b x) (times M.add M.zero a.0 w)
-              (r-near (M.add x (times M.add M.zero b.0 w))));
+          (r-near (M.add x (times M.add M.zero b.0 w))));
     }
 
     -- so the number of representatives is a multiple of p, where w is not near 0
@@ -178,12 +175,12 @@ module _ {n : ℕ} (q e : ℕ) (Γ : Group n) (W : IsPrime (suc q)) (size : n �
         ∙ (let z : 1 * suc q ≡ suc q = omega arith in z)) in k)
         (sum F.all (λ x. bit (rep x))) rep (shift-acts w)
         (λ x h. (residue q 1, apart F (shift w (residue q 1) x) x (λ k. true≢false (sym (inside x k) ∙ out))))
-            (le_refl _)
+        (le_refl _)
       where
         inside : (x : M.of) → shift w (residue q 1) x ≡ x → S i w ≡ true
         inside x k = move i _ w
             (ap (λ z. sub M z x) (M.add-comm x _) ∙ M.add-assoc _ x (M.neg x) ∙ ap (M.add _) (sub-self M x)
-                ∙ M.add-zero _ ∙ times-mod M 1 w ∙ M.add-zero w)
+            ∙ M.add-zero _ ∙ times-mod M 1 w ∙ M.add-zero w)
             (r-back (M.add x (times M.add M.zero (residue q 1).0 w)) x k)
 
     -- the representatives other than that of 0
@@ -196,7 +193,7 @@ module _ {n : ℕ} (q e : ℕ) (Γ : Group n) (W : IsPrime (suc q)) (size : n �
           and_parts (rep x) (not (F.same (r M.zero) x)) h in
           and_from (rep (r (M.act g x))) (not (F.same (r M.zero) (r (M.act g x)))) (r-rep (M.act g x))
           (ap not (apart F (r M.zero) (r (M.act g x))
-              (λ k. true≢false (sym b.1 ∙ ap not (same-of F (r M.zero) x (stay g x k ∙ rep-path x b.0))))));
+          (λ k. true≢false (sym b.1 ∙ ap not (same-of F (r M.zero) x (stay g x k ∙ rep-path x b.0))))));
       one = λ x h. ap r (M.act-one x) ∙ rep-path x (and_parts (rep x) (not (F.same (r M.zero) x)) h).0;
       mul = λ g h x _. ap r (M.act-mul g h x)
           ∙ r-same _ _ (near-act g (M.act h x) (r (M.act h x)) (r-near (M.act h x)));
@@ -208,15 +205,15 @@ module _ {n : ℕ} (q e : ℕ) (Γ : Group n) (W : IsPrime (suc q)) (size : n �
         stay : (g : Below n) (x : M.of) → r M.zero ≡ r (M.act g x) → r M.zero ≡ r x
         stay g x k = r-same M.zero x
             (move i _ _ (ap₂ (sub M) (act-zero M (Γ.inv g)) (sym (M.act-mul (Γ.inv g) g x)
-                ∙ ap (λ m. M.act m x) (Γ.inv-mul g) ∙ M.act-one x))
+            ∙ ap (λ m. M.act m x) (Γ.inv-mul g) ∙ M.act-one x))
             (near-act (Γ.inv g) M.zero (M.act g x) (near-of M.zero (M.act g x) k)))
 
     count : sum F.all (λ x. bit (rep x)) ≡ sum F.all (λ x. bit (other x)) + 1
     count =
         sum-same F.all (λ x. bit (rep x)) (λ x. bit (other x) + bit (F.same (r M.zero) x))
-            (λ x. at x (tell (F.same (r M.zero) x)))
+        (λ x. at x (tell (F.same (r M.zero) x)))
         ∙ sum-add F.all (λ x. bit (other x)) (λ x. bit (F.same (r M.zero) x))
-            ∙ ap (λ k. sum F.all (λ x. bit (other x)) + k) (F.once (r M.zero))
+        ∙ ap (λ k. sum F.all (λ x. bit (other x)) + k) (F.once (r M.zero))
       where
         at : (x : M.of) → (F.same (r M.zero) x ≡ true) ⊎ (F.same (r M.zero) x ≡ false)
             → bit (rep x) ≡ bit (other x) + bit (F.same (r M.zero) x)
@@ -245,22 +242,22 @@ module _ {n : ℕ} (q e : ℕ) (Γ : Group n) (W : IsPrime (suc q)) (size : n �
             → (x : M.of) × (S i x ≡ false) × (S (suc i) x ≡ true)
         at (inl h) =
             let b : (other h.0 ≡ true) × (every G (λ g. F.same (r (M.act g h.0)) h.0) ≡ true) =
-                and_parts (other h.0) (every G (λ g. F.same (r (M.act g h.0)) h.0)) h.1 in
+            and_parts (other h.0) (every G (λ g. F.same (r (M.act g h.0)) h.0)) h.1 in
             let c : (rep h.0 ≡ true) × (not (F.same (r M.zero) h.0) ≡ true) =
-                and_parts (rep h.0) (not (F.same (r M.zero) h.0)) b.0 in (
+            and_parts (rep h.0) (not (F.same (r M.zero) h.0)) b.0 in (
               h.0,
               false_from_ne_true (S i h.0) (λ k. true≢false (sym c.1 ∙ ap not (same-of F (r M.zero) h.0
                   (r-same M.zero h.0 (near-sym h.0 M.zero
-                      (move i h.0 (sub M h.0 M.zero) (sym (sub-zero M h.0)) k)) ∙ rep-path h.0 c.0)))),
+                  (move i h.0 (sub M h.0 M.zero) (sym (sub-zero M h.0)) k)) ∙ rep-path h.0 c.0)))),
               from-each i h.0 (λ g. r-back (M.act g h.0) h.0
                   (F.same-path (r (M.act g h.0)) h.0 (every-at G (λ g. F.same (r (M.act g h.0)) h.0) b.1 g))),
             )
         at (inr none) = absurd (more (sum F.all (λ x. bit (other x))) (ap (λ k. k % suc q) (sym count)
             ∙ many w out)
             (no-fixed Γ F (λ g x. r (M.act g x)) (suc q) e W size
-                (sum F.all (λ x. bit (other x))) other other-acts
+            (sum F.all (λ x. bit (other x))) other other-acts
             (λ x h. every-fails G (λ g. F.same (r (M.act g x)) x)
-                (second (other x) (every G (λ g. F.same (r (M.act g x)) x)) h (none x))) (le_refl _)))
+            (second (other x) (every G (λ g. F.same (r (M.act g x)) x)) h (none x))) (le_refl _)))
           where
             second : (a b : Bool) → a ≡ true → (a && b) ≡ false → b ≡ false
             second true b h k = k
@@ -273,7 +270,7 @@ module _ {n : ℕ} (q e : ℕ) (Γ : Group n) (W : IsPrime (suc q)) (size : n �
   unfolding missed
   fewer i x h k = joined _ _ _ _
       (sum-le F.all (λ y. bit (not (S (suc i) y)) + bit (F.same x y)) (λ y. bit (not (S i y)))
-          (λ y. at y (tell (F.same x y)) (tell (S i y))))
+      (λ y. at y (tell (F.same x y)) (tell (S i y))))
       (sum-add F.all (λ y. bit (not (S (suc i) y))) (λ y. bit (F.same x y))) (F.once x)
     where
       joined : (s a b c : ℕ) → s ≤ c → s ≡ a + b → b ≡ 1 → a + 1 ≤ c

@@ -5,9 +5,7 @@ use Rattle.std.proofs.Math.Nat.{pow-suc, pow-zero, le_refl}
 use Rattle.std.proofs.lemmas.Bool.{cases_lt}
 use Rattle.std.proofs.lemmas.Nat.{mul-le}
 use Rattle.group_modules.specs.Field.{Below}
-use Rattle.augmentation_ideal.proofs.Finite.{bit, sum, tell, sum-same, sum-zero, sum-le, sum-swap, sum-map,
-    sum-pairs, sum-scale, Finite, same-of, search-all, finite-below, size-below, finite-function, pairs,
-    join-function}
+use Rattle.augmentation_ideal.proofs.Finite.{bit, sum, tell, sum-same, sum-zero, sum-le, sum-swap, sum-map, sum-pairs, sum-scale, Finite, same-of, search-all, finite-below, size-below, finite-function, pairs, join-function}
 
 module _ {A B : Type 0} (F : Finite A) (H : Finite B) (f : A → B) (one-to-one : (x y : A) → f x ≡ f y
     → x ≡ y) where
@@ -24,14 +22,17 @@ module _ {A B : Type 0} (F : Finite A) (H : Finite B) (f : A → B) (one-to-one 
         where
           le : (x : A) → (H.same (f x) y ≡ true) ⊎ (H.same (f x) y ≡ false)
               → bit (H.same (f x) y) ≤ bit (F.same r.0 x)
-          le x (inl k) = rw (k, same-of F r.0 x
-              (one-to-one r.0 x (H.same-path (f r.0) y r.1 ∙ sym (H.same-path (f x) y k)))) (le_refl 1)
+          le x (inl k) = rw (
+            k,
+            same-of F r.0 x
+                (one-to-one r.0 x (H.same-path (f r.0) y r.1 ∙ sym (H.same-path (f x) y k))),
+          ) (le_refl 1)
           le x (inr k) = rw k (let z : 0 ≤ bit (F.same r.0 x) = omega arith in z)
 
   pub fewer-members : sum F.all (λ x. 1) ≤ sum H.all (λ y. 1)
   fewer-members =
       rw (sum-same F.all (λ x. 1) (λ x. sum H.all (λ y. bit (H.same (f x) y))) (λ x. sym (H.once (f x)))
-          ∙ sum-swap F.all H.all (λ x y. bit (H.same (f x) y)))
+      ∙ sum-swap F.all H.all (λ x y. bit (H.same (f x) y)))
       (sum-le H.all (λ y. sum F.all (λ x. bit (H.same (f x) y))) (λ y. 1) fibre)
 
 pub size-function : {A : Type 0} (F : Finite A) (b : ℕ)
@@ -41,11 +42,11 @@ size-function F (suc b) =
     sum-map (join-function b) (pairs F.all (finite-function F b).all) (λ x. 1)
     ∙ sum-pairs F.all (finite-function F b).all (λ x. 1)
     ∙ sum-same F.all (λ x. sum (finite-function F b).all (λ y. 1)) (λ x. 1 * (sum F.all (λ x. 1)) ^ b)
-        (λ x. size-function F b ∙ (let k : (sum F.all (λ x. 1)) ^ b ≡ 1 *
-        (sum F.all (λ x. 1)) ^ b = omega arith in k))
+    (λ x. size-function F b ∙ (let k : (sum F.all (λ x. 1)) ^ b ≡ 1 *
+    (sum F.all (λ x. 1)) ^ b = omega arith in k))
     ∙ sum-scale F.all (λ x. 1) ((sum F.all (λ x. 1)) ^ b)
     ∙ (let k : sum F.all (λ x. 1) * (sum F.all (λ x. 1)) ^ b ≡ (sum F.all (λ x. 1)) ^ b * sum F.all
-        (λ x. 1) = omega arith in k) ∙ sym (pow-suc (sum F.all (λ x. 1)) b)
+    (λ x. 1) = omega arith in k) ∙ sym (pow-suc (sum F.all (λ x. 1)) b)
 
 pow-pos : (p m : ℕ) → 1 < p → 1 ≤ p ^ m
 pow-pos p zero h = rw (pow-zero p) (le_refl 1)

@@ -52,20 +52,20 @@ module _ {m n : ℕ} (q : ℕ) (Δ : Group m) (Γ : Group n) (f : Below m → Be
   first i = sym (augment-sum q Γ (L 0 (row_table q Δ J A 0 i)))
       ∙ map-lin (M 0) (module_along Δ Γ f h F) (λ v. lin F (λ i. residue q 1) (terms q Γ 1 v))
       (linear-along Δ Γ f h (P 0) F (λ v. lin F (λ i. residue q 1) (terms q Γ 1 v))
-          (terms-linear q Γ 1 F (λ i. residue q 1)))
+      (terms-linear q Γ 1 F (λ i. residue q 1)))
       (value 0) (row_terms q Δ J A 0 i)
       ∙ pair-zero q Δ (r 0) (λ k. lin F (λ i. residue q 1) (terms q Γ 1 (value 0 k))) (row_table q Δ J A 0 i)
-          (R.minimal 0 i)
+      (R.minimal 0 i)
 
   in-kernel : (d : ℕ) (i : Below (r (suc d))) → InKernel q Γ K S d (L d (row_table q Δ J A d i))
   in-kernel zero i = first i
   in-kernel (suc d) i =
       map-lin (M (suc d)) (M d) (boundary q Γ K S d) (boundary-linear d) (value (suc d))
-          (row_terms q Δ J A (suc d) i)
+      (row_terms q Δ J A (suc d) i)
       ∙ ap (λ u. lin (M d) u (row_terms q Δ J A (suc d) i))
-          (fun_ext (λ k. T.exact d (L d (row_table q Δ J A d k)) (in-kernel d k)))
+      (fun_ext (λ k. T.exact d (L d (row_table q Δ J A d k)) (in-kernel d k)))
       ∙ sym (map-lin (free q Δ J A d) (M d) (L d) (map-linear d) (row_table q Δ J A d)
-          (row_terms q Δ J A (suc d) i))
+      (row_terms q Δ J A (suc d) i))
       ∙ ap (L d) (R.complex d i)
       ∙ map-zero (free q Δ J A d) (M d) (L d) (map-linear d).on-add
 
@@ -73,11 +73,11 @@ module _ {m n : ℕ} (q : ℕ) (Δ : Group m) (Γ : Group n) (f : Below m → Be
       → boundary q Γ K S d (L (suc d) v) ≡ L d (boundary q Δ J A d v)
   chain-map d v =
       map-lin (M (suc d)) (M d) (boundary q Γ K S d) (boundary-linear d) (value (suc d))
-          (terms q Δ (r (suc d)) v)
+      (terms q Δ (r (suc d)) v)
       ∙ ap (λ u. lin (M d) u (terms q Δ (r (suc d)) v))
-          (fun_ext (λ k. T.exact d (L d (row_table q Δ J A d k)) (in-kernel d k)))
+      (fun_ext (λ k. T.exact d (L d (row_table q Δ J A d k)) (in-kernel d k)))
       ∙ sym (map-lin (free q Δ J A d) (M d) (L d) (map-linear d) (row_table q Δ J A d)
-          (terms q Δ (r (suc d)) v))
+      (terms q Δ (r (suc d)) v))
 
   pub claims : AlongClaims q Δ Γ f J A K S
   claims = record {
@@ -90,7 +90,7 @@ module _ {m n : ℕ} (q : ℕ) (Δ : Group m) (Γ : Group n) (f : Below m → Be
 pub along-claims : {m n : ℕ} (q : ℕ) (Δ : Group m) (Γ : Group n) (f : Below m
     → Below n) (J : Coordinates q Δ) (A : StageRows)
     (K : Coordinates q Γ) (S : StageRows) → IsFieldModulo (suc q) → IsHomomorphism Δ Γ f → AreStages q Δ J A
-        → AreStages q Γ K S
+    → AreStages q Γ K S
     → AlongClaims q Δ Γ f J A K S
 along-claims q Δ Γ f J A K S F h a s = claims q Δ Γ f h J A K S (resolution-claims q F Δ J A a)
     (resolution-claims q F Γ K S s)

@@ -27,7 +27,7 @@ module _ {m n : ℕ} (q : ℕ) (Δ : Group m) (Γ : Group n) (f : Below m → Be
   abbrev pub image : (d : ℕ) → Below (rank q Δ A.ranks d) → (free q Γ K S d).of
   image =
       steps (λ d. Below (rank q Δ A.ranks d)) (row_terms q Δ J A) (λ d. along f (ops (free q Γ K S d)))
-          (section_table q Γ K S)
+      (section_table q Γ K S)
       (λ i. unit q Γ 1 (residue 0 0))
 
   -- the map of degree d, linear along f

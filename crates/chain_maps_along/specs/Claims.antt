@@ -23,4 +23,4 @@ module _ {m n : ℕ} (q : ℕ) (Δ : Group m) (Γ : Group n) (f : Below m → Be
         → InKernel q Γ K S d (map_along q Δ Γ f J A K S d (row_table q Δ J A d i))
     pub chain_map : (d : ℕ) (v : (free q Δ J A (suc d)).of)
         → boundary q Γ K S d (map_along q Δ Γ f J A K S (suc d) v) ≡ map_along q Δ Γ f J A K S d
-            (boundary q Δ J A d v)
+        (boundary q Δ J A d v)

@@ -81,7 +81,7 @@ module _ {p : ℕ} {G : Monoid} (M : Module p G) where
   times-mod n x =
       sym
       (ap (λ k. times M.add M.zero k x) (sym (div-add-mod n p)
-          ∙ (let e : p * (n / p) + n % p ≡ (n / p) * p + n % p = omega arith in e))
+      ∙ (let e : p * (n / p) + n % p ≡ (n / p) * p + n % p = omega arith in e))
       ∙ times-sum ((n / p) * p) (n % p) x
       ∙ ap (λ y. M.add y (times M.add M.zero (n % p) x)) (times-multiple (n / p) x) ∙ zero-add _)
 
@@ -127,7 +127,7 @@ module _ {p : ℕ} {G : Monoid} (M : Module p G) where
   lin-neg f (t ∷ ts) =
       ap₂ M.add
       (ap (times M.add M.zero t.coef) (act-neg t.elem (f t.base))
-          ∙ times-neg t.coef (M.act t.elem (f t.base)))
+      ∙ times-neg t.coef (M.act t.elem (f t.base)))
       (lin-neg f ts)
       ∙ sym (neg-add _ _)
 
@@ -157,7 +157,7 @@ map-lin M N f l u (t ∷ ts) =
     l.on-add _ _
     ∙ ap₂ N.add
     (map-times M N f l.on-add t.coef (M.act t.elem (u t.base))
-        ∙ ap (times N.add N.zero t.coef) (l.on-act t.elem (u t.base)))
+    ∙ ap (times N.add N.zero t.coef) (l.on-act t.elem (u t.base)))
     (map-lin M N f l u ts)
 
 pub lin-zero : {p : ℕ} {G : Monoid} (M : Module p G) {X : Type 0} (t : List (Term G X))
@@ -165,7 +165,7 @@ pub lin-zero : {p : ℕ} {G : Monoid} (M : Module p G) {X : Type 0} (t : List (T
 lin-zero M [] = refl
 lin-zero M (t ∷ ts) =
     ap₂ M.add (ap (times M.add M.zero t.coef) (act-zero M t.elem) ∙ times-zero M t.coef) (lin-zero M ts)
-        ∙ M.add-zero M.zero
+    ∙ M.add-zero M.zero
 
 -- one linear map after another
 pub then-linear : {p : ℕ} {G : Monoid} (M N K : Module p G) (f : M.of → N.of) (g : N.of → K.of)

@@ -1,6 +1,5 @@
 -- Each table is the sum of its terms, and the linear maps between free modules.
-use Rattle.std.specs.Prelude.{◌≡◌, ℕ, suc, refl, List, [], ◌∷◌, ◌<◌, ◌≢◌, ◌⊎◌, Bool, true, false, eqb, ◌&&◌,
-    ◌+◌}
+use Rattle.std.specs.Prelude.{◌≡◌, ℕ, suc, refl, List, [], ◌∷◌, ◌<◌, ◌≢◌, ◌⊎◌, Bool, true, false, eqb, ◌&&◌, ◌+◌}
 use Rattle.std.proofs.Common.{sym, ◌∙◌, ap, ap₂, arith, inl, inr, eq-eqb}
 use mathlib.Core.Path.{fun_ext}
 use Rattle.std.proofs.lemmas.Bool.Decides.{eqb_tells}
@@ -30,14 +29,14 @@ module _ {n : ℕ} (q : ℕ) (Γ : Group n) where
 
   off-elem : (c j : ℕ) (g k : Below n) → g.0 ≢ k.0
       → ((eqb (Γ.mul (Γ.inv g) k).0 Γ.one.0 ≡ true) × ((Γ.mul (Γ.inv g) k).0 ≡ Γ.one.0))
-          ⊎ ((eqb (Γ.mul (Γ.inv g) k).0 Γ.one.0 ≡ false) × ((Γ.mul (Γ.inv g) k).0 ≢ Γ.one.0))
+      ⊎ ((eqb (Γ.mul (Γ.inv g) k).0 Γ.one.0 ≡ false) × ((Γ.mul (Γ.inv g) k).0 ≢ Γ.one.0))
       → times (plus q) (residue q 0) c (mark q Γ (eqb j j && eqb (Γ.mul (Γ.inv g) k).0 Γ.one.0)) ≡ residue q 0
   off-elem c j g k e (inl m) =
       absurd (e (sym (ap (λ (x : Below n). x.0)
-          (inv-inv-mul q Γ g k (below-path (Γ.mul (Γ.inv g) k) Γ.one m.1)))))
+      (inv-inv-mul q Γ g k (below-path (Γ.mul (Γ.inv g) k) Γ.one m.1)))))
   off-elem c j g k e (inr m) =
       ap (λ s. times (plus q) (residue q 0) c (mark q Γ s)) (ap₂ ◌&&◌ (eq-eqb j j refl) m.0)
-          ∙ times-zero (Fp q (monoid Γ)) c
+      ∙ times-zero (Fp q (monoid Γ)) c
 
   -- v is the sum of its terms
   pub terms-sum : (b : ℕ) (v : (Table q Γ b).of) → lin (Table q Γ b) (unit q Γ b) (terms q Γ b v) ≡ v
@@ -49,7 +48,7 @@ module _ {n : ℕ} (q : ℕ) (Γ : Group n) where
           let K : Module (suc q) (monoid Γ) = Fp q (monoid Γ) in
           ap (λ w. w j k) (lin-terms q Γ T b (unit q Γ b) v (below b))
           ∙ map-total T K (λ w. w j k) (λ v w. refl) (below b)
-              (λ i. total T (below n) (part q Γ T b (unit q Γ b) v i))
+          (λ i. total T (below n) (part q Γ T b (unit q Γ b) v i))
           ∙ total-only K b (λ i. total T (below n) (part q Γ T b (unit q Γ b) v i) j k) j
           (λ i e.
           map-total T K (λ w. w j k) (λ v w. refl) (below n) (part q Γ T b (unit q Γ b) v i)
@@ -61,7 +60,7 @@ module _ {n : ℕ} (q : ℕ) (Γ : Group n) where
           ∙ entry b v j k j k
           ∙ ap (λ c. times (plus q) (residue q 0) (v j k).0 (mark q Γ c))
           (ap₂ ◌&&◌ (eq-eqb j.0 j.0 refl)
-              (eq-eqb (Γ.mul (Γ.inv k) k).0 Γ.one.0 (ap (λ (k : Below n). k.0) (Γ.inv-mul k))))
+          (eq-eqb (Γ.mul (Γ.inv k) k).0 Γ.one.0 (ap (λ (k : Below n). k.0) (Γ.inv-mul k))))
           ∙ times-one q (v j k).0 ∙ residue-self q (v j k)
 
   -- the linear extension is linear
@@ -80,7 +79,7 @@ module _ {n : ℕ} (q : ℕ) (Γ : Group n) where
             (unit q Γ b)
             (λ g i.
             ap L (sym (T.act-mul h g (unit q Γ b i))) ∙ terms-at-unit q Γ M b u (Γ.mul h g) i
-                ∙ M.act-mul h g (u i)
+            ∙ M.act-mul h g (u i)
             ∙ ap (M.act h) (sym (terms-at-unit q Γ M b u g i)))
             (terms q Γ b v)
             ∙ ap (λ w. M.act h (L w)) (terms-sum b v);
@@ -90,7 +89,7 @@ module _ {n : ℕ} (q : ℕ) (Γ : Group n) where
       → lin M u (terms q Γ b (unit q Γ b i)) ≡ u i
   terms-unit b M u i =
       ap (λ w. lin M u (terms q Γ b w)) (sym ((Table q Γ b).act-one (unit q Γ b i)))
-          ∙ terms-at-unit q Γ M b u Γ.one i ∙ M.act-one (u i)
+      ∙ terms-at-unit q Γ M b u Γ.one i ∙ M.act-one (u i)
 
   -- a sum of multiples of one element
   pub total-times : (M : Module (suc q) (monoid Γ)) {A : Type 0} (xs : List A) (w : A
@@ -112,7 +111,7 @@ module _ {n : ℕ} (q : ℕ) (Γ : Group n) where
       ∙ total-zero K (below b) (λ j. total K (below n) (part q Γ K b c v j))
       (λ j.
       total-times K (below n) (v j) (c j)
-          ∙ ap (λ (s : Below (suc q)). times (plus q) (residue q 0) s.0 (c j)) (e j)
+      ∙ ap (λ (s : Below (suc q)). times (plus q) (residue q 0) s.0 (c j)) (e j)
       ∙ times-mod K 0 (c j))
 
   pub augment-sum : (v : (Table q Γ 1).of)

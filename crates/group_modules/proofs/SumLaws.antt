@@ -1,6 +1,5 @@
 -- Laws of sums over lists and over all numbers below a bound.
-use Rattle.std.specs.Prelude.{◌≡◌, ℕ, zero, suc, refl, List, [], ◌∷◌, ◌++◌, map, ◌<◌, ◌≢◌, ◌⊎◌, true, false,
-    eqb}
+use Rattle.std.specs.Prelude.{◌≡◌, ℕ, zero, suc, refl, List, [], ◌∷◌, ◌++◌, map, ◌<◌, ◌≢◌, ◌⊎◌, true, false, eqb}
 use Rattle.std.proofs.Common.{sym, ◌∙◌, ap, ap₂, arith, inl, inr}
 use Rattle.std.proofs.lemmas.Bool.Decides.{eqb_tells}
 use native.Mathlib.Nat.{lt-suc_self}
@@ -35,7 +34,7 @@ module _ {p : ℕ} {G : Monoid} (M : Module p G) where
     where
       go : ((eqb x.0 n ≡ true) × (x.0 ≡ n)) ⊎ ((eqb x.0 n ≡ false) × (x.0 ≢ n))
           → ((y : Below n) → ((z : Below n) → z.0 ≢ y.0 → f (up z) ≡ M.zero)
-              → total M (below n) (λ i. f (up i)) ≡ f (up y))
+          → total M (below n) (λ i. f (up i)) ≡ f (up y))
           → total M (below (suc n)) f ≡ f x
       go (inl h) ih =
           ap₂ M.add (ap f (below-path (n, lt-suc_self n) x (sym h.1)))
@@ -44,8 +43,14 @@ module _ {p : ℕ} {G : Monoid} (M : Module p G) where
           (λ y. e (up y) (let a : y.0 < n = y.1 in let b : x.0 ≡ n = h.1 in omega (arith, a, b))))
           ∙ M.add-zero (f x)
       go (inr h) ih =
-          let y : Below n = (x.0, (let a : x.0 ≢ n = h.1 in let b : x.0 < suc n = x.1 in omega (arith, b,
-              a))) in
+          let y : Below n = (
+            x.0,
+            (let a : x.0 ≢ n = h.1 in let b : x.0 < suc n = x.1 in omega (
+              arith,
+              b,
+              a,
+            )),
+          ) in
           ap₂ M.add (e (n, lt-suc_self n) (λ k. h.1 (sym k)))
           (total-map (λ i. up i) (below n) f ∙ ih y (λ z k. e (up z) k))
           ∙ zero-add M (f (up y)) ∙ ap f (below-path (up y) x refl)

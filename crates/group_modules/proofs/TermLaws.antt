@@ -50,7 +50,7 @@ module _ {n : ℕ} (q : ℕ) (Γ : Group n) where
     lin-terms v [] = refl
     lin-terms v (i ∷ is) =
         lin-append M u (block-terms b v i (below n)) (terms-of b v is)
-            ∙ ap₂ M.add (block-terms-sum v i (below n)) (lin-terms v is)
+        ∙ ap₂ M.add (block-terms-sum v i (below n)) (lin-terms v is)
 
     part-add : (v w : (Table b).of) (i : Below b) (g : Below n)
         → part (table-add b v w) i g ≡ M.add (part v i g) (part w i g)
@@ -77,7 +77,7 @@ module _ {n : ℕ} (q : ℕ) (Γ : Group n) where
         ∙ total-only M n (part v i) g (λ h e. off-elem h e (eqb_tells (Γ.mul (Γ.inv g) h).0 Γ.one.0))
         ∙ ap (λ c. times M.add M.zero (mark c).0 (M.act g (u i)))
         (ap₂ ◌&&◌ (eq-eqb i.0 i.0 refl) (eq-eqb (Γ.mul (Γ.inv g) g).0 Γ.one.0
-            (ap (λ (k : Below n). k.0) (Γ.inv-mul g))))
+        (ap (λ (k : Below n). k.0) (Γ.inv-mul g))))
         ∙ times-mod M 1 (M.act g (u i)) ∙ M.add-zero (M.act g (u i))
       where
         off : (j : Below b) (h : Below n) → j.0 ≢ i.0
@@ -90,11 +90,11 @@ module _ {n : ℕ} (q : ℕ) (Γ : Group n) where
 
         off-elem : (h : Below n) → h.0 ≢ g.0
             → ((eqb (Γ.mul (Γ.inv g) h).0 Γ.one.0 ≡ true) × ((Γ.mul (Γ.inv g) h).0 ≡ Γ.one.0))
-                ⊎ ((eqb (Γ.mul (Γ.inv g) h).0 Γ.one.0 ≡ false) × ((Γ.mul (Γ.inv g) h).0 ≢ Γ.one.0))
+            ⊎ ((eqb (Γ.mul (Γ.inv g) h).0 Γ.one.0 ≡ false) × ((Γ.mul (Γ.inv g) h).0 ≢ Γ.one.0))
             → part ((Table b).act g (unit b i)) i h ≡ M.zero
         off-elem h e (inl k) =
             absurd (e (ap (λ (k : Below n). k.0)
-                (inv-inv-mul q Γ g h (below-path (Γ.mul (Γ.inv g) h) Γ.one k.1))))
+            (inv-inv-mul q Γ g h (below-path (Γ.mul (Γ.inv g) h) Γ.one k.1))))
         off-elem h e (inr k) =
             ap (λ c. times M.add M.zero (mark c).0 (M.act h (u i))) (ap₂ ◌&&◌ (eq-eqb i.0 i.0 refl) k.0)
             ∙ times-mod M 0 (M.act h (u i))

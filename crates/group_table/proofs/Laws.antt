@@ -73,7 +73,7 @@ power-product G L a b (suc e) i j h =
     ∙ L.mul-assoc A B (product G a b) iA jB ab
     ∙ ap (λ y. product G A y)
     (sym (L.mul-assoc B a b jB i j) ∙ ap (λ y. product G y b) (commutes-power G L b a e j i (sym h))
-        ∙ L.mul-assoc a B b i jB j)
+    ∙ L.mul-assoc a B b i jB j)
     ∙ sym (L.mul-assoc A a (product G B b) iA i (L.closed B b jB j))
 
 -- g (g^-1 x g) = x g
@@ -82,4 +82,4 @@ pub conjugate-moved : {n : ℕ} {mul : ℕ → ℕ → ℕ} → IsGroup n mul �
     mul g (mul (mul h x) g) ≡ mul x g
 conjugate-moved {mul = mul} L g h x i j k e =
     sym (L.mul-assoc g (mul h x) g i (L.closed h x j k) i)
-        ∙ ap (λ y. mul y g) (cancel-inverse L g h x i j k e)
+    ∙ ap (λ y. mul y g) (cancel-inverse L g h x i j k e)

@@ -1,6 +1,5 @@
 -- A one to one map of the numbers below n into themselves reaches each of them.
-use Rattle.std.proofs.Common.{◌≡◌, ℕ, zero, suc, refl, sym, ◌∙◌, ap, ◌<◌, ◌≤◌, arith, Bool, true, false, eqb,
-    cond, ◌⊎◌, inl, inr, eqb-true}
+use Rattle.std.proofs.Common.{◌≡◌, ℕ, zero, suc, refl, sym, ◌∙◌, ap, ◌<◌, ◌≤◌, arith, Bool, true, false, eqb, cond, ◌⊎◌, inl, inr, eqb-true}
 use Rattle.std.proofs.lemmas.Bool.{eqb-false}
 use Rattle.std.proofs.lemmas.Bool.Decides.{eqb_tells}
 
@@ -49,11 +48,11 @@ pigeonhole zero m f into one = omega arith
 pigeonhole (suc n) zero f into one = absurd (let h : f n < 0 = into n (omega arith) in omega (arith, h))
 pigeonhole (suc n) (suc m) f into one =
     let fresh : (i : ℕ) → i < n → f i ≡ f n → ⊥ = λ i p e. let z : i ≡ n =
-        one i n (omega (arith, p)) (omega arith) e in omega (arith, p, z) in
+    one i n (omega (arith, p)) (omega arith) e in omega (arith, p, z) in
     let h : n ≤ m =
     pigeonhole n m (avoid f m (f n))
     (avoid-into f n m (f n) (λ i p. into i (omega (arith, p))) (into n (omega arith))
-        (λ e i p k. fresh i p (k ∙ sym e)))
+    (λ e i p k. fresh i p (k ∙ sym e)))
     (avoid-one f n m (f n) (λ i j p q e. one i j (omega (arith, p)) (omega (arith, q)) e) fresh) in
     omega (arith, h)
 
@@ -86,6 +85,6 @@ preimage n f into one x p = go n refl (found f x n)
         let c : n ≤ m =
         pigeonhole n m (avoid f m x)
         (avoid-into f n m x (λ i q. let l : f i < n = into i q in omega (arith, l, e)) (omega (arith, p, e))
-            (λ k i q z. out i q (z ∙ sym k)))
+        (λ k i q z. out i q (z ∙ sym k)))
         (avoid-one f n m x one out) in
         absurd (omega (arith, c, e))

@@ -5,8 +5,7 @@ use Rattle.std.proofs.Math.Nat.{one-le-pow}
 use Rattle.group_table.specs.Prime.{prime_value}
 use Rattle.group_table.specs.declared.Prime.{Prime}
 use Rattle.group_table.specs.declared.Prime.TheVariants.{P2, P3, P5, P7}
-use Rattle.group_table.specs.TableFaults.{HasUnit, HasLatinRows, IsAssociative, IsLatinAt, IsAssociativeAt,
-    IsFirstFailure, IsFirstNotAssociative}
+use Rattle.group_table.specs.TableFaults.{HasUnit, HasLatinRows, IsAssociative, IsLatinAt, IsAssociativeAt, IsFirstFailure, IsFirstNotAssociative}
 use Rattle.group_table.specs.Tables.{GroupTable, IsTable, IsGroupTable, order, order_is, product, product_is}
 use Rattle.group_table.proofs.Laws.{place-below}
 use Rattle.group_table.proofs.Pigeonhole.{preimage}
@@ -25,9 +24,9 @@ table-of G size entries =
       closed = λ a b i j.
           let e = order_is G in
           let p : a * (G.p ^ G.n) + b < length G.entries =
-              rw size (place-below a b (G.p ^ G.n) (rw (← e) i) (rw (← e) j)) in
+          rw size (place-below a b (G.p ^ G.n) (rw (← e) i) (rw (← e) j)) in
           rw (product_is, order_is) (All-get_or (λ e. e < G.p ^ G.n) G.entries
-              (a * (G.p ^ G.n) + b) 0 p entries);
+          (a * (G.p ^ G.n) + b) 0 p entries);
     }
 
 ordered : (i j : ℕ) → (i < j) ⊎ ((i ≡ j) ⊎ (j < i))
@@ -56,7 +55,7 @@ group-of G some table unit latin associative =
           let c = right b.0 b.1 in
           let same : a ≡ c.0 =
           sym ((unit a i).1) ∙ ap (product G a) (sym c.2) ∙ sym (associative a b.0 c.0 i b.1 c.1)
-              ∙ ap (λ x. product G x c.0) b.2 ∙ (unit c.0 c.1).0 in
+          ∙ ap (λ x. product G x c.0) b.2 ∙ (unit c.0 c.1).0 in
           (b.0, b.1, b.2, ap (product G b.0) same ∙ c.2);
     }
   where

@@ -1,28 +1,22 @@
 -- What one turn of the elimination leaves: the reduced echelon list of the rows and one more.
-use Rattle.std.proofs.Common.{◌≡◌, ◌≢◌, ℕ, ◌+◌, ◌*◌, ◌-◌, ◌%◌, ◌<◌, ◌≤◌, ◌⊎◌, List, [], ◌∷◌, ◌++◌, length,
-    map, take, drop, get_or, inl, inr, arith, ap, sym, ◌∙◌, refl}
+use Rattle.std.proofs.Common.{◌≡◌, ◌≢◌, ℕ, ◌+◌, ◌*◌, ◌-◌, ◌%◌, ◌<◌, ◌≤◌, ◌⊎◌, List, [], ◌∷◌, ◌++◌, length, map, take, drop, get_or, inl, inr, arith, ap, sym, ◌∙◌, refl}
 use Rattle.std.specs.Prelude.{insert}
 use Rattle.std.proofs.lemmas.Bool.{cases_eq, cases_lt}
-use Rattle.std.proofs.lemmas.List.{get_or-map, length-map, get_or_past, map-append, take-map, drop-map,
-    ext_get_or}
+use Rattle.std.proofs.lemmas.List.{get_or-map, length-map, get_or_past, map-append, take-map, drop-map, ext_get_or}
 use Rattle.std.proofs.Math.Nat.{zero-mod, mod-eq_of_lt, mod-lt}
 use Rattle.linear_algebra.specs.Modular.{IsCongruent}
-use Rattle.linear_algebra.specs.Rows.{entry, row, pivot, IsRow, IsMatrix, IsEchelon, IsEchelonOf, IsReduced,
-    IsInSpan}
+use Rattle.linear_algebra.specs.Rows.{entry, row, pivot, IsRow, IsMatrix, IsEchelon, IsEchelonOf, IsReduced, IsInSpan}
 use Rattle.linear_algebra.specs.Elimination.{IsPrepared, AreCleared, IsPlace}
-use Rattle.linear_algebra.proofs.Congruences.{congruent_refl, congruent_add, congruent_trans, congruent_eq,
-    congruent_sym, congruent_mul_left, congruent_mod, congruent_minus, congruent_cancel}
+use Rattle.linear_algebra.proofs.Congruences.{congruent_refl, congruent_add, congruent_trans, congruent_eq, congruent_sym, congruent_mul_left, congruent_mod, congruent_minus, congruent_cancel}
 use Rattle.linear_algebra.proofs.PivotLemmas.{before_pivot, pivot_is}
-use Rattle.linear_algebra.proofs.Spans.{in_span_congruent, in_span_add, in_span_zero, in_span_trans,
-    in_span_pushed, are_in_span_push, are_in_span_with, are_in_span_self, are_in_span_trans}
-use Rattle.linear_algebra.proofs.Insertion.{IsNewRow, inserted_matrix, inserted_echelon,
-    spanned_by_rows_and_new, spans_rows, spans_rows_and_new, cleared_pivot}
+use Rattle.linear_algebra.proofs.Spans.{in_span_congruent, in_span_add, in_span_zero, in_span_trans, in_span_pushed, are_in_span_push, are_in_span_with, are_in_span_self, are_in_span_trans}
+use Rattle.linear_algebra.proofs.Insertion.{IsNewRow, inserted_matrix, inserted_echelon, spanned_by_rows_and_new, spans_rows, spans_rows_and_new, cleared_pivot}
 
 -- minus minus x is x
 pub congruent_minus_minus : {p : ℕ} (x : ℕ) → 1 < p → IsCongruent p ((p - 1) * ((p - 1) * x)) x
 congruent_minus_minus {p} x l = congruent_cancel ((p - 1) * x)
     (congruent_trans (congruent_eq (omega arith))
-        (congruent_trans (congruent_minus ((p - 1) * x) l) (congruent_sym (congruent_minus x l))))
+    (congruent_trans (congruent_minus ((p - 1) * x) l) (congruent_sym (congruent_minus x l))))
 
 -- of a and b that differ by a member of the span, both are in the span or neither
 pub in_span_left : {p : ℕ} {rows : List (List ℕ)} (a b : ℕ → ℕ) → 1 < p
@@ -36,7 +30,7 @@ pub in_span_right : {p : ℕ} {rows : List (List ℕ)} (a b : ℕ → ℕ) → 1
     → IsInSpan p rows (λ j. a j + (p - 1) * b j) → IsInSpan p rows a → IsInSpan p rows b
 in_span_right {p} a b l d s = in_span_congruent (λ j. congruent_trans (congruent_eq (omega arith))
     (congruent_trans (congruent_add (congruent_minus (a j) l) (congruent_minus_minus (b j) l))
-        (congruent_eq (omega arith)))) (in_span_add (p - 1) s d)
+    (congruent_eq (omega arith)))) (in_span_add (p - 1) s d)
 
 -- a row of zeros is in each span
 pub zeros_in_span : {p : ℕ} {E : List (List ℕ)} (s : List ℕ) → pivot s ≡ length s → IsInSpan p E (entry s)
@@ -62,7 +56,7 @@ prepared_zero E v w l wr r z = record {
 -- a multiple of the reduced row is prepared
 module _ {p width : ℕ} (c t : ℕ) (E : List (List ℕ)) (v w s : List ℕ) (one : 1 < p)
     (wr : IsRow p width w) (r : IsReduced p E v w) (tp : t ≡ pivot w) (inv : c * entry w t % p ≡ 1)
-        (sc : s ≡ map (λ x. c * x % p) w) where
+    (sc : s ≡ map (λ x. c * x % p) w) where
   pub scaled_entry : (j : ℕ) → entry s j ≡ c * entry w j % p
   scaled_entry j = go (cases_lt j (length w))
     where
@@ -89,18 +83,21 @@ module _ {p width : ℕ} (c t : ℕ) (E : List (List ℕ)) (v w s : List ℕ) (o
   unscaled j = congruent_trans (congruent_add (congruent_refl 0)
       (congruent_mul_left (entry w t) (congruent_sym (scaled_congruent j))))
       (congruent_trans (congruent_eq (omega arith))
-          (congruent_trans (congruent_mul_left (entry w j)
-          (record { same_remainder = inv ∙ sym (mod-eq_of_lt one) })) (congruent_eq (omega arith))))
+      (congruent_trans (congruent_mul_left (entry w j)
+      (record { same_remainder = inv ∙ sym (mod-eq_of_lt one) })) (congruent_eq (omega arith))))
 
   pub prepared_scaled : IsPrepared p width E v s
   prepared_scaled = record {
-    is_row = record { length_is = ap length sc ∙ length-map w (λ x. c * x % p)
-        ∙ wr.length_is; below = λ j l. rw scaled_entry (mod-lt (c * entry w j) (omega arith)) };
+    is_row = record {
+      length_is = ap length sc ∙ length-map w (λ x. c * x % p)
+          ∙ wr.length_is;
+      below = λ j l. rw scaled_entry (mod-lt (c * entry w j) (omega arith));
+    };
     zero_at_pivots = λ i l. zero_scaled (pivot (row E i)) (r.zero_at_pivots i l);
     monic = λ b. ap (entry s) scaled_pivot ∙ scaled_entry t ∙ inv;
     made = in_span_congruent scaled_congruent (in_span_add c in_span_zero
         (in_span_left (entry w) (entry v) one (in_span_trans (are_in_span_push E v) r.difference)
-            (in_span_pushed E v)));
+        (in_span_pushed E v)));
     gives_back = in_span_right (entry w) (entry v) one (in_span_trans (are_in_span_push E s) r.difference)
         (in_span_congruent unscaled (in_span_add (entry w t) in_span_zero (in_span_pushed E s)));
   }
@@ -115,16 +112,22 @@ added_nothing {p} {width} {E} v s M e r z = record {
   spanned = are_in_span_push E v;
   spans = are_in_span_with E v (are_in_span_self E)
       (in_span_trans (are_in_span_with E s (are_in_span_self E)
-          (zeros_in_span s (z ∙ sym r.is_row.length_is))) r.gives_back);
+      (zeros_in_span s (z ∙ sym r.is_row.length_is))) r.gives_back);
 }
 
 module _ {p width : ℕ} {E D : List (List ℕ)} (v s : List ℕ) (t pos : ℕ) (one : 1 < p) (M : IsMatrix p width E)
     (e : IsEchelon E)
     (r : IsPrepared p width E v s) (tp : t ≡ pivot s) (inside : t < width) (cl : AreCleared p width t s E D)
-        (P : IsPlace t pos E) where
+    (P : IsPlace t pos E) where
   new_row : IsNewRow p width t E s
-  new_row = record { is_row = r.is_row; inside = inside; pivot_is_t = sym tp; monic = ap (entry s) tp
-      ∙ r.monic (omega arith); zero_at_pivots = r.zero_at_pivots }
+  new_row = record {
+    is_row = r.is_row;
+    inside = inside;
+    pivot_is_t = sym tp;
+    monic = ap (entry s) tp
+        ∙ r.monic (omega arith);
+    zero_at_pivots = r.zero_at_pivots;
+  }
 
   pub added_row : IsEchelonOf p width (E ++ v ∷ []) (insert D pos s)
   added_row = record {
@@ -143,14 +146,20 @@ module _ {p width : ℕ} {E D : List (List ℕ)} (v s : List ℕ) (t pos : ℕ) 
       get_or-map pivot D i [] 0 d ∙ cleared_pivot one M e new_row cl i f ∙ sym (get_or-map pivot E i [] 0 f))
 
   pub added_pivots : (ps : List ℕ) → ps ≡ map pivot E → insert ps pos t ≡ map pivot (insert D pos s)
-  added_pivots ps q = rw (q, ← same_pivots, take-map pivot pos D, drop-map pivot pos D,
-      map-append pivot (take pos D) (s ∷ drop pos D), new_row.pivot_is_t) refl
+  added_pivots ps q = rw (
+    q,
+    ← same_pivots,
+    take-map pivot pos D,
+    drop-map pivot pos D,
+    map-append pivot (take pos D) (s ∷ drop pos D),
+    new_row.pivot_is_t,
+  ) refl
 
 -- the pivot at t differs from every pivot of the list, since the new row is 1 at t
 pub place_is : (E : List (List ℕ)) (ps s : List ℕ) (t pos : ℕ) → IsEchelon E → ps ≡ map pivot E
     → ((i : ℕ) → i < length E → entry s (pivot (row E i)) ≡ 0) → entry s t ≡ 1 →
     pos ≤ length ps → ((i : ℕ) → i < pos → get_or ps i 0 < t) → (pos < length ps → t ≤ get_or ps pos 0)
-        → IsPlace t pos E
+    → IsPlace t pos E
 place_is E ps s t pos e q z n l below here = record {
   within = omega (arith, count);
   below = λ i b. rw (← at i (omega (arith, count))) (below i b);

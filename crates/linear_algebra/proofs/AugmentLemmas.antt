@@ -1,9 +1,7 @@
 -- The augmented rows.
-use Rattle.std.proofs.Common.{◌≡◌, ◌≢◌, ℕ, zero, suc, ◌+◌, ◌-◌, ◌<◌, ◌≤◌, ◌⊎◌, List, [], ◌∷◌, ◌++◌, length,
-    replicate, inl, inr, arith, ap, ◌∙◌, refl}
+use Rattle.std.proofs.Common.{◌≡◌, ◌≢◌, ℕ, zero, suc, ◌+◌, ◌-◌, ◌<◌, ◌≤◌, ◌⊎◌, List, [], ◌∷◌, ◌++◌, length, replicate, inl, inr, arith, ap, ◌∙◌, refl}
 use Rattle.std.proofs.lemmas.Bool.{cases_eq, cases_lt}
-use Rattle.std.proofs.lemmas.List.{get_or_append_left, get_or-append_right, get_or-set_same, get_or-set_other,
-    get_or-replicate, get_or_past, length-set, length-replicate, length-append}
+use Rattle.std.proofs.lemmas.List.{get_or_append_left, get_or-append_right, get_or-set_same, get_or-set_other, get_or-replicate, get_or_past, length-set, length-replicate, length-append}
 use Rattle.linear_algebra.specs.Rows.{entry, row, IsMatrix}
 use Rattle.linear_algebra.specs.Kernels.{unit_row, augment_from, augment, IsAugmented}
 
@@ -57,10 +55,10 @@ pub augmented_matrix : {p width : ℕ} (rows : List (List ℕ)) → 1 < p → Is
     → IsMatrix p (width + length rows) (augment rows)
 augmented_matrix {p} {width} rows one M i l = let m : i < length rows = rw length-augment_from at l in
     record {
-  length_is = ap length (row-augment rows i m) ∙ length-append (row rows i) (unit_row (length rows) i)
-      ∙ (let a = (M i m).length_is in omega (arith, length-unit_row (length rows) i));
-  below = λ j b. go i m j b (cases_lt j width) (cases_eq (j - width) i);
-}
+      length_is = ap length (row-augment rows i m) ∙ length-append (row rows i) (unit_row (length rows) i)
+          ∙ (let a = (M i m).length_is in omega (arith, length-unit_row (length rows) i));
+      below = λ j b. go i m j b (cases_lt j width) (cases_eq (j - width) i);
+    }
   where
     go : (i : ℕ) → i < length rows → (j : ℕ) → j < width + length rows → (j < width) ⊎ (width ≤ j)
         → (j - width ≡ i) ⊎ (j - width ≡ i → ⊥) → entry (row (augment rows) i) j < p

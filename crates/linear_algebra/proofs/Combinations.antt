@@ -12,7 +12,7 @@ pub combination_past : {p width : ℕ} (rows : List (List ℕ)) → IsMatrix p w
     → width ≤ j → IsCongruent p (combination u rows j) 0
 combination_past {p} rows M u j b = sum_below-vanishes p (length rows) (λ i. u i * entry (row rows i) j)
     (λ i l. congruent_eq (rw (get_or_past (row rows i) j 0 (let r = (M i l).length_is in omega (arith, r, b)))
-        (omega arith)))
+    (omega arith)))
 
 -- congruent coefficients give congruent combinations
 pub same_coefficients : {p : ℕ} (rows : List (List ℕ)) (u w : ℕ → ℕ)
@@ -27,12 +27,12 @@ pub augmented_left : {width : ℕ} {rows A : List (List ℕ)} → IsAugmented wi
     → j < width → combination u A j ≡ combination u rows j
 augmented_left {width} {rows} {A} a u j b = rw a.same_length
     (sum_below-same (length rows) (λ i. u i * entry (row A i) j) (λ i. u i * entry (row rows i) j)
-        (λ i l. ap (λ x. u i * x) (a.left i j l b)))
+    (λ i l. ap (λ x. u i * x) (a.left i j l b)))
 
 pub augmented_right : {p width : ℕ} {rows A : List (List ℕ)} → IsAugmented width rows A → (u : ℕ → ℕ) (t : ℕ)
     → t < length rows →
     IsCongruent p (combination u A (width + t)) (u t)
 augmented_right {p} {width} {rows} {A} a u t b = rw a.same_length (congruent_trans
     (sum_below-one p (length rows) t (λ i. u i * entry (row A i) (width + t)) b
-        (λ i l ne. congruent_eq (rw (a.unit_zero i t l (λ e. ne (sym e))) (omega arith))))
+    (λ i l ne. congruent_eq (rw (a.unit_zero i t l (λ e. ne (sym e))) (omega arith))))
     (congruent_eq (rw (a.unit_one t b) (omega arith))))

@@ -1,13 +1,10 @@
 -- n + 1 vectors with n places are dependent, and what follows for the counts of independent lists.
-use Rattle.std.proofs.Common.{◌≡◌, ◌≢◌, ℕ, zero, suc, ◌+◌, ◌*◌, ◌-◌, ◌%◌, ◌<◌, ◌⊎◌, inl, inr, ⊎_elim, arith,
-    ap, sym, ◌∙◌}
+use Rattle.std.proofs.Common.{◌≡◌, ◌≢◌, ℕ, zero, suc, ◌+◌, ◌*◌, ◌-◌, ◌%◌, ◌<◌, ◌⊎◌, inl, inr, ⊎_elim, arith, ap, sym, ◌∙◌}
 use Rattle.std.proofs.lemmas.Bool.{cases_eq}
 use Rattle.std.proofs.Math.Nat.{zero-mod, mod-eq_of_lt}
 use Rattle.linear_algebra.specs.Modular.{IsCongruent, IsFieldModulo, sum_below}
-use Rattle.linear_algebra.proofs.Congruences.{congruent_refl, congruent_add, congruent_trans, congruent_eq,
-    congruent_mul_left, congruent_minus}
-use Rattle.linear_algebra.proofs.Sums.{sum_below-vanishes, sum_below-same, update, update_same, update_other,
-    sum_below-update}
+use Rattle.linear_algebra.proofs.Congruences.{congruent_refl, congruent_add, congruent_trans, congruent_eq, congruent_mul_left, congruent_minus}
+use Rattle.linear_algebra.proofs.Sums.{sum_below-vanishes, sum_below-same, update, update_same, update_other, sum_below-update}
 
 -- a combination of the m rows that is 0 at the places below n, with a coefficient that is not 0
 pub record Dependence (p m n : ℕ) (C : ℕ → ℕ → ℕ) : Type 0 where
@@ -80,9 +77,9 @@ sum_below-spread M k x u g l = go (cases_eq k M)
         omega (arith, one, two, ap (λ y. y * g M) (spread_same M M x u)))
     go (inr ne) =
         let one = sum_below-same M (λ i. spread k M x u i * g i) (update k (x * g k) (λ i. u i * g i))
-            (λ i b. term (omega arith) i b (cases_eq i k)) in
+        (λ i b. term (omega arith) i b (cases_eq i k)) in
         let two = sum_below-same M (λ i. u i * g (moved k M i)) (update k (u k * g M) (λ i. u i * g i))
-            (λ i b. moved_term i (cases_eq i k)) in
+        (λ i b. moved_term i (cases_eq i k)) in
         omega (
           arith,
           one,
@@ -131,7 +128,7 @@ dependent_some {p} h n M C k b l inv D = go (cases_eq D.place k)
         → IsCongruent p (sum_below M (λ i. D.coefficients i * cleared_row p b C k M n i j)) 0
     at j (inl e) c = rw e (sum_below-vanishes p M (λ i. D.coefficients i * cleared_row p b C k M n i n)
         (λ i d. congruent_trans (congruent_mul_left (D.coefficients i)
-            (cleared_is_zero p b (C k n) (C (moved k M i) n) h inv)) (congruent_eq (omega arith))))
+        (cleared_is_zero p b (C k n) (C (moved k M i) n) h inv)) (congruent_eq (omega arith))))
     at j (inr ne) c = D.vanishes j (omega arith)
 
     go : (D.place ≡ k) ⊎ (D.place ≡ k → ⊥) → Dependence p (suc M) (suc n) C

@@ -3,12 +3,10 @@ use Rattle.std.proofs.Common.{◌≡◌, ◌≢◌, ℕ, ◌*◌, ◌<◌, List,
 use Rattle.std.proofs.lemmas.List.{ext_get_or}
 use Rattle.linear_algebra.specs.Modular.{IsCongruent}
 use Rattle.linear_algebra.specs.Rows.{entry, row, IsMatrix, IsCombination, AreInSpan, pivot, IsEchelon}
-use Rattle.linear_algebra.proofs.Congruences.{congruent_trans, congruent_eq, congruent_sym,
-    congruent_mul_right, same_below}
+use Rattle.linear_algebra.proofs.Congruences.{congruent_trans, congruent_eq, congruent_sym, congruent_mul_right, same_below}
 use Rattle.linear_algebra.proofs.Sums.{sum_below-one}
 use Rattle.linear_algebra.proofs.PivotLemmas.{before_pivot}
-use Rattle.linear_algebra.proofs.Pivots.{Combines, HasPivots, SameValues, same_values_count, same_values_upto,
-    first_place_is_pivot, coefficient_at_pivot}
+use Rattle.linear_algebra.proofs.Pivots.{Combines, HasPivots, SameValues, same_values_count, same_values_upto, first_place_is_pivot, coefficient_at_pivot}
 
 -- the rows of an echelon list, as functions of the place
 pub HasPivots-from_echelon : {rows : List (List ℕ)} → IsEchelon rows →
@@ -33,7 +31,7 @@ pub pivot_is_pivot : {p : ℕ} → 1 < p → (E F : List (List ℕ)) → IsEchel
     (k : ℕ) → k < length F → (i : ℕ) × (i < length E) × (pivot (row E i) ≡ pivot (row F k))
 pivot_is_pivot {p} l E F e f s k b = let c = s k b in
     first_place_is_pivot p (length E) c.0 (λ i j. entry (row E i) j) (λ i. pivot (row E i))
-        (λ j. entry (row F k) j)
+    (λ j. entry (row F k) j)
     (HasPivots-from_echelon e) (Combines-from_combination c.1) (pivot (row F k))
     (λ j m. congruent_eq (before_pivot (row F k) j m))
     (λ z. one_not_zero l (congruent_trans (congruent_eq (sym (f.monic k b))) z))
@@ -42,16 +40,16 @@ pivot_is_pivot {p} l E F e f s k b = let c = s k b in
 pub row_from_pivots : (p m : ℕ) (u : ℕ → ℕ) (R : ℕ → ℕ → ℕ) (q v : ℕ → ℕ) → HasPivots m q R
     → Combines p m u R v →
     (i : ℕ) → i < m → v (q i) ≡ 1 → ((k : ℕ) → k < m → k ≢ i → v (q k) ≡ 0) → (j : ℕ)
-        → IsCongruent p (v j) (R i j)
+    → IsCongruent p (v j) (R i j)
 row_from_pivots p m u R q v P c i l own others j =
     congruent_trans (congruent_sym (c.each j))
     (congruent_trans (sum_below-one p m i (λ k. u k * R k j) l
     (λ k b ne. congruent_trans (congruent_mul_right (R k j)
-        (congruent_trans (coefficient_at_pivot p m u R q v P c k b) (congruent_eq (others k b ne))))
-        (congruent_eq (omega arith))))
+    (congruent_trans (coefficient_at_pivot p m u R q v P c k b) (congruent_eq (others k b ne))))
+    (congruent_eq (omega arith))))
     (congruent_trans (congruent_mul_right (R i j)
-        (congruent_trans (coefficient_at_pivot p m u R q v P c i l) (congruent_eq own)))
-        (congruent_eq (omega arith))))
+    (congruent_trans (coefficient_at_pivot p m u R q v P c i l) (congruent_eq own)))
+    (congruent_eq (omega arith))))
 
 pub same_echelon : {p width : ℕ} → 1 < p → (E F : List (List ℕ)) → IsMatrix p width E → IsMatrix p width F
     → IsEchelon E → IsEchelon F →
@@ -77,9 +75,9 @@ same_echelon {p} {width} l E F a b e f s t = ext_get_or [] E F count (λ i d. sa
         let A = a i d in let B = b i inF in
         ext_get_or 0 (row E i) (row F i) (A.length_is ∙ sym B.length_is)
         (λ j m. let w : j < width = omega arith in same_below
-            (congruent_sym (row_from_pivots p (length E) c.0 (λ i j. entry (row E i) j) (λ i. pivot (row E i))
-            (λ j. entry (row F i) j)
+        (congruent_sym (row_from_pivots p (length E) c.0 (λ i j. entry (row E i) j) (λ i. pivot (row E i))
+        (λ j. entry (row F i) j)
         (HasPivots-from_echelon e) (Combines-from_combination c.1) i d
         (ap (entry (row F i)) (agree i d) ∙ f.monic i inF)
         (λ k g ne. ap (entry (row F i)) (agree k g) ∙ f.cleared k i (omega (arith, count)) inF ne) j))
-            (A.below j w) (B.below j w))
+        (A.below j w) (B.below j w))

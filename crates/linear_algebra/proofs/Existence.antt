@@ -1,24 +1,20 @@
 -- Each list of rows has a reduced echelon list; so has each decidable set of rows that is closed under
 -- combinations; and membership of a span is decidable.
-use Rattle.std.proofs.Common.{◌≡◌, ◌≢◌, ℕ, zero, suc, ◌+◌, ◌*◌, ◌-◌, ◌%◌, ◌<◌, ◌≤◌, ◌⊎◌, List, [], ◌∷◌, ◌++◌,
-    length, map, inl, inr, arith, ap, ap₂, sym, ◌∙◌, refl}
+use Rattle.std.proofs.Common.{◌≡◌, ◌≢◌, ℕ, zero, suc, ◌+◌, ◌*◌, ◌-◌, ◌%◌, ◌<◌, ◌≤◌, ◌⊎◌, List, [], ◌∷◌, ◌++◌, length, map, inl, inr, arith, ap, ap₂, sym, ◌∙◌, refl}
 use Rattle.std.specs.Prelude.{insert}
 use Rattle.std.proofs.lemmas.Bool.{cases_eq, cases_lt, cases_order}
 use Rattle.std.proofs.lemmas.List.{get_or-map, length-map, length_push}
 use Rattle.std.proofs.Math.Nat.{mod-eq_of_lt}
 use mathlib.Core.Path.{subst}
 use Rattle.linear_algebra.specs.Modular.{IsCongruent, IsFieldModulo}
-use Rattle.linear_algebra.specs.Rows.{entry, row, pivot, add_multiple, IsRow, IsMatrix, IsEchelon,
-    IsEchelonOf, IsReduced, IsInSpan, AreInSpan}
+use Rattle.linear_algebra.specs.Rows.{entry, row, pivot, add_multiple, IsRow, IsMatrix, IsEchelon, IsEchelonOf, IsReduced, IsInSpan, AreInSpan}
 use Rattle.linear_algebra.specs.Elimination.{IsPrepared, IsCleared, AreCleared}
 use Rattle.linear_algebra.proofs.Congruences.{congruent_eq, same_below}
 use Rattle.linear_algebra.proofs.PivotLemmas.{pivot-le-length, not_zero_at_pivot}
 use Rattle.linear_algebra.proofs.Pivots.{zero_at_pivots}
 use Rattle.linear_algebra.proofs.EchelonLists.{HasPivots-from_echelon, Combines-from_combination}
-use Rattle.linear_algebra.proofs.Spans.{row_push, row_before_push, in_span_row, in_span_trans, in_span_pushed,
-    are_in_span_push, are_in_span_with, are_in_span_trans}
-use Rattle.linear_algebra.proofs.AddedRow.{in_span_left, in_span_right, zeros_in_span, prepared_zero,
-    prepared_scaled, scaled_pivot, added_nothing, added_row}
+use Rattle.linear_algebra.proofs.Spans.{row_push, row_before_push, in_span_row, in_span_trans, in_span_pushed, are_in_span_push, are_in_span_with, are_in_span_trans}
+use Rattle.linear_algebra.proofs.AddedRow.{in_span_left, in_span_right, zeros_in_span, prepared_zero, prepared_scaled, scaled_pivot, added_nothing, added_row}
 use Rattle.linear_algebra.proofs.Reducing.{IsReducedUpTo, reduced_start, reduced_step, cleared_by}
 
 empty_echelon : IsEchelon []
@@ -50,7 +46,7 @@ module _ {p width : ℕ} (F : IsFieldModulo p) where
               (add_multiple p (p - entry h.0 (pivot (row E n))) h.0 (row E n)) k) (let z : n + 1 ≡ suc n =
               omega arith in z)
               (reduced_step F.above_one M e (let m : n < length E = omega (arith, l) in m) h.1
-                  (p - entry h.0 (pivot (row E n))) refl),
+              (p - entry h.0 (pivot (row E n))) refl),
         )
 
     -- v less a member of the span, 0 at each pivot
@@ -66,9 +62,9 @@ module _ {p width : ℕ} (F : IsFieldModulo p) where
         → IsInSpan p E (entry w) → pivot w < width → ⊥
     no_pivot w r z s l = not_zero_at_pivot w (let k = r.length_is in omega (arith, k, l))
         (same_below (zero_at_pivots p (length E) s.0 (λ i j. entry (row E i) j) (λ i. pivot (row E i))
-            (entry w) (HasPivots-from_echelon e) (Combines-from_combination s.1)
+        (entry w) (HasPivots-from_echelon e) (Combines-from_combination s.1)
         (λ i m. congruent_eq (z i m)) (pivot w)) (r.below (pivot w) l) (let o = F.above_one in
-            omega (arith, o)))
+        omega (arith, o)))
 
     prepare : (v : List ℕ) → IsRow p width v → (s : List ℕ) × IsPrepared p width E v s
         × ((pivot s ≡ width) ⊎ (pivot s < width))
@@ -115,9 +111,13 @@ module _ {p width : ℕ} (F : IsFieldModulo p) where
 
     place_upto : (t : ℕ) → ((i : ℕ) → i < length E → pivot (row E i) ≢ t) → (n : ℕ) → n ≤ length E
         → (pos : ℕ) × (pos ≤ n) × ((i : ℕ) → i < pos → pivot (row E i) < t)
-            × ((i : ℕ) → pos ≤ i → i < n → t < pivot (row E i))
-    place_upto t d zero l = (0, (let z : 0 ≤ 0 = omega arith in z), (λ i b. absurd (omega (arith, b))),
-        λ i a b. absurd (omega (arith, b)))
+        × ((i : ℕ) → pos ≤ i → i < n → t < pivot (row E i))
+    place_upto t d zero l = (
+      0,
+      (let z : 0 ≤ 0 = omega arith in z),
+      (λ i b. absurd (omega (arith, b))),
+      λ i a b. absurd (omega (arith, b)),
+    )
     place_upto t d (suc n) l = go (cases_order (pivot (row E n)) t) (place_upto t d n (omega (arith, l)))
       where
         inside : n < length E
@@ -125,19 +125,27 @@ module _ {p width : ℕ} (F : IsFieldModulo p) where
 
         go : (pivot (row E n) ≡ t) ⊎ ((pivot (row E n) < t) ⊎ (t < pivot (row E n)))
             → (pos : ℕ) × (pos ≤ n) × ((i : ℕ) → i < pos → pivot (row E i) < t)
-                × ((i : ℕ) → pos ≤ i → i < n → t < pivot (row E i))
+            × ((i : ℕ) → pos ≤ i → i < n → t < pivot (row E i))
             → (pos : ℕ) × (pos ≤ suc n) × ((i : ℕ) → i < pos → pivot (row E i) < t)
-                × ((i : ℕ) → pos ≤ i → i < suc n → t < pivot (row E i))
+            × ((i : ℕ) → pos ≤ i → i < suc n → t < pivot (row E i))
         go (inl f) h = absurd (d n inside f)
-        go (inr (inl b)) h = (suc n, (let z : suc n ≤ suc n = omega arith in z),
-            (λ i m. low i m (cases_lt i n)), λ i a m. absurd (omega (arith, a, m)))
+        go (inr (inl b)) h = (
+          suc n,
+          (let z : suc n ≤ suc n = omega arith in z),
+          (λ i m. low i m (cases_lt i n)),
+          λ i a m. absurd (omega (arith, a, m)),
+        )
           where
             low : (i : ℕ) → i < suc n → (i < n) ⊎ (n ≤ i) → pivot (row E i) < t
             low i m (inl k) = let z : pivot (row E i) < pivot (row E n) = e.ascending i n k inside in
                 omega (arith, z, b)
             low i m (inr k) = subst (λ x. pivot (row E x) < t) (let z : n ≡ i = omega (arith, m, k) in z) b
-        go (inr (inr a)) h = (h.0, (let z : h.0 ≤ n = h.1 in omega (arith, z)), h.2,
-            λ i c m. high i c m (cases_lt i n))
+        go (inr (inr a)) h = (
+          h.0,
+          (let z : h.0 ≤ n = h.1 in omega (arith, z)),
+          h.2,
+          λ i c m. high i c m (cases_lt i n),
+        )
           where
             high : (i : ℕ) → h.0 ≤ i → i < suc n → (i < n) ⊎ (n ≤ i) → t < pivot (row E i)
             high i c m (inl k) = h.3 i c k
@@ -157,14 +165,17 @@ module _ {p width : ℕ} (F : IsFieldModulo p) where
             differs i m f = let z : entry s (pivot (row E i)) ≡ 0 = h.zero_at_pivots i m in
                 let o : entry s (pivot s) ≡ 1 = h.monic l in
                 let g : entry s (pivot (row E i)) ≡ entry s (pivot s) = ap (entry s) f in
-                    omega (arith, z, o, g)
+                omega (arith, z, o, g)
 
             at : (D : List (List ℕ)) × AreCleared p width (pivot s) s E D
                 → (pos : ℕ) × (pos ≤ length E) × ((i : ℕ) → i < pos → pivot (row E i) < pivot s)
-                    × ((i : ℕ) → pos ≤ i → i < length E → pivot s < pivot (row E i))
+                × ((i : ℕ) → pos ≤ i → i < length E → pivot s < pivot (row E i))
                 → (E' : List (List ℕ)) × IsEchelonOf p width (E ++ v ∷ []) E'
-            at D P = (insert D.0 P.0 s, added_row v s (pivot s) P.0 F.above_one M e h refl l D.1
-                (record { within = P.1; below = P.2; above = P.3 }))
+            at D P = (
+              insert D.0 P.0 s,
+              added_row v s (pivot s) P.0 F.above_one M e h refl l D.1
+                  (record { within = P.1; below = P.2; above = P.3 }),
+            )
 
     -- a row is in the span of an echelon list, or not
     pub decide_echelon : (v : List ℕ) → IsRow p width v → IsInSpan p E (entry v)
@@ -181,13 +192,20 @@ module _ {p width : ℕ} (F : IsFieldModulo p) where
                 (in_span_left (entry h.0) (entry v) F.above_one h.2.difference s) l)
             at (inr l) = inl (in_span_right (entry h.0) (entry v) F.above_one h.2.difference
                 (zeros_in_span h.0 (let k = h.1.length_is in let m = pivot-le-length h.0 in let z : pivot h.0
-                    ≡ length h.0 = omega (arith, k, m, l) in z)))
+                ≡ length h.0 = omega (arith, k, m, l) in z)))
 
   -- the reduced echelon list of a list of rows
   pub echelon : (rows : List (List ℕ)) → IsMatrix p width rows → (E : List (List ℕ))
       × IsEchelonOf p width rows E
-  echelon [] M = ([], record { matrix = empty_matrix p width; echelon = empty_echelon;
-      spanned = λ i l. absurd (omega (arith, l)); spans = λ i l. absurd (omega (arith, l)) })
+  echelon [] M = (
+    [],
+    record {
+      matrix = empty_matrix p width;
+      echelon = empty_echelon;
+      spanned = λ i l. absurd (omega (arith, l));
+      spans = λ i l. absurd (omega (arith, l));
+    },
+  )
   echelon (x ∷ xs) M = go (echelon xs (λ i l. M (suc i)
       (let z : suc i < suc (length xs) = omega (arith, l) in z)))
     where
@@ -265,7 +283,7 @@ in-heads (suc c) a x ys l h = go (cases_lt a c) (λ m. in-heads c a x ys m h)
     go (inl m) ih = in-second (a ∷ x) (map (λ y. c ∷ y) ys) (with_heads c ys) (ih m)
     go (inr m) ih = in-first (a ∷ x) (map (λ y. c ∷ y) ys) (with_heads c ys)
         (subst (λ k. In (k ∷ x) (map (λ y. c ∷ y) ys)) (let z : c ≡ a = omega (arith, l, m) in z)
-            (in-map (λ y. c ∷ y) x ys h))
+        (in-map (λ y. c ∷ y) x ys h))
 
 in-all-rows : (p w : ℕ) (x : List ℕ) → IsRow p w x → In x (all_rows p w)
 in-all-rows p zero [] r = inl refl
@@ -273,14 +291,16 @@ in-all-rows p zero (a ∷ x) r = absurd (let k : suc (length x) ≡ 0 = r.length
 in-all-rows p (suc w) [] r = absurd (let k : 0 ≡ suc w = r.length_is in omega (arith, k))
 in-all-rows p (suc w) (a ∷ x) r = in-heads p a x (all_rows p w)
     (r.below 0 (let z : 0 < suc w = omega arith in z))
-    (in-all-rows p w x (record { length_is = let k : suc (length x) ≡ suc w = r.length_is in omega (arith, k);
-        below = λ j l. r.below (suc j) (let z : suc j < suc w = omega (arith, l) in z) }))
+    (in-all-rows p w x (record {
+      length_is = let k : suc (length x) ≡ suc w = r.length_is in omega (arith, k);
+      below = λ j l. r.below (suc j) (let z : suc j < suc w = omega (arith, l) in z);
+    }))
 
 -- a decidable set of rows that holds each row in the span of members has a reduced echelon list
 module _ {p width : ℕ} (F : IsFieldModulo p) (S : List ℕ → Type 0) (R : (x : List ℕ) → S x
     → IsRow p width x) (D : (x : List ℕ) → S x ⊎ (S x → ⊥))
     (C : (rows : List (List ℕ)) → ((i : ℕ) → i < length rows → S (row rows i)) → (y : List ℕ)
-        → IsRow p width y → IsInSpan p rows (entry y) → S y) where
+    → IsRow p width y → IsInSpan p rows (entry y) → S y) where
   record Collected (xs E : List (List ℕ)) : Type 0 where
     matrix : IsMatrix p width E
     echelon-is : IsEchelon E
@@ -288,13 +308,27 @@ module _ {p width : ℕ} (F : IsFieldModulo p) (S : List ℕ → Type 0) (R : (x
     spans : (x : List ℕ) → In x xs → S x → IsInSpan p E (entry x)
 
   collect : (xs : List (List ℕ)) → (E : List (List ℕ)) × Collected xs E
-  collect [] = ([], record { matrix = empty_matrix p width; echelon-is = empty_echelon;
-      members = λ i l. absurd (omega (arith, l)); spans = λ x h. absurd h })
+  collect [] = (
+    [],
+    record {
+      matrix = empty_matrix p width;
+      echelon-is = empty_echelon;
+      members = λ i l. absurd (omega (arith, l));
+      spans = λ x h. absurd h;
+    },
+  )
   collect (x ∷ xs) = go (collect xs) (D x)
     where
       go : (E : List (List ℕ)) × Collected xs E → S x ⊎ (S x → ⊥) → (E : List (List ℕ)) × Collected (x ∷ xs) E
-      go (E, h) (inr out) = (E, record { matrix = h.matrix; echelon-is = h.echelon-is; members = h.members;
-          spans = λ y k s. old y k s })
+      go (E, h) (inr out) = (
+        E,
+        record {
+          matrix = h.matrix;
+          echelon-is = h.echelon-is;
+          members = h.members;
+          spans = λ y k s. old y k s;
+        },
+      )
         where
           old : (y : List ℕ) → (y ≡ x) ⊎ In y xs → S y → IsInSpan p E (entry y)
           old y (inl e) s = absurd (out (subst S e s))
@@ -319,8 +353,12 @@ module _ {p width : ℕ} (F : IsFieldModulo p) (S : List ℕ → Type 0) (R : (x
                   which : (i < length E) ⊎ (length E ≤ i) → S (row (E ++ x ∷ []) i)
                   which (inl m) = subst S (sym (row_before_push E x i m)) (h.members i m)
                   which (inr m) = let z : length E ≡ i =
-                      (let c : length (E ++ x ∷ []) ≡ length E + 1 = length_push E x in omega (arith, c, l,
-                      m)) in
+                      (let c : length (E ++ x ∷ []) ≡ length E + 1 = length_push E x in omega (
+                        arith,
+                        c,
+                        l,
+                        m,
+                      )) in
                       subst (λ j. S (row (E ++ x ∷ []) j)) z (subst S (sym (row_push E x)) s)
 
               new : (y : List ℕ) → (y ≡ x) ⊎ In y xs → S y → IsInSpan p E' (entry y)
@@ -335,7 +373,7 @@ module _ {p width : ℕ} (F : IsFieldModulo p) (S : List ℕ → Type 0) (R : (x
     where
       go : (E : List (List ℕ)) × Collected (all_rows p width) E
           → (E : List (List ℕ)) × IsMatrix p width E × IsEchelon E × ((i : ℕ) → i < length E → S (row E i))
-              × ((x : List ℕ) → S x → IsInSpan p E (entry x))
+          × ((x : List ℕ) → S x → IsInSpan p E (entry x))
       go (E, h) = (E, h.matrix, h.echelon-is, h.members, λ x s. h.spans x (in-all-rows p width x (R x s)) s)
 
 -- two lists of numbers are equal or not

@@ -1,10 +1,8 @@
 -- What a greedy choice of rows gives: with the rows before them they span, and they are independent modulo
 -- these.
-use Rattle.std.proofs.Common.{◌≡◌, ◌≢◌, ℕ, zero, suc, ◌+◌, ◌*◌, ◌-◌, ◌%◌, ◌<◌, ◌≤◌, ◌⊎◌, List, [], ◌∷◌, ◌++◌,
-    length, get_or, take, inl, inr, arith, ap, sym, ◌∙◌, refl}
+use Rattle.std.proofs.Common.{◌≡◌, ◌≢◌, ℕ, zero, suc, ◌+◌, ◌*◌, ◌-◌, ◌%◌, ◌<◌, ◌≤◌, ◌⊎◌, List, [], ◌∷◌, ◌++◌, length, get_or, take, inl, inr, arith, ap, sym, ◌∙◌, refl}
 use Rattle.std.proofs.lemmas.Bool.{cases_eq, cases_lt}
-use Rattle.std.proofs.lemmas.List.{get_or_append_left, get_or-append-add, length-append, length_push,
-    length-map, get_or-map, get_or_push}
+use Rattle.std.proofs.lemmas.List.{get_or_append_left, get_or-append-add, length-append, length_push, length-map, get_or-map, get_or_push}
 use Rattle.std.proofs.Math.Nat.{zero-mod, le_refl}
 use Rattle.std.proofs.Math.Seq.{take-length}
 use Rattle.std.proofs.lemmas.List.{take-append-le}
@@ -13,10 +11,8 @@ use Rattle.linear_algebra.proofs.Sums.{sum_below-same}
 use Rattle.linear_algebra.specs.Modular.{IsCongruent, IsFieldModulo, sum_below}
 use Rattle.linear_algebra.specs.Rows.{entry, row, combination, IsInSpan, AreInSpan}
 use Rattle.linear_algebra.specs.Choices.{rows_at, IsGreedyBelow}
-use Rattle.linear_algebra.proofs.Spans.{in_span_congruent, in_span_zero, in_span_row, in_span_add,
-    in_span_trans, row_push, row_before_push, are_in_span_push, in_span_pushed}
-use Rattle.linear_algebra.proofs.Congruences.{congruent_refl, congruent_add, congruent_trans, congruent_eq,
-    congruent_mul_left, congruent_mul_right, congruent_minus}
+use Rattle.linear_algebra.proofs.Spans.{in_span_congruent, in_span_zero, in_span_row, in_span_add, in_span_trans, row_push, row_before_push, are_in_span_push, in_span_pushed}
+use Rattle.linear_algebra.proofs.Congruences.{congruent_refl, congruent_add, congruent_trans, congruent_eq, congruent_mul_left, congruent_mul_right, congruent_minus}
 
 pub append-push : {A : Type 0} (xs ys : List A) (y : A) → xs ++ (ys ++ y ∷ []) ≡ (xs ++ ys) ++ y ∷ []
 append-push [] ys y = refl
@@ -62,8 +58,8 @@ combination-push : (c : ℕ → ℕ) (rows : List (List ℕ)) (v : List ℕ) (j 
     → combination c (rows ++ v ∷ []) j ≡ combination c rows j + c (length rows) * entry v j
 combination-push c rows v j =
     ap (λ n. sum_below n (λ i. c i * entry (row (rows ++ v ∷ []) i) j))
-        (let e : length (rows ++ v ∷ []) ≡ length rows + 1 = length_push rows v in let k : length
-        (rows ++ v ∷ []) ≡ suc (length rows) = omega (arith, e) in k)
+    (let e : length (rows ++ v ∷ []) ≡ length rows + 1 = length_push rows v in let k : length
+    (rows ++ v ∷ []) ≡ suc (length rows) = omega (arith, e) in k)
     ∙ omega (
       arith,
       sum_below-same (length rows) (λ i. c i * entry (row (rows ++ v ∷ []) i) j)
@@ -81,7 +77,7 @@ solve p w a k b x h e i =
     congruent_trans (congruent_eq (ap (λ z. 0 + b * (z + (p - 1) * a)) e))
     (congruent_trans (congruent_eq (rearrange (p - 1)))
     (congruent_trans (congruent_add (congruent_mul_left b (congruent_minus a h)) (congruent_mul_right x i))
-        (congruent_eq (omega arith))))
+    (congruent_eq (omega arith))))
   where
     rearrange : (m : ℕ) → 0 + b * (a + k * x + m * a) ≡ b * (a + m * a) + k * b * x
     rearrange m = omega arith
@@ -90,7 +86,7 @@ solve p w a k b x h e i =
 pub greedy-independent : (p : ℕ) → IsFieldModulo p → (s t : List (List ℕ)) (n : ℕ) (xs : List ℕ)
     → IsGreedyBelow p s t n xs
     → (c : ℕ → ℕ) → IsInSpan p t (combination c (rows_at s xs)) → (i : ℕ) → i < length xs
-        → IsCongruent p (c i) 0
+    → IsCongruent p (c i) 0
 greedy-independent p F s t zero xs h c m i l =
     absurd (let e : length xs ≡ 0 = ap length h in omega (arith, e, l))
 greedy-independent p F s t (suc n) xs h c m i l = at h (λ ys k w. greedy-independent p F s t n ys k c w i)
@@ -121,17 +117,22 @@ greedy-independent p F s t (suc n) xs h c m i l = at h (λ ys k w. greedy-indepe
             place : (i < length k.0) ⊎ (length k.0 ≤ i) → IsCongruent p (c i) 0
             place (inl b) = ih k.0 k.1 (in_span_congruent (λ j.
                 congruent_trans (congruent_eq (apart j))
-                    (congruent_trans (congruent_add (congruent_refl (combination c (rows_at s k.0) j))
-                    (congruent_mul_right (entry (row s n) j) none)) (congruent_eq (omega arith)))) whole) b
+                (congruent_trans (congruent_add (congruent_refl (combination c (rows_at s k.0) j))
+                (congruent_mul_right (entry (row s n) j) none)) (congruent_eq (omega arith)))) whole) b
             place (inr b) = rw (let e : i ≡ length k.0 =
-                (let f : length xs ≡ length (k.0 ++ n ∷ []) = ap length k.3 in omega (arith, l, b, f,
-                length_push k.0 n)) in e) none
+                (let f : length xs ≡ length (k.0 ++ n ∷ []) = ap length k.3 in omega (
+                  arith,
+                  l,
+                  b,
+                  f,
+                  length_push k.0 n,
+                )) in e) none
         last (inr z) = absurd (k.2 (in_span_congruent each (in_span_add {f = λ j. 0} inv.0 in_span_zero
             (in_span_add {f = combination c (rows_at s k.0 ++ row s n ∷ [])} {g = combination c
-                (rows_at s k.0)} (p - 1) (in-left p t (rows_at s k.0)
-                (combination c (rows_at s k.0 ++ row s n ∷ [])) whole)
-                (in-right p t (rows_at s k.0) (combination c (rows_at s k.0))
-                (in-combination p c (rows_at s k.0)))))))
+            (rows_at s k.0)} (p - 1) (in-left p t (rows_at s k.0)
+            (combination c (rows_at s k.0 ++ row s n ∷ [])) whole)
+            (in-right p t (rows_at s k.0) (combination c (rows_at s k.0))
+            (in-combination p c (rows_at s k.0)))))))
           where
             inv : (b : ℕ) × IsCongruent p (c (length k.0) * b) 1
             inv = F.inverse (c (length k.0)) z
@@ -162,32 +163,40 @@ greedy-below p s t n xs h i l = (get_or-map (row s) xs i 0 [] l, below n xs h i 
             place (inl b) = rw (k.3, get_or_append_left k.0 (n ∷ []) 0 i b)
                 (let m : get_or k.0 i 0 < n = ih k.0 k.1 b in omega (arith, m))
             place (inr b) = let e : i ≡ length k.0 =
-                (let f : length xs ≡ length (k.0 ++ n ∷ []) = ap length k.3 in omega (arith, l, b, f,
-                length_push k.0 n)) in
+                (let f : length xs ≡ length (k.0 ++ n ∷ []) = ap length k.3 in omega (
+                  arith,
+                  l,
+                  b,
+                  f,
+                  length_push k.0 n,
+                )) in
                 rw (k.3, e, get_or_push k.0 n 0 (length k.0) refl) (let m : n < suc n = omega arith in m)
 
 -- a row that is not taken is in the span of t and the rows taken before it
 pub greedy-before : (p : ℕ) (s t : List (List ℕ)) (n : ℕ) (xs : List ℕ) → IsGreedyBelow p s t n xs → (x : ℕ)
     → x < n → ((i : ℕ) → i < length xs → get_or xs i 0 ≢ x)
     → (k : ℕ) × (k ≤ length xs) × IsInSpan p (t ++ rows_at s (take k xs)) (entry (row s x))
-        × ((i : ℕ) → i < k → get_or xs i 0 < x)
+    × ((i : ℕ) → i < k → get_or xs i 0 < x)
 greedy-before p s t zero xs h x l free = absurd (omega (arith, l))
 greedy-before p s t (suc n) xs h x l free = at h (cases_lt x n) (λ ys g d u. greedy-before p s t n ys g x d u)
   where
     at : IsGreedyBelow p s t (suc n) xs → (x < n) ⊎ (n ≤ x)
         → ((ys : List ℕ) → IsGreedyBelow p s t n ys → x < n → ((i : ℕ) → i < length ys → get_or ys i 0 ≢ x)
         → (k : ℕ) × (k ≤ length ys) × IsInSpan p (t ++ rows_at s (take k ys)) (entry (row s x))
-            × ((i : ℕ) → i < k → get_or ys i 0 < x))
+        × ((i : ℕ) → i < k → get_or ys i 0 < x))
         → (k : ℕ) × (k ≤ length xs) × IsInSpan p (t ++ rows_at s (take k xs)) (entry (row s x))
-            × ((i : ℕ) → i < k → get_or xs i 0 < x)
+        × ((i : ℕ) → i < k → get_or xs i 0 < x)
     at (inl g) (inl d) ih = ih xs g.0 d free
-    at (inl g) (inr d) ih = let e : x ≡ n = omega (arith, l, d) in
-        (length xs, le_refl (length xs), rw (take-length xs, e) g.1,
-            λ i c. subst (λ y. get_or xs i 0 < y) (sym e) (greedy-below p s t n xs g.0 i c).1)
+    at (inl g) (inr d) ih = let e : x ≡ n = omega (arith, l, d) in (
+      length xs,
+      le_refl (length xs),
+      rw (take-length xs, e) g.1,
+      λ i c. subst (λ y. get_or xs i 0 < y) (sym e) (greedy-below p s t n xs g.0 i c).1,
+    )
     at (inr g) (inr d) ih = absurd (free (length g.0)
         (rw (g.3) (let z : length (g.0 ++ n ∷ []) ≡ length g.0 + 1 = length_push g.0 n in omega (arith, z)))
         (ap (λ ys. get_or ys (length g.0) 0) g.3 ∙ get_or_push g.0 n 0 (length g.0) refl
-            ∙ (let e : n ≡ x = omega (arith, l, d) in e)))
+        ∙ (let e : n ≡ x = omega (arith, l, d) in e)))
     at (inr g) (inl d) ih = go (ih g.0 g.1 d
         (λ i c e. free i (rw g.3 (let z : length (g.0 ++ n ∷ []) ≡ length g.0 + 1 = length_push g.0 n in omega
         (arith, z, c)))
@@ -196,14 +205,17 @@ greedy-before p s t (suc n) xs h x l free = at h (cases_lt x n) (λ ys g d u. gr
         go : (k : ℕ) × (k ≤ length g.0) × IsInSpan p (t ++ rows_at s (take k g.0)) (entry (row s x))
             × ((i : ℕ) → i < k → get_or g.0 i 0 < x)
             → (k : ℕ) × (k ≤ length xs) × IsInSpan p (t ++ rows_at s (take k xs)) (entry (row s x))
-                × ((i : ℕ) → i < k → get_or xs i 0 < x)
+            × ((i : ℕ) → i < k → get_or xs i 0 < x)
         go r = (
           r.0,
           (rw g.3 (let z : length (g.0 ++ n ∷ []) ≡ length g.0 + 1 = length_push g.0 n in
               let w : r.0 ≤ length g.0 = r.1 in omega (arith, z, w))),
           (rw (g.3, take-append-le r.0 g.0 (n ∷ []) r.1) r.2),
-          λ i c. rw (g.3, get_or_append_left g.0 (n ∷ []) 0 i
-              (let w : r.0 ≤ length g.0 = r.1 in omega (arith, c, w))) (r.3 i c),
+          λ i c. rw (
+            g.3,
+            get_or_append_left g.0 (n ∷ []) 0 i
+                (let w : r.0 ≤ length g.0 = r.1 in omega (arith, c, w)),
+          ) (r.3 i c),
         )
 
 -- the greedy choice depends on t only through its span
@@ -221,10 +233,14 @@ greedy-same-span p s t t' a b (suc n) xs h = at h (λ ys g. greedy-same-span p s
         go i l (inl m) = rw (get_or_append_left u R [] i m) (in-left p v R (entry (row u i)) (c i m))
         go i l (inr m) = let e : i ≡ length u + (i - length u) = omega (arith, m) in
             rw (e, get_or-append-add u R (i - length u) [])
-                (in-right p v R (entry (row R (i - length u)))
-                (in_span_row R (i - length u)
-                (let f : length (u ++ R) ≡ length u + length R = length-append u R in omega (arith, f, l,
-                m))))
+            (in-right p v R (entry (row R (i - length u)))
+            (in_span_row R (i - length u)
+            (let f : length (u ++ R) ≡ length u + length R = length-append u R in omega (
+              arith,
+              f,
+              l,
+              m,
+            ))))
 
     at : IsGreedyBelow p s t (suc n) xs → ((ys : List ℕ) → IsGreedyBelow p s t n ys
         → IsGreedyBelow p s t' n ys) → IsGreedyBelow p s t' (suc n) xs

@@ -3,10 +3,8 @@ use Rattle.std.proofs.Common.{◌≡◌, ◌≢◌, ℕ, zero, suc, ◌+◌, ◌
 use Rattle.std.proofs.lemmas.Bool.{cases_lt}
 use Rattle.std.proofs.Math.Nat.{zero-mod}
 use Rattle.linear_algebra.specs.Modular.{IsCongruent, IsFieldModulo, sum_below}
-use Rattle.linear_algebra.proofs.Congruences.{congruent_refl, congruent_add, congruent_trans, congruent_eq,
-    congruent_sym, congruent_mul_left, congruent_mul_right, congruent_minus, congruent_cancel}
-use Rattle.linear_algebra.proofs.Sums.{sum_below-vanishes, sum_below-congruent, sum_below-same, sum_below-mul,
-    sum_below-swap}
+use Rattle.linear_algebra.proofs.Congruences.{congruent_refl, congruent_add, congruent_trans, congruent_eq, congruent_sym, congruent_mul_left, congruent_mul_right, congruent_minus, congruent_cancel}
+use Rattle.linear_algebra.proofs.Sums.{sum_below-vanishes, sum_below-congruent, sum_below-same, sum_below-mul, sum_below-swap}
 use Rattle.linear_algebra.proofs.Pivots.{Combines}
 use Rattle.linear_algebra.proofs.Dimension.{Dependence, dependent}
 
@@ -21,11 +19,11 @@ pub combine_combinations : (p m n : ℕ) (u : ℕ → ℕ) (C R V : ℕ → ℕ 
 combine_combinations p m n u C R V h = record {
   each = λ j.
       congruent_trans (congruent_eq (sum_below-same n (λ k. sum_below m (λ i. u i * C i k) * R k j)
-          (λ k. sum_below m (λ i. u i * C i k * R k j)) (λ k b. right m (λ i. u i * C i k) (R k j))
+      (λ k. sum_below m (λ i. u i * C i k * R k j)) (λ k b. right m (λ i. u i * C i k) (R k j))
       ∙ sum_below-swap n m (λ k i. u i * C i k * R k j)))
       (sum_below-congruent p m (λ i. sum_below n (λ k. u i * C i k * R k j)) (λ i. u i * V i j) (λ i b.
       congruent_trans (congruent_eq (sum_below-same n (λ k. u i * C i k * R k j) (λ k. u i * (C i k * R k j))
-          (λ k d. omega arith) ∙ sum_below-mul n (u i) (λ k. C i k * R k j)))
+      (λ k d. omega arith) ∙ sum_below-mul n (u i) (λ k. C i k * R k j)))
       (congruent_mul_left (u i) ((h i b).each j))));
 }
   where
@@ -43,7 +41,7 @@ independent_le {p} F m n C R V I h = go (cases_lt n m)
         (λ j. congruent_trans (congruent_sym ((combine_combinations p m n D.coefficients C R V h).each j))
         (sum_below-vanishes p n (λ k. sum_below m (λ i. D.coefficients i * C i k) * R k j)
         (λ k b. congruent_trans (congruent_mul_right (R k j) (D.vanishes k b)) (congruent_eq (omega arith)))))
-            D.place D.below).same_remainder ∙ zero-mod p)
+        D.place D.below).same_remainder ∙ zero-mod p)
 
     go : (n < m) ⊎ (m ≤ n) → m ≤ n
     go (inl l) = absurd (bad (dependent F n m C l))
@@ -53,13 +51,13 @@ independent_le {p} F m n C R V I h = go (cases_lt n m)
 pub combines_from_dependence : {p : ℕ} → IsFieldModulo p → (n : ℕ) (R : ℕ → ℕ → ℕ) (v u : ℕ → ℕ) (c : ℕ)
     → Independent p n R →
     ((j : ℕ) → IsCongruent p (sum_below n (λ i. u i * R i j) + c * v j) 0) → c % p ≢ 0 → (a : ℕ → ℕ)
-        × Combines p n a R v
+    × Combines p n a R v
 combines_from_dependence {p} F n R v u c I h ne = let b = F.inverse c ne in (
   (λ i. (p - 1) * (b.0 * u i)),
   record {
     each = λ j.
         congruent_trans (congruent_eq (sum_below-same n (λ i. (p - 1) * (b.0 * u i) * R i j)
-            (λ i. (p - 1) * b.0 * (u i * R i j)) (λ i l. omega arith)
+        (λ i. (p - 1) * b.0 * (u i * R i j)) (λ i l. omega arith)
         ∙ sum_below-mul n ((p - 1) * b.0) (λ i. u i * R i j)))
         (negated (sum_below n (λ i. u i * R i j)) c (v j) b.0 (h j) b.1);
   },
@@ -72,6 +70,6 @@ combines_from_dependence {p} F n R v u c I h ne = let b = F.inverse c ne in (
         (congruent_trans (congruent_mul_left ((p - 1) * b) e)
         (congruent_trans (congruent_eq (omega arith))
         (congruent_sym (congruent_trans (congruent_add (congruent_refl x)
-            (congruent_trans (congruent_eq (omega arith))
-            (congruent_trans (congruent_mul_left ((p - 1) * x) i) (congruent_eq (omega arith)))))
+        (congruent_trans (congruent_eq (omega arith))
+        (congruent_trans (congruent_mul_left ((p - 1) * x) i) (congruent_eq (omega arith)))))
         (congruent_minus x F.above_one))))))

@@ -1,18 +1,14 @@
 -- One more row in a reduced echelon list.
-use Rattle.std.proofs.Common.{◌≡◌, ◌≢◌, ℕ, suc, ◌+◌, ◌*◌, ◌-◌, ◌<◌, ◌≤◌, ◌⊎◌, List, [], ◌∷◌, ◌++◌, length,
-    inl, inr, arith, ap, sym, ◌∙◌, refl}
+use Rattle.std.proofs.Common.{◌≡◌, ◌≢◌, ℕ, suc, ◌+◌, ◌*◌, ◌-◌, ◌<◌, ◌≤◌, ◌⊎◌, List, [], ◌∷◌, ◌++◌, length, inl, inr, arith, ap, sym, ◌∙◌, refl}
 use Rattle.std.specs.Prelude.{insert}
 use Rattle.std.proofs.lemmas.Bool.{cases_lt, cases_order}
-use Rattle.std.proofs.lemmas.List.Edits.{length-insert, get_or-insert_below, get_or-insert_at,
-    get_or-insert_above}
+use Rattle.std.proofs.lemmas.List.Edits.{length-insert, get_or-insert_below, get_or-insert_at, get_or-insert_above}
 use Rattle.std.proofs.Math.Nat.{sub-zero}
 use Rattle.linear_algebra.specs.Modular.{IsCongruent}
 use Rattle.linear_algebra.specs.Rows.{entry, row, pivot, IsRow, IsMatrix, IsEchelon, IsInSpan, AreInSpan}
 use Rattle.linear_algebra.specs.Elimination.{AreCleared, IsPlace}
-use Rattle.linear_algebra.proofs.Congruences.{congruent_refl, congruent_add, congruent_trans, congruent_eq,
-    congruent_sym, same_below, to_congruent}
-use Rattle.linear_algebra.proofs.Spans.{in_span_congruent, in_span_row, in_span_add, in_span_pushed,
-    are_in_span_push, are_in_span_with}
+use Rattle.linear_algebra.proofs.Congruences.{congruent_refl, congruent_add, congruent_trans, congruent_eq, congruent_sym, same_below, to_congruent}
+use Rattle.linear_algebra.proofs.Spans.{in_span_congruent, in_span_row, in_span_add, in_span_pushed, are_in_span_push, are_in_span_with}
 use Rattle.linear_algebra.proofs.PivotLemmas.{before_pivot, pivot_is}
 
 -- what the new row v, with the pivot t, is to the list E
@@ -41,11 +37,16 @@ module _ {p width t : ℕ} {E D : List (List ℕ)} {v : List ℕ} (one : 1 < p) 
 
   cleared_before : (i j : ℕ) → i < length E → j < pivot (row E i) → (j < t) ⊎ (t ≤ j) → entry (row D i) j ≡ 0
   cleared_before i j l b (inl a) = cleared_entry i j 0 l (omega (arith, pivot_inside i l)) (omega arith)
-      (congruent_eq (rw (before_pivot (row E i) j b,
-          before_pivot v j (omega (arith, n.pivot_is_t))) (omega arith)))
+      (congruent_eq (rw (
+        before_pivot (row E i) j b,
+        before_pivot v j (omega (arith, n.pivot_is_t)),
+      ) (omega arith)))
   cleared_before i j l b (inr a) = cleared_entry i j 0 l (omega (arith, pivot_inside i l)) (omega arith)
-      (to_congruent 0 (entry v j) (rw (before_pivot (row E i) j b, before_pivot (row E i) t (omega arith),
-          sub-zero) (omega arith)))
+      (to_congruent 0 (entry v j) (rw (
+        before_pivot (row E i) j b,
+        before_pivot (row E i) t (omega arith),
+        sub-zero,
+      ) (omega arith)))
 
   cleared_at_pivot : (i k : ℕ) → i < length E → k < length E
       → entry (row D k) (pivot (row E i)) ≡ entry (row E k) (pivot (row E i))
@@ -84,12 +85,23 @@ module _ {p width t : ℕ} {E D : List (List ℕ)} {v : List ℕ} (one : 1 < p) 
             ∙ get_or-insert_above D pos v [] (m - 1) (omega arith) room
 
         go : (k ≡ pos) ⊎ ((k < pos) ⊎ (pos < k)) → OldRow k ⊎ NewRow k
-        go (inl e) = inr (record { at_pos = e; is_v = ap (row (insert D pos v)) e
-            ∙ get_or-insert_at D pos v [] room })
-        go (inr (inl b)) = inl (record { at = k; inside_E = let a = P.within in omega arith;
-            is_row_k = get_or-insert_below D pos v [] k b room; side = inl (b, refl) })
-        go (inr (inr a)) = inl (record { at = k - 1; inside_E = let q = length_new in omega arith;
-            is_row_k = shift k a (let q = length_new in omega arith); side = inr (a, omega arith) })
+        go (inl e) = inr (record {
+          at_pos = e;
+          is_v = ap (row (insert D pos v)) e
+              ∙ get_or-insert_at D pos v [] room;
+        })
+        go (inr (inl b)) = inl (record {
+          at = k;
+          inside_E = let a = P.within in omega arith;
+          is_row_k = get_or-insert_below D pos v [] k b room;
+          side = inl (b, refl);
+        })
+        go (inr (inr a)) = inl (record {
+          at = k - 1;
+          inside_E = let q = length_new in omega arith;
+          is_row_k = shift k a (let q = length_new in omega arith);
+          side = inr (a, omega arith);
+        })
 
     old_pivot : {k : ℕ} (o : OldRow k) → pivot (row (insert D pos v) k) ≡ pivot (row E o.at)
     old_pivot o = ap pivot o.is_row_k ∙ cleared_pivot o.at o.inside_E
@@ -177,7 +189,7 @@ module _ {p width t : ℕ} {E D : List (List ℕ)} {v : List ℕ} (one : 1 < p) 
     pub spans_new : IsInSpan p (insert D pos v) (entry v)
     spans_new = let room : pos ≤ length D = let a = P.within in let b = c.same_length in omega arith in
         let h : IsInSpan p (insert D pos v) (entry (row (insert D pos v) pos)) =
-            in_span_row (insert D pos v) pos (let a = P.within in omega (arith, length_new)) in
+        in_span_row (insert D pos v) pos (let a = P.within in omega (arith, length_new)) in
         rw (get_or-insert_at D pos v [] room) at h
 
     spans_cleared : (i : ℕ) → i < length E → (i < pos) ⊎ (pos ≤ i)
@@ -185,12 +197,12 @@ module _ {p width t : ℕ} {E D : List (List ℕ)} {v : List ℕ} (one : 1 < p) 
     spans_cleared i l (inl b) = let room : pos ≤ length D = let a = P.within in let b = c.same_length in
         omega arith in
         let h : IsInSpan p (insert D pos v) (entry (row (insert D pos v) i)) =
-            in_span_row (insert D pos v) i (omega (arith, length_new)) in
+        in_span_row (insert D pos v) i (omega (arith, length_new)) in
         rw (get_or-insert_below D pos v [] i b room) at h
     spans_cleared i l (inr a) = let room : pos ≤ length D = let a = P.within in let b = c.same_length in
         omega arith in
         let h : IsInSpan p (insert D pos v) (entry (row (insert D pos v) (i + 1))) =
-            in_span_row (insert D pos v) (i + 1) (omega (arith, length_new)) in
+        in_span_row (insert D pos v) (i + 1) (omega (arith, length_new)) in
         rw (get_or-insert_above D pos v [] i a room) at h
 
     restored : (i j : ℕ) → i < length E → IsCongruent p (entry (row D i) j + entry (row E i) t * entry v j)

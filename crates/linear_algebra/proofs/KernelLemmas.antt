@@ -1,25 +1,20 @@
 -- The kernel from the reduced echelon list of the augmented rows.
-use Rattle.std.proofs.Common.{◌≡◌, ℕ, zero, suc, ◌+◌, ◌-◌, ◌*◌, ◌<◌, ◌≤◌, ◌⊎◌, List, [], ◌∷◌, length, map,
-    drop, get_or, inl, inr, arith, ap, sym, ◌∙◌}
+use Rattle.std.proofs.Common.{◌≡◌, ℕ, zero, suc, ◌+◌, ◌-◌, ◌*◌, ◌<◌, ◌≤◌, ◌⊎◌, List, [], ◌∷◌, length, map, drop, get_or, inl, inr, arith, ap, sym, ◌∙◌}
 use Rattle.std.proofs.lemmas.Bool.{cases_eq, cases_lt}
 use Rattle.std.proofs.lemmas.List.{get_or-drop, length-drop, get_or_past, get_or-map, length-map, ext_get_or}
 use Rattle.linear_algebra.specs.Modular.{IsCongruent, sum_below}
-use Rattle.linear_algebra.specs.Rows.{entry, row, combination, pivot, IsRow, IsMatrix, IsEchelon, IsEchelonOf,
-    IsInSpan}
-use Rattle.linear_algebra.specs.Kernels.{augment, IsAmong, IsEchelonOfOthers, IsInKernel, IsKernelOf,
-    IsAugmented, AreRightParts}
+use Rattle.linear_algebra.specs.Rows.{entry, row, combination, pivot, IsRow, IsMatrix, IsEchelon, IsEchelonOf, IsInSpan}
+use Rattle.linear_algebra.specs.Kernels.{augment, IsAmong, IsEchelonOfOthers, IsInKernel, IsKernelOf, IsAugmented, AreRightParts}
 use Rattle.linear_algebra.proofs.AugmentLemmas.{augment_is, length-augment_from}
 use Rattle.linear_algebra.proofs.Others.{others_all}
 use mathlib.Core.Path.{subst}
-use Rattle.linear_algebra.proofs.Congruences.{congruent_refl, congruent_add, congruent_trans, congruent_eq,
-    congruent_sym, congruent_mul_right}
+use Rattle.linear_algebra.proofs.Congruences.{congruent_refl, congruent_add, congruent_trans, congruent_eq, congruent_sym, congruent_mul_right}
 use Rattle.linear_algebra.proofs.Sums.{sum_below-parts, sum_below-same, sum_below-vanishes}
 use Rattle.linear_algebra.proofs.Pivots.{coefficient_at_pivot}
 use Rattle.linear_algebra.proofs.PivotLemmas.{before_pivot}
 use Rattle.linear_algebra.proofs.EchelonLists.{HasPivots-from_echelon, Combines-from_combination}
 use Rattle.linear_algebra.proofs.Spans.{in_span_trans}
-use Rattle.linear_algebra.proofs.Combinations.{combination_past, same_coefficients, augmented_left,
-    augmented_right}
+use Rattle.linear_algebra.proofs.Combinations.{combination_past, same_coefficients, augmented_left, augmented_right}
 
 pub pivot-drop : (w : ℕ) (r : List ℕ) → w ≤ pivot r → pivot (drop w r) + w ≡ pivot r
 pivot-drop zero r l = omega arith
@@ -79,7 +74,7 @@ module _ {p width first : ℕ} {gens A F E : List (List ℕ)} (one : 1 < p) (M :
       go (inl b) = congruent_trans (same_coefficients gens (entry (row E i)) c.0 coefficients j)
           (congruent_trans (congruent_eq (sym (augmented_left a c.0 j b)))
           (congruent_trans (c.1.each j) (congruent_eq
-              (before_pivot (row F (first + i)) j (let h = parts.after i l in omega arith)))))
+          (before_pivot (row F (first + i)) j (let h = parts.after i l in omega arith)))))
 
   part_spans : (u : List ℕ) → IsRow p (length gens) u → IsInKernel p gens (entry u) → IsInSpan p E (entry u)
   part_spans u r k = ((λ i. s.0 (first + i)), record { each = λ t. go t (cases_lt t (length gens)) })
@@ -93,9 +88,9 @@ module _ {p width first : ℕ} {gens A F E : List (List ℕ)} (one : 1 < p) (M :
       first_zero : (i : ℕ) → i < first → IsCongruent p (s.0 i) 0
       first_zero i b = let l : i < length F = (let c = parts.count in omega arith) in
           congruent_trans (coefficient_at_pivot p (length F) s.0 (λ i j. entry (row F i) j)
-              (λ i. pivot (row F i)) z (HasPivots-from_echelon f.echelon) (Combines-from_combination s.1) i l)
+          (λ i. pivot (row F i)) z (HasPivots-from_echelon f.echelon) (Combines-from_combination s.1) i l)
           (congruent_trans (congruent_eq (augmented_left a (entry u) (pivot (row F i)) (parts.before i b)))
-              (k (pivot (row F i))))
+          (k (pivot (row F i))))
 
       total : (t : ℕ) → combination s.0 F (width + t) ≡ sum_below first
           (λ i. s.0 i * entry (row F i) (width + t)) + sum_below (length E)
@@ -115,25 +110,29 @@ module _ {p width first : ℕ} {gens A F E : List (List ℕ)} (one : 1 < p) (M :
       go t (inl b) = congruent_trans (congruent_sym
           (congruent_trans (congruent_eq (total t)) (congruent_trans (congruent_add
           (sum_below-vanishes p first (λ i. s.0 i * entry (row F i) (width + t))
-              (λ i l. congruent_trans (congruent_mul_right (entry (row F i) (width + t)) (first_zero i l))
-              (congruent_eq (omega arith))))
+          (λ i l. congruent_trans (congruent_mul_right (entry (row F i) (width + t)) (first_zero i l))
+          (congruent_eq (omega arith))))
           (congruent_eq (to_E t))) (congruent_eq (omega arith)))))
           (congruent_trans (s.1.each (width + t)) (augmented_right a (entry u) t b))
       go t (inr b) = congruent_trans (sum_below-vanishes p (length E)
           (λ i. s.0 (first + i) * entry (row E i) t)
           (λ i l. congruent_eq (rw (get_or_past (row E i) t 0 (omega (arith, (part_row i l).length_is)))
-              (omega arith))))
+          (omega arith))))
           (congruent_eq (sym (get_or_past u t 0 (omega (arith, r.length_is)))))
 
   pub kernel_from_augmented : IsKernelOf p gens E
-  kernel_from_augmented = record { matrix = part_row; echelon = part_echelon; in_kernel = part_in_kernel;
-      spans = part_spans }
+  kernel_from_augmented = record {
+    matrix = part_row;
+    echelon = part_echelon;
+    in_kernel = part_in_kernel;
+    spans = part_spans;
+  }
 
 -- the right parts of the rows from the first one whose pivot is not below the width
 pub right_parts : {F : List (List ℕ)} (width first : ℕ) → IsEchelon F → first ≤ length F
     → ((i : ℕ) → i < first → pivot (row F i) < width) →
     (first < length F → width ≤ pivot (row F first))
-        → AreRightParts width first F (map (drop width) (drop first F))
+    → AreRightParts width first F (map (drop width) (drop first F))
 right_parts {F} width first e l before here = record {
   count = omega (arith, l, count);
   before = before;
@@ -151,18 +150,24 @@ right_parts {F} width first e l before here = record {
     after i b (inr n) = let m : first + i < length F = omega (arith, b, length-drop first F) in
         let h : width ≤ pivot (row F first) = here (omega (arith, m)) in
         let g : pivot (row F first) < pivot (row F (first + i)) =
-            e.ascending first (first + i) (omega (arith, n)) m in omega (arith, h, g)
+        e.ascending first (first + i) (omega (arith, n)) m in omega (arith, h, g)
 
 -- the same, from the pivots that are kept in a list
 pub right_parts_placed : (F : List (List ℕ)) (ps : List ℕ) (width first : ℕ) → IsEchelon F → ps ≡ map pivot F
     → first ≤ length ps → ((i : ℕ) → i < first → get_or ps i 0 < width) →
     (first < length ps → width ≤ get_or ps first 0)
-        → AreRightParts width first F (map (drop width) (drop first F))
+    → AreRightParts width first F (map (drop width) (drop first F))
 right_parts_placed F ps width first e q l below here = right_parts width first e (omega (arith, l, count))
-    (λ i b. let k : get_or ps i 0 < width = below i b in omega (arith, k,
-        kept i (omega (arith, b, l, count))))
-    (λ b. let k : width ≤ get_or ps first 0 = here (omega (arith, b, count)) in omega (arith, k,
-        kept first b))
+    (λ i b. let k : get_or ps i 0 < width = below i b in omega (
+      arith,
+      k,
+      kept i (omega (arith, b, l, count)),
+    ))
+    (λ b. let k : width ≤ get_or ps first 0 = here (omega (arith, b, count)) in omega (
+      arith,
+      k,
+      kept first b,
+    ))
   where
     count : length ps ≡ length F
     count = ap length q ∙ length-map F pivot
@@ -180,25 +185,25 @@ right_pivots {width} {first} {F} {E} h ps q =
     lengths : length (map (λ q. q - width) (drop first ps)) ≡ length E
     lengths = let c = h.count in let n : length ps ≡ length F = ap length q ∙ length-map F pivot in
         length-map (drop first ps) (λ q. q - width) ∙ length-drop first ps
-            ∙ (let z : length ps - first ≡ length E = omega (arith, c, n) in z)
+        ∙ (let z : length ps - first ≡ length E = omega (arith, c, n) in z)
 
     at : (i : ℕ) → i < length E → get_or (map (λ q. q - width) (drop first ps)) i 0 ≡ get_or (map pivot E) i 0
     at i l = get_or-map (λ q. q - width) (drop first ps) i 0 0
         (omega (arith, l, lengths, length-map (drop first ps) (λ q. q - width)))
         ∙ ap (λ x. x - width) (get_or-drop first ps i 0 ∙ ap (λ xs. get_or xs (first + i) 0) q
-            ∙ get_or-map pivot F (first + i) [] 0 (let c = h.count in omega (arith, c, l)))
+        ∙ get_or-map pivot F (first + i) [] 0 (let c = h.count in omega (arith, c, l)))
         ∙ (let p : pivot (drop width (row F (first + i))) + width ≡ pivot
-            (row F (first + i)) = pivot-drop width (row F (first + i)) (h.after i l) in
+        (row F (first + i)) = pivot-drop width (row F (first + i)) (h.after i l) in
         let z : pivot (row F (first + i)) - width ≡ pivot (drop width (row F (first + i))) =
-            omega (arith, p) in z)
+        omega (arith, p) in z)
         ∙ ap pivot (sym (h.each i l)) ∙ sym (get_or-map pivot E i [] 0 l)
 
 -- the kernel from the elimination of all rows, each with its unit row
 pub kernel_of_rows : {p width n : ℕ} {rows F E : List (List ℕ)} {skipped : List ℕ} → 1 < p
     → IsMatrix p width rows → ((t : ℕ) → IsAmong skipped t → ⊥) → length rows ≤ n →
     IsEchelonOfOthers p (width + length rows) (augment rows) skipped n F → (first : ℕ)
-        × AreRightParts width first F E → IsKernelOf p rows E
+    × AreRightParts width first F E → IsKernelOf p rows E
 kernel_of_rows {p} {width} {n} {rows} one M none all h (first, parts) =
     kernel_from_augmented one M (augment_is rows M)
     (others_all none (let c : length (augment rows) ≡ length rows = length-augment_from
-        (length rows) 0 rows in omega (arith, c, all)) h) parts
+    (length rows) 0 rows in omega (arith, c, all)) h) parts

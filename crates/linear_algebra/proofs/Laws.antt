@@ -1,17 +1,14 @@
 -- The laws of the crate, from the lemmas.
-use Rattle.std.proofs.Common.{◌≡◌, ◌≢◌, ℕ, zero, suc, ◌+◌, ◌-◌, ◌*◌, ◌%◌, ◌<◌, ◌≤◌, ◌⊎◌, List, [], ◌∷◌, ◌++◌,
-    length, map, drop, inl, inr, arith, sym, ◌∙◌, refl}
+use Rattle.std.proofs.Common.{◌≡◌, ◌≢◌, ℕ, zero, suc, ◌+◌, ◌-◌, ◌*◌, ◌%◌, ◌<◌, ◌≤◌, ◌⊎◌, List, [], ◌∷◌, ◌++◌, length, map, drop, inl, inr, arith, sym, ◌∙◌, refl}
 use Rattle.std.proofs.lemmas.Bool.{cases_lt}
 use Rattle.std.proofs.lemmas.List.{get_or_past, length_push, append-nil, ext_get_or}
 use mathlib.Core.Path.{subst}
 use Rattle.linear_algebra.specs.Modular.{IsCongruent, IsFieldModulo}
-use Rattle.linear_algebra.specs.Rows.{entry, row, pivot, combination, IsRow, IsMatrix, IsEchelon, IsEchelonOf,
-    IsInSpan, IsCombination, IsReduced}
+use Rattle.linear_algebra.specs.Rows.{entry, row, pivot, combination, IsRow, IsMatrix, IsEchelon, IsEchelonOf, IsInSpan, IsCombination, IsReduced}
 use Rattle.linear_algebra.specs.Kernels.{augment, IsInKernel, IsKernelOf}
 use Rattle.linear_algebra.specs.Choices.{rows_at, IsGreedyBelow, IsGreedy}
 use Rattle.linear_algebra.specs.Ranks.{IsIndependent}
-use Rattle.linear_algebra.proofs.Congruences.{congruent_refl, congruent_add, congruent_trans, congruent_eq,
-    congruent_sym, congruent_minus, congruent_cancel, same_below}
+use Rattle.linear_algebra.proofs.Congruences.{congruent_refl, congruent_add, congruent_trans, congruent_eq, congruent_sym, congruent_minus, congruent_cancel, same_below}
 use Rattle.linear_algebra.proofs.Combinations.{combination_past}
 use Rattle.linear_algebra.proofs.Spans.{in_span_add, row_push, row_before_push}
 use Rattle.linear_algebra.proofs.Dimension.{Dependence, dependent}
@@ -42,14 +39,14 @@ dependent_rows {p} {width} rows F M l = go (dependent F width (length rows) (λ 
 -- it
 pub kernel_by_count : {p : ℕ} (rows kernel chosen images : List (List ℕ)) → IsFieldModulo p →
     IsMatrix p (length rows) kernel → IsMatrix p (length rows) chosen
-        → length kernel + length chosen ≡ length rows → length images ≡ length chosen →
+    → length kernel + length chosen ≡ length rows → length images ≡ length chosen →
     ((i : ℕ) → i < length kernel → IsInKernel p rows (entry (row kernel i))) → IsIndependent p kernel →
     ((i : ℕ) → i < length chosen → IsCombination p (entry (row chosen i)) rows (entry (row images i)))
-        → IsIndependent p images →
+    → IsIndependent p images →
     (u : List ℕ) → IsRow p (length rows) u → IsInKernel p rows (entry u) → IsInSpan p kernel (entry u)
 kernel_by_count {p} rows kernel chosen images F K C count same inside free maps independent u r h = go
     (in_kernel_span F (matrix_is_linear p (length rows) (λ i j. entry (row rows i) j)) (length kernel)
-        (length chosen)
+    (length chosen)
     (λ i j. entry (row kernel i) j) (λ i j. entry (row chosen i) j) (λ i j. entry (row images i) j)
     (record { only_zero = λ a z. free a z })
     inside
@@ -96,9 +93,12 @@ module _ {p width : ℕ} (s t : List (List ℕ)) (F : IsFieldModulo p) (S : IsMa
               ⊎ (IsInSpan p (t ++ rows_at s xs) (entry (row s n)) → ⊥) →
               (xs : List ℕ) × IsGreedyBelow p s t (suc n) xs × IsMatrix p width (t ++ rows_at s xs)
           at (inl i) = (xs, inl (g, i), M)
-          at (inr o) = (xs ++ n ∷ [], inr (xs, g, o, refl),
-              rw (rows-push s xs n, append-push t (rows_at s xs) (row s n))
-              (matrix_push (t ++ rows_at s xs) (row s n) M (S n (omega (arith, l)))))
+          at (inr o) = (
+            xs ++ n ∷ [],
+            inr (xs, g, o, refl),
+            rw (rows-push s xs n, append-push t (rows_at s xs) (row s n))
+                (matrix_push (t ++ rows_at s xs) (row s n) M (S n (omega (arith, l)))),
+          )
 
   pub greedy_exists : (xs : List ℕ) × IsGreedy p s t xs
   greedy_exists = go (taken (length s) (omega arith))
@@ -121,7 +121,7 @@ reduced_is_one {p} {width} E v w x one e a b r s =
         (entry x j + (p - 1) * entry v j)) (entry w j + (p - 1) * entry x j)
     same_as j = congruent_trans (congruent_eq (rearranged (p - 1)))
         (congruent_trans (congruent_add (congruent_refl (entry w j + (p - 1) * entry x j))
-            (congruent_minus ((p - 1) * entry v j) one)) (congruent_eq (omega arith)))
+        (congruent_minus ((p - 1) * entry v j) one)) (congruent_eq (omega arith)))
       where
         rearranged : (m : ℕ) → entry w j + m * entry v j + m *
             (entry x j + m * entry v j) ≡ entry w j + m * entry x j + (m * entry v j + m * (m * entry v j))
@@ -141,17 +141,21 @@ reduced_is_one {p} {width} E v w x one e a b r s =
 -- the first row whose pivot is not below the width, among the first n
 first_past : (width : ℕ) (F : List (List ℕ)) → IsEchelon F → (n : ℕ) → n ≤ length F →
     (first : ℕ) × (first ≤ n) × ((i : ℕ) → i < first → pivot (row F i) < width)
-        × (first < n → width ≤ pivot (row F first))
-first_past width F e zero l = (0, (omega arith), (λ i b. absurd (omega (arith, b))),
-    λ b. absurd (omega (arith, b)))
+    × (first < n → width ≤ pivot (row F first))
+first_past width F e zero l = (
+  0,
+  (omega arith),
+  (λ i b. absurd (omega (arith, b))),
+  λ b. absurd (omega (arith, b)),
+)
 first_past width F e (suc n) l = go (cases_lt (pivot (row F n)) width)
     (first_past width F e n (omega (arith, l)))
   where
     go : (pivot (row F n) < width) ⊎ (width ≤ pivot (row F n)) →
         (first : ℕ) × (first ≤ n) × ((i : ℕ) → i < first → pivot (row F i) < width)
-            × (first < n → width ≤ pivot (row F first)) →
+        × (first < n → width ≤ pivot (row F first)) →
         (first : ℕ) × (first ≤ suc n) × ((i : ℕ) → i < first → pivot (row F i) < width)
-            × (first < suc n → width ≤ pivot (row F first))
+        × (first < suc n → width ≤ pivot (row F first))
     go (inl b) h = (suc n, (omega arith), (λ i m. below i m (cases_lt i n)), λ m. absurd (omega (arith, m)))
       where
         below : (i : ℕ) → i < suc n → (i < n) ⊎ (n ≤ i) → pivot (row F i) < width
@@ -176,12 +180,14 @@ kernel_exists {p} {width} rows F M = go (echelon F (augment rows) (augmented_mat
         at : (first : ℕ) × (first ≤ length E) × ((i : ℕ) → i < first → pivot (row E i) < width)
             × (first < length E → width ≤ pivot (row E first)) →
             (kernel : List (List ℕ)) × IsKernelOf p rows kernel
-        at (first, l, before, here) = (map (drop width) (drop first E),
-            kernel_from_augmented F.above_one M (augment_is rows M) h
-            (right_parts width first h.echelon l before here))
+        at (first, l, before, here) = (
+          map (drop width) (drop first E),
+          kernel_from_augmented F.above_one M (augment_is rows M) h
+              (right_parts width first h.echelon l before here),
+        )
 
 pub kernel_is_one : {p : ℕ} (rows K L : List (List ℕ)) → 1 < p → IsKernelOf p rows K → IsKernelOf p rows L
     → K ≡ L
 kernel_is_one rows K L one a b = same_echelon one K L a.matrix b.matrix a.echelon b.echelon
     (λ i l. a.spans (row L i) (b.matrix i l) (b.in_kernel i l))
-        (λ i l. b.spans (row K i) (a.matrix i l) (a.in_kernel i l))
+    (λ i l. b.spans (row K i) (a.matrix i l) (a.in_kernel i l))

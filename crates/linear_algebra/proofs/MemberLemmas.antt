@@ -1,21 +1,21 @@
 -- A vector is in the span of an echelon list where it is the combination that agrees with it at the pivots.
-use Rattle.std.proofs.Common.{◌≡◌, ℕ, ◌+◌, ◌*◌, ◌%◌, ◌<◌, ◌≤◌, ◌⊎◌, List, length, inl, inr, arith, sym,
-    add-one}
+use Rattle.std.proofs.Common.{◌≡◌, ℕ, ◌+◌, ◌*◌, ◌%◌, ◌<◌, ◌≤◌, ◌⊎◌, List, length, inl, inr, arith, sym, add-one}
 use Rattle.std.proofs.lemmas.Bool.{cases_lt}
 use Rattle.std.proofs.lemmas.List.{get_or_past}
 use Rattle.linear_algebra.specs.Modular.{IsCongruent, sum_below}
 use Rattle.linear_algebra.specs.Rows.{entry, row, pivot, combination, IsRow, IsMatrix, IsEchelon, IsInSpan}
-use Rattle.linear_algebra.proofs.Congruences.{congruent_refl, congruent_add, congruent_trans, congruent_eq,
-    congruent_sym, congruent_mul_right, congruent_mod}
+use Rattle.linear_algebra.proofs.Congruences.{congruent_refl, congruent_add, congruent_trans, congruent_eq, congruent_sym, congruent_mul_right, congruent_mod}
 use Rattle.linear_algebra.proofs.Sums.{sum_below-vanishes, sum_below-congruent}
 use Rattle.linear_algebra.proofs.Pivots.{coefficient_at_pivot}
 use Rattle.linear_algebra.proofs.EchelonLists.{HasPivots-from_echelon, Combines-from_combination}
 
 pub member_by_places : {p width : ℕ} {E : List (List ℕ)} (v : List ℕ) → IsMatrix p width E → IsRow p width v →
     ((j : ℕ) → j < width → IsCongruent p (entry v j) (combination (λ i. entry v (pivot (row E i))) E j))
-        → IsInSpan p E (entry v)
-member_by_places {p} {width} {E} v M r h = ((λ i. entry v (pivot (row E i))),
-    record { each = λ j. go j (cases_lt j width) })
+    → IsInSpan p E (entry v)
+member_by_places {p} {width} {E} v M r h = (
+  (λ i. entry v (pivot (row E i))),
+  record { each = λ j. go j (cases_lt j width) },
+)
   where
     go : (j : ℕ) → (j < width) ⊎ (width ≤ j)
         → IsCongruent p (combination (λ i. entry v (pivot (row E i))) E j) (entry v j)
@@ -23,7 +23,7 @@ member_by_places {p} {width} {E} v M r h = ((λ i. entry v (pivot (row E i))),
     go j (inr l) = congruent_trans (sum_below-vanishes p (length E)
         (λ i. entry v (pivot (row E i)) * entry (row E i) j)
         (λ i b. congruent_eq (rw (get_or_past (row E i) j 0 (omega (arith, (M i b).length_is)))
-            (omega arith))))
+        (omega arith))))
         (congruent_eq (sym (get_or_past v j 0 (omega (arith, r.length_is)))))
 
 pub member_at : {p : ℕ} {E : List (List ℕ)} (v : List ℕ) → IsEchelon E → IsInSpan p E (entry v) → (j : ℕ)
@@ -32,8 +32,8 @@ member_at {p} {E} v e s j = congruent_trans
     (sum_below-congruent p (length E) (λ i. entry v (pivot (row E i)) * entry (row E i) j)
     (λ i. s.0 i * entry (row E i) j)
     (λ i l. congruent_mul_right (entry (row E i) j)
-        (congruent_sym (coefficient_at_pivot p (length E) s.0 (λ i j. entry (row E i) j)
-        (λ i. pivot (row E i)) (entry v)
+    (congruent_sym (coefficient_at_pivot p (length E) s.0 (λ i j. entry (row E i) j)
+    (λ i. pivot (row E i)) (entry v)
     (HasPivots-from_echelon e) (Combines-from_combination s.1) i l)))) (s.1.each j)
 
 -- one more term of the sum

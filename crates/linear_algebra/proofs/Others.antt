@@ -1,20 +1,17 @@
 -- The elimination of the generators at some positions: its turns, and what its rows are combinations of.
-use Rattle.std.proofs.Common.{◌≡◌, ℕ, zero, suc, ◌+◌, ◌*◌, ◌<◌, ◌≤◌, ◌⊎◌, List, [], ◌∷◌, ◌++◌, length, inl,
-    inr, arith, sym, ◌∙◌}
+use Rattle.std.proofs.Common.{◌≡◌, ℕ, zero, suc, ◌+◌, ◌*◌, ◌<◌, ◌≤◌, ◌⊎◌, List, [], ◌∷◌, ◌++◌, length, inl, inr, arith, sym, ◌∙◌}
 use Rattle.std.proofs.lemmas.Bool.{cases_eq, cases_lt}
 use Rattle.std.proofs.lemmas.List.{length_push}
 use mathlib.Core.Path.{subst}
 use Rattle.linear_algebra.specs.Modular.{IsCongruent, sum_below}
 use Rattle.linear_algebra.specs.Rows.{entry, row, IsCombination, IsInSpan, IsEchelonOf}
 use Rattle.linear_algebra.specs.Kernels.{IsAmong, IsEchelonOfOthers}
-use Rattle.linear_algebra.proofs.Congruences.{congruent_refl, congruent_add, congruent_trans, congruent_eq,
-    congruent_sym, congruent_mul_left, congruent_mul_right}
+use Rattle.linear_algebra.proofs.Congruences.{congruent_refl, congruent_add, congruent_trans, congruent_eq, congruent_sym, congruent_mul_left, congruent_mul_right}
 use Rattle.linear_algebra.proofs.Sums.{sum_below-vanishes, update, update_other}
 use Rattle.linear_algebra.proofs.Pivots.{Combines}
 use Rattle.linear_algebra.proofs.Independence.{combine_combinations}
 use Rattle.linear_algebra.proofs.EliminationLemmas.{echelon_none}
-use Rattle.linear_algebra.proofs.Spans.{in_span_trans, in_span_congruent, in_span_zero, in_span_add,
-    in_span_pushed, are_in_span_push, are_in_span_trans, row_push, row_before_push, unit_combination}
+use Rattle.linear_algebra.proofs.Spans.{in_span_trans, in_span_congruent, in_span_zero, in_span_add, in_span_pushed, are_in_span_push, are_in_span_trans, row_push, row_before_push, unit_combination}
 
 -- a combination of the generators with the coefficient 0 at the skipped positions
 abbrev pub IsOtherCombination : ℕ → List (List ℕ) → List ℕ → (ℕ → ℕ) → Type 0
@@ -24,7 +21,7 @@ IsOtherCombination p generators skipped x = (u : ℕ → ℕ)
 -- a member of the span of such combinations is one
 pub other_combination : {p : ℕ} {A : List (List ℕ)} (skipped : List ℕ) {x : ℕ → ℕ} (G : List (List ℕ)) →
     ((i : ℕ) → i < length G → IsOtherCombination p A skipped (entry (row G i))) → IsInSpan p G x
-        → IsOtherCombination p A skipped x
+    → IsOtherCombination p A skipped x
 other_combination {p} {A} skipped {x} G h s = (
   (λ k. sum_below (length G) (λ i. s.0 i * C i k)),
   (λ t m. sum_below-vanishes p (length G) (λ i. s.0 i * C i t)
@@ -33,7 +30,7 @@ other_combination {p} {A} skipped {x} G h s = (
   record {
     each = λ j.
         congruent_trans ((combine_combinations p (length G) (length A) s.0 C (λ k j. entry (row A k) j)
-            (λ i j. entry (row G i) j) (λ i l. right i l (cases_lt i (length G)))).each j) (s.1.each j);
+        (λ i j. entry (row G i) j) (λ i l. right i l (cases_lt i (length G)))).each j) (s.1.each j);
   },
 )
   where
@@ -57,15 +54,23 @@ other_combination {p} {A} skipped {x} G h s = (
 pub others_start : {p width : ℕ} (A : List (List ℕ)) (skipped : List ℕ)
     → IsEchelonOfOthers p width A skipped 0 []
 others_start {p} {width} A skipped = let e : IsEchelonOf p width [] [] = echelon_none in
-    record { matrix = e.matrix; echelon = e.echelon; spanned = λ i l. absurd (omega (arith, l));
-        spans = λ k l. absurd (omega (arith, l)) }
+    record {
+      matrix = e.matrix;
+      echelon = e.echelon;
+      spanned = λ i l. absurd (omega (arith, l));
+      spans = λ k l. absurd (omega (arith, l));
+    }
 
 pub others_skipped : {p width n : ℕ} {A F : List (List ℕ)} {skipped : List ℕ}
     → IsEchelonOfOthers p width A skipped n F → IsAmong skipped n
     → IsEchelonOfOthers p width A skipped (n + 1) F
 others_skipped {p} {width} {n} {A} {F} {skipped} h m =
-    record { matrix = h.matrix; echelon = h.echelon; spanned = h.spanned;
-    spans = λ k l o. go k l o (cases_eq k n) }
+    record {
+      matrix = h.matrix;
+      echelon = h.echelon;
+      spanned = h.spanned;
+      spans = λ k l o. go k l o (cases_eq k n);
+    }
   where
     go : (k : ℕ) → k < n + 1 → (IsAmong skipped k → ⊥) → (k ≡ n) ⊎ (k ≡ n → ⊥)
         → IsInSpan p F (entry (row A k))
@@ -84,16 +89,24 @@ others_added {p} {width} {n} {A} {F} {F'} {skipped} v h l out e f = record {
 }
   where
     own : IsOtherCombination p A skipped (entry (row A n))
-    own = (update n 1 (λ k. 0), (λ t m. congruent_eq
-        (update_other n 1 (λ k. 0) t (λ q. out (subst (IsAmong skipped) q m)))), unit_combination A n l)
+    own = (
+      update n 1 (λ k. 0),
+      (λ t m. congruent_eq
+          (update_other n 1 (λ k. 0) t (λ q. out (subst (IsAmong skipped) q m)))),
+      unit_combination A n l,
+    )
 
     both : (k : ℕ) → k < length (F ++ v ∷ []) → (k < length F) ⊎ (length F ≤ k)
         → IsOtherCombination p A skipped (entry (row (F ++ v ∷ []) k))
     both k b (inl m) = subst (λ r. IsOtherCombination p A skipped (entry r)) (sym (row_before_push F v k m))
         (h.spanned k m)
     both k b (inr m) = subst (λ i. IsOtherCombination p A skipped (entry (row (F ++ v ∷ []) i)))
-        (let c : length (F ++ v ∷ []) ≡ length F + 1 = length_push F v in let z : length F ≡ k = omega (arith,
-        c, b, m) in z)
+        (let c : length (F ++ v ∷ []) ≡ length F + 1 = length_push F v in let z : length F ≡ k = omega (
+          arith,
+          c,
+          b,
+          m,
+        ) in z)
         (subst (λ r. IsOtherCombination p A skipped (entry r)) (sym (row_push F v ∙ e)) own)
 
     go : (k : ℕ) → k < n + 1 → (IsAmong skipped k → ⊥) → (k ≡ n) ⊎ (k ≡ n → ⊥)
@@ -116,8 +129,12 @@ others_all none all h = record {
 -- fewer of the generators
 pub others_fewer : {p width m n : ℕ} {A F : List (List ℕ)} {skipped : List ℕ} → m ≤ n
     → IsEchelonOfOthers p width A skipped n F → IsEchelonOfOthers p width A skipped m F
-others_fewer l h = record { matrix = h.matrix; echelon = h.echelon; spanned = h.spanned;
-    spans = λ k b o. h.spans k (omega (arith, b, l)) o }
+others_fewer l h = record {
+  matrix = h.matrix;
+  echelon = h.echelon;
+  spanned = h.spanned;
+  spans = λ k b o. h.spans k (omega (arith, b, l)) o;
+}
 
 -- a sum of terms that are 0 or in the span
 pub in_span_sum : {p : ℕ} {F : List (List ℕ)} (n : ℕ) (c : ℕ → ℕ) (R : ℕ → ℕ → ℕ)

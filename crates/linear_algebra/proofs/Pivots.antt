@@ -2,8 +2,7 @@
 use Rattle.std.proofs.Common.{◌≡◌, ◌≢◌, ℕ, zero, suc, ◌*◌, ◌<◌, ◌≤◌, ◌⊎◌, inl, inr, arith, ap, sym}
 use Rattle.std.proofs.lemmas.Bool.{cases_eq, cases_order}
 use Rattle.linear_algebra.specs.Modular.{IsCongruent, sum_below}
-use Rattle.linear_algebra.proofs.Congruences.{congruent_trans, congruent_eq, congruent_sym,
-    congruent_mul_right}
+use Rattle.linear_algebra.proofs.Congruences.{congruent_trans, congruent_eq, congruent_sym, congruent_mul_right}
 use Rattle.linear_algebra.proofs.Sums.{sum_below-one, sum_below-vanishes, find_below}
 
 -- v is the combination of m rows R with the coefficients u
@@ -33,7 +32,7 @@ zero_at_pivots p m u R q v P c z j =
     congruent_trans (congruent_sym (c.each j))
     (sum_below-vanishes p m (λ i. u i * R i j)
     (λ i l. congruent_trans (congruent_mul_right (R i j)
-        (congruent_trans (coefficient_at_pivot p m u R q v P c i l) (z i l)))
+    (congruent_trans (coefficient_at_pivot p m u R q v P c i l) (z i l)))
     (congruent_eq (omega arith))))
 
 -- the first place at which a member of the span is not 0 is a pivot
@@ -47,7 +46,7 @@ first_place_is_pivot p m u R q v P c t before here = go (find_below m t q)
     term none i l (inl e) = absurd (none i l e)
     term none i l (inr (inl b)) = congruent_trans (congruent_mul_right (R i t)
         (congruent_trans (coefficient_at_pivot p m u R q v P c i l) (before (q i) b)))
-            (congruent_eq (omega arith))
+        (congruent_eq (omega arith))
     term none i l (inr (inr a)) = congruent_eq (rw (P.before i t l a) (omega arith))
 
     go : ((i : ℕ) × (i < m) × (q i ≡ t)) ⊎ ((i : ℕ) → i < m → q i ≢ t) → (i : ℕ) × (i < m) × (q i ≡ t)
@@ -86,7 +85,7 @@ same_values_upto {m} {n} {q} {s} h (suc t) l i b = go (cases_eq i t) (same_value
     at_t : ((i : ℕ) → i < t → (i < n) × (q i ≡ s i)) → (t < n) × (q t ≡ s t)
     at_t ih = let one = same_values_step h t (omega arith) (λ k c. (ih k c).1) in
         let two = same_values_step (same_values_flip h) t one.0 (λ k c. sym (ih k c).1) in
-            (one.0, omega arith)
+        (one.0, omega arith)
 
     go : (i ≡ t) ⊎ (i ≡ t → ⊥) → ((i : ℕ) → i < t → (i < n) × (q i ≡ s i)) → (i < n) × (q i ≡ s i)
     go (inl e) ih = rw e (at_t ih)

@@ -1,27 +1,21 @@
 -- The preimage that is 0 at the pivots of the kernel: it exists, and elimination of the other augmented rows
 -- finds it.
-use Rattle.std.proofs.Common.{◌≡◌, ◌≢◌, ℕ, zero, suc, ◌+◌, ◌*◌, ◌-◌, ◌%◌, ◌<◌, ◌≤◌, ◌⊎◌, List, [], ◌∷◌, ◌++◌,
-    length, map, drop, replicate, inl, inr, arith, ap, sym, ◌∙◌, refl}
+use Rattle.std.proofs.Common.{◌≡◌, ◌≢◌, ℕ, zero, suc, ◌+◌, ◌*◌, ◌-◌, ◌%◌, ◌<◌, ◌≤◌, ◌⊎◌, List, [], ◌∷◌, ◌++◌, length, map, drop, replicate, inl, inr, arith, ap, sym, ◌∙◌, refl}
 use Rattle.std.proofs.lemmas.Bool.{cases_lt}
-use Rattle.std.proofs.lemmas.List.{get_or-map, get_or-drop, get_or_append_left, get_or-append-add,
-    get_or-replicate, get_or_past, length-map, length-drop, length-replicate, length_push, ext_get_or}
+use Rattle.std.proofs.lemmas.List.{get_or-map, get_or-drop, get_or_append_left, get_or-append-add, get_or-replicate, get_or_past, length-map, length-drop, length-replicate, length_push, ext_get_or}
 use Rattle.std.proofs.Math.Nat.{mod-lt}
 use mathlib.Core.Path.{subst}
 use Rattle.linear_algebra.specs.Modular.{IsCongruent, sum_below}
-use Rattle.linear_algebra.specs.Rows.{entry, row, combination, pivot, IsRow, IsMatrix, IsCombination,
-    IsInSpan, IsReduced}
+use Rattle.linear_algebra.specs.Rows.{entry, row, combination, pivot, IsRow, IsMatrix, IsCombination, IsInSpan, IsReduced}
 use Rattle.linear_algebra.specs.Kernels.{IsInKernel, IsKernelOf, IsAugmented, IsAmong, IsEchelonOfOthers}
 use Rattle.linear_algebra.specs.Choices.{IsPreimage, ArePreimages}
-use Rattle.linear_algebra.proofs.Congruences.{congruent_refl, congruent_add, congruent_trans, congruent_eq,
-    congruent_sym, congruent_mul_left, congruent_minus, congruent_cancel, congruent_mod, same_below}
+use Rattle.linear_algebra.proofs.Congruences.{congruent_refl, congruent_add, congruent_trans, congruent_eq, congruent_sym, congruent_mul_left, congruent_minus, congruent_cancel, congruent_mod, same_below}
 use Rattle.linear_algebra.proofs.Sums.{sum_below-vanishes, sum_below-one, find_below}
 use Rattle.linear_algebra.proofs.Pivots.{HasPivots, zero_at_pivots}
 use Rattle.linear_algebra.proofs.PivotLemmas.{before_pivot}
 use Rattle.linear_algebra.proofs.Independence.{combine_combinations}
-use Rattle.linear_algebra.proofs.EchelonLists.{HasPivots-from_echelon, Combines-from_combination,
-    one_not_zero}
-use Rattle.linear_algebra.proofs.Combinations.{combination_past, same_coefficients, augmented_left,
-    augmented_right}
+use Rattle.linear_algebra.proofs.EchelonLists.{HasPivots-from_echelon, Combines-from_combination, one_not_zero}
+use Rattle.linear_algebra.proofs.Combinations.{combination_past, same_coefficients, augmented_left, augmented_right}
 use Rattle.linear_algebra.proofs.Spans.{in_span_add, in_span_row, row_push, row_before_push}
 use Rattle.linear_algebra.proofs.Others.{IsOtherCombination, other_combination, in_span_sum}
 use Rattle.linear_algebra.proofs.Tables.{table, length-table, entry-table}
@@ -52,7 +46,7 @@ module _ {p : ℕ} {rows K : List (List ℕ)} (one : 1 < p) (k : IsKernelOf p ro
         (apart (length rows) (p - 1) s (combination (λ i. s (pivot (row K i))) K)
         (λ t. entry (row rows t) j)))
         (congruent_trans (congruent_add (h.each j) (congruent_mul_left (p - 1) (none j)))
-            (congruent_eq (omega arith)));
+        (congruent_eq (omega arith)));
   }
     where
       apart : (n c : ℕ) (u w r : ℕ → ℕ) → sum_below n (λ i. (u i + c * w i) * r i) ≡ sum_below n
@@ -74,7 +68,7 @@ module _ {p : ℕ} {rows K : List (List ℕ)} (one : 1 < p) (k : IsKernelOf p ro
   kernel_zero u h z t l = congruent_trans (congruent_sym (listed t l))
       (zero_at_pivots p (length K) s.0 (λ i j. entry (row K i) j) (λ i. pivot (row K i)) (entry ul)
       pivots (Combines-from_combination s.1)
-          (λ i b. congruent_trans (listed (pivot (row K i)) (inside i b)) (z i b)) t)
+      (λ i b. congruent_trans (listed (pivot (row K i)) (inside i b)) (z i b)) t)
     where
       ul : List ℕ
       ul = table (length rows) (λ t. u t % p)
@@ -105,12 +99,14 @@ module _ {p : ℕ} {rows K : List (List ℕ)} (one : 1 < p) (k : IsKernelOf p ro
         below = λ t l. rw (entry-table (length rows) (λ t. lowered s.0 t % p) t l)
             (mod-lt (lowered s.0 t) (omega (arith, one)));
       };
-      maps = record { each = λ j. congruent_trans (same_coefficients rows (entry ul) (lowered s.0) listed j)
-          ((lowered_maps s.0 (entry target) s.1).each j) };
+      maps = record {
+        each = λ j. congruent_trans (same_coefficients rows (entry ul) (lowered s.0) listed j)
+            ((lowered_maps s.0 (entry target) s.1).each j);
+      };
       zero_at_pivots = λ i l. same_below
           (congruent_trans (listed (pivot (row K i)) (inside i l)) (lowered_zero s.0 i l))
           (rw (entry-table (length rows) (λ t. lowered s.0 t % p) (pivot (row K i)) (inside i l))
-              (mod-lt (lowered s.0 (pivot (row K i))) (omega (arith, one))))
+          (mod-lt (lowered s.0 (pivot (row K i))) (omega (arith, one))))
           (omega (arith, one));
     },
   )
@@ -142,7 +138,7 @@ module _ {p : ℕ} {rows K : List (List ℕ)} (one : 1 < p) (k : IsKernelOf p ro
       in_kernel j = congruent_trans (congruent_eq
           (apart (length rows) (p - 1) (entry u) (entry v) (λ t. entry (row rows t) j)))
           (congruent_trans (congruent_add (a.maps.each j) (congruent_mul_left (p - 1) (b.maps.each j)))
-              (congruent_minus (entry target j) one))
+          (congruent_minus (entry target j) one))
 
       at_pivots : (i : ℕ) → i < length K → IsCongruent p (z (pivot (row K i))) 0
       at_pivots i l = congruent_eq (rw (a.zero_at_pivots i l, b.zero_at_pivots i l) (omega arith))
@@ -186,7 +182,7 @@ module _ {p : ℕ} {rows K : List (List ℕ)} (one : 1 < p) (k : IsKernelOf p ro
         go (inl b) = b
         go (inr b) = absurd (one_not_zero one (congruent_trans (congruent_eq (sym (f.echelon.monic i l)))
             (left_zero (entry (row F i)) (in_span_row F i l)
-                (λ j m. congruent_eq (before_pivot (row F i) j (omega (arith, m, b)))) (pivot (row F i)))))
+            (λ j m. congruent_eq (before_pivot (row F i) j (omega (arith, m, b)))) (pivot (row F i)))))
 
     -- the augmented rows with coefficients that are 0 at the kernel's pivots
     others_in_span : (c : ℕ → ℕ) → ((i : ℕ) → i < length K → IsCongruent p (c (pivot (row K i))) 0)
@@ -208,17 +204,21 @@ module _ {p : ℕ} {rows K : List (List ℕ)} (one : 1 < p) (k : IsKernelOf p ro
         ((j : ℕ) → j < width → entry v j ≡ entry target j) → ((t : ℕ) → entry v (width + t) ≡ 0) →
         IsRow p (width + length rows) w → IsReduced p F v w →
         length u ≡ length rows → ((t : ℕ) → t < length rows → entry u t ≡ (p - 1) * entry w (width + t) % p)
-            → IsPreimage p rows K target u
+        → IsPreimage p rows K target u
     preimage_reduced target v w u r s left right wr d count values = record {
-      is_row = record { length_is = count;
-          below = λ t l. rw (values t l) (mod-lt ((p - 1) * entry w (width + t)) (omega (arith, one))) };
-      maps = record { each = λ j. congruent_trans (same_coefficients rows (entry u) c agree j)
-          ((lowered_maps s.0 (entry target) s.1).each j) };
+      is_row = record {
+        length_is = count;
+        below = λ t l. rw (values t l) (mod-lt ((p - 1) * entry w (width + t)) (omega (arith, one)));
+      };
+      maps = record {
+        each = λ j. congruent_trans (same_coefficients rows (entry u) c agree j)
+            ((lowered_maps s.0 (entry target) s.1).each j);
+      };
       zero_at_pivots = λ i l. same_below
           (congruent_trans (agree (pivot (row K i)) (inside i l)) (lowered_zero s.0 i l))
           (rw (values (pivot (row K i)) (inside i l))
-              (mod-lt ((p - 1) * entry w (width + pivot (row K i))) (omega (arith, one))))
-              (omega (arith, one));
+          (mod-lt ((p - 1) * entry w (width + pivot (row K i))) (omega (arith, one))))
+          (omega (arith, one));
     }
       where
         c : ℕ → ℕ
@@ -236,11 +236,11 @@ module _ {p : ℕ} {rows K : List (List ℕ)} (one : 1 < p) (k : IsKernelOf p ro
         y_at_pivots : (i : ℕ) → i < length F → IsCongruent p (y (pivot (row F i))) 0
         y_at_pivots i l = let q : ℕ = pivot (row F i) in let b : q < width = pivots_left i l in
             congruent_trans (congruent_add
-                (congruent_eq (ap (λ z. z + (p - 1) * entry v q) (d.zero_at_pivots i l)))
-                (congruent_refl (1 * combination c A q)))
+            (congruent_eq (ap (λ z. z + (p - 1) * entry v q) (d.zero_at_pivots i l)))
+            (congruent_refl (1 * combination c A q)))
             (congruent_trans (congruent_eq (rw (left q b, augmented_left a c q b) (omega arith)))
             (congruent_trans (congruent_add (congruent_refl ((p - 1) * entry target q))
-                ((lowered_maps s.0 (entry target) s.1).each q))
+            ((lowered_maps s.0 (entry target) s.1).each q))
             (congruent_trans (congruent_eq (omega arith)) (congruent_minus (entry target q) one))))
 
         y_zero : (j : ℕ) → IsCongruent p (y j) 0
@@ -250,11 +250,11 @@ module _ {p : ℕ} {rows K : List (List ℕ)} (one : 1 < p) (k : IsKernelOf p ro
         agree : (t : ℕ) → t < length rows → IsCongruent p (entry u t) (c t)
         agree t l = congruent_trans (congruent_eq (values t l)) (congruent_trans (congruent_mod ((p - 1) * x))
             (congruent_trans (congruent_sym
-                (congruent_trans (congruent_add (y_zero (width + t)) (congruent_refl ((p - 1) * x)))
-                (congruent_eq (omega arith))))
+            (congruent_trans (congruent_add (y_zero (width + t)) (congruent_refl ((p - 1) * x)))
+            (congruent_eq (omega arith))))
             (congruent_trans (congruent_eq rearranged)
-                (congruent_trans (congruent_add (congruent_minus x one) (augmented_right a c t l))
-                (congruent_eq (omega arith))))))
+            (congruent_trans (congruent_add (congruent_minus x one) (augmented_right a c t l))
+            (congruent_eq (omega arith))))))
           where
             x : ℕ
             x = entry w (width + t)
@@ -267,14 +267,14 @@ module _ {p : ℕ} {rows K : List (List ℕ)} (one : 1 < p) (k : IsKernelOf p ro
     pub preimage_padded : (target w u : List ℕ) (n : ℕ) → IsRow p width target
         → IsInSpan p rows (entry target) →
         IsRow p (width + length rows) w → IsReduced p F (target ++ replicate n 0) w
-            → u ≡ map (λ x. (p - 1) * x % p) (drop width w) → IsPreimage p rows K target u
+        → u ≡ map (λ x. (p - 1) * x % p) (drop width w) → IsPreimage p rows K target u
     preimage_padded target w u n r s wr d e = preimage_reduced target (target ++ replicate n 0) w u r s
         (λ j l. get_or_append_left target (replicate n 0) 0 j (omega (arith, l, r.length_is)))
         (λ t. ap (λ k. entry (target ++ replicate n 0) (k + t)) (sym r.length_is)
-            ∙ get_or-append-add target (replicate n 0) t 0 ∙ zeros t (cases_lt t n))
+        ∙ get_or-append-add target (replicate n 0) t 0 ∙ zeros t (cases_lt t n))
         wr d (ap length e ∙ count) (λ t l. ap (λ x. entry x t) e
-            ∙ get_or-map (λ x. (p - 1) * x % p) (drop width w) t 0 0
-            (omega (arith, l, length-drop width w, wr.length_is))
+        ∙ get_or-map (λ x. (p - 1) * x % p) (drop width w) t 0 0
+        (omega (arith, l, length-drop width w, wr.length_is))
         ∙ ap (λ x. (p - 1) * x % p) (get_or-drop width w t 0))
       where
         zeros : (t : ℕ) → (t < n) ⊎ (n ≤ t) → entry (replicate n 0) t ≡ 0
@@ -300,12 +300,17 @@ preimages_push {p} {rows} {K} {targets} {us} target u h k =
 
     at : (i : ℕ) → i < length (targets ++ target ∷ []) → (i < length targets) ⊎ (length targets ≤ i)
         → IsPreimage p rows K (row (targets ++ target ∷ []) i) (row (us ++ u ∷ []) i)
-    at i l (inl b) = rw (row_before_push targets target i b,
-        row_before_push us u i (omega (arith, b, h.count))) (h.each i b)
+    at i l (inl b) = rw (
+      row_before_push targets target i b,
+      row_before_push us u i (omega (arith, b, h.count)),
+    ) (h.each i b)
     at i l (inr b) = let e : i ≡ length targets = omega (arith, l, b, d) in let f : i ≡ length us =
         omega (arith, e, h.count) in
-        rw (ap (row (targets ++ target ∷ [])) e ∙ row_push targets target, ap (row (us ++ u ∷ [])) f
-            ∙ row_push us u) k
+        rw (
+          ap (row (targets ++ target ∷ [])) e ∙ row_push targets target,
+          ap (row (us ++ u ∷ [])) f
+              ∙ row_push us u,
+        ) k
 
 pub preimages_none : {p : ℕ} {rows K : List (List ℕ)} → ArePreimages p rows K [] []
 preimages_none = record { count = refl; each = λ i l. absurd (omega (arith, l)) }

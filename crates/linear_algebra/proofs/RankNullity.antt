@@ -1,14 +1,11 @@
 -- A list of independent vectors in the kernel with the kernel's dimension spans the kernel.
-use Rattle.std.proofs.Common.{◌≡◌, ◌≢◌, ℕ, suc, ◌+◌, ◌*◌, ◌-◌, ◌%◌, ◌<◌, ◌≤◌, ◌⊎◌, inl, inr, cond, ltb, arith,
-    ap, sym, ◌∙◌}
+use Rattle.std.proofs.Common.{◌≡◌, ◌≢◌, ℕ, suc, ◌+◌, ◌*◌, ◌-◌, ◌%◌, ◌<◌, ◌≤◌, ◌⊎◌, inl, inr, cond, ltb, arith, ap, sym, ◌∙◌}
 use Rattle.std.proofs.lemmas.Bool.{cases_lt, cases_order}
 use Rattle.std.proofs.lemmas.Bool.Decides.{nat_tests}
 use Rattle.std.proofs.Math.Nat.{zero-mod}
 use Rattle.linear_algebra.specs.Modular.{IsCongruent, IsFieldModulo, sum_below}
-use Rattle.linear_algebra.proofs.Congruences.{congruent_refl, congruent_add, congruent_trans, congruent_eq,
-    congruent_sym, congruent_mul_left, congruent_mul_right}
-use Rattle.linear_algebra.proofs.Sums.{sum_below-parts, sum_below-same, sum_below-congruent,
-    sum_below-vanishes}
+use Rattle.linear_algebra.proofs.Congruences.{congruent_refl, congruent_add, congruent_trans, congruent_eq, congruent_sym, congruent_mul_left, congruent_mul_right}
+use Rattle.linear_algebra.proofs.Sums.{sum_below-parts, sum_below-same, sum_below-congruent, sum_below-vanishes}
 use Rattle.linear_algebra.proofs.Pivots.{Combines}
 use Rattle.linear_algebra.proofs.Dimension.{Dependence, dependent}
 use Rattle.linear_algebra.proofs.Independence.{Independent, combines_from_dependence}
@@ -36,15 +33,15 @@ drop_last : {p : ℕ} (s c x : ℕ) → IsCongruent p c 0 → IsCongruent p (s +
 drop_last {p} s c x h e = let z : IsCongruent p (c * x) 0 =
     congruent_trans (congruent_mul_right x h) (congruent_eq (omega arith)) in
     congruent_trans (congruent_sym (congruent_trans (congruent_add (congruent_refl s) z)
-        (congruent_eq (omega arith)))) e
+    (congruent_eq (omega arith)))) e
 
 module _ {p : ℕ} (F : IsFieldModulo p) {f : (ℕ → ℕ) → ℕ → ℕ} (L : IsLinear p f) (k l : ℕ) (E U R : ℕ → ℕ → ℕ)
     (indE : Independent p k E) (kerE : (i : ℕ) → i < k → (j : ℕ) → IsCongruent p (f (E i) j) 0)
     (indR : Independent p l R) (image : (i : ℕ) → i < l → (j : ℕ) → IsCongruent p (f (U i) j) (R i j))
     (wideE : (i j : ℕ) → i < k → k + l ≤ j → IsCongruent p (E i j) 0) (wideU : (i j : ℕ) → i < l → k + l ≤ j
-        → IsCongruent p (U i j) 0)
+    → IsCongruent p (U i j) 0)
     (v : ℕ → ℕ) (wide : (j : ℕ) → k + l ≤ j → IsCongruent p (v j) 0) (ker : (j : ℕ)
-        → IsCongruent p (f v j) 0) where
+    → IsCongruent p (f v j) 0) where
   -- all k + l + 1 vectors
   family : ℕ → ℕ → ℕ
   family = joined k E (joined l U (λ i. v))
@@ -60,7 +57,7 @@ module _ {p : ℕ} (F : IsFieldModulo p) {f : (ℕ → ℕ) → ℕ → ℕ} (L 
         (λ i b. ap (λ x. a i * x) (joined_left k E (joined l U (λ i. v)) i j b)),
     sum_below-same l (λ i. a (k + i) * family (k + i) j) (λ i. a (k + i) * U i j)
         (λ i b. ap (λ x. a (k + i) * x) (joined_right k E (joined l U (λ i. v)) i j
-            ∙ joined_left l U (λ i. v) i j b)),
+        ∙ joined_left l U (λ i. v) i j b)),
     ap (λ x. a (k + l) * x) (joined_right k E (joined l U (λ i. v)) l j ∙ last j),
   )
     where
@@ -70,7 +67,7 @@ module _ {p : ℕ} (F : IsFieldModulo p) {f : (ℕ → ℕ) → ℕ → ℕ} (L 
   -- a dependence holds at every place
   everywhere : (D : Dependence p (suc (k + l)) (k + l) family) (j : ℕ) →
       IsCongruent p (sum_below k (λ i. D.coefficients i * E i j) + sum_below l
-          (λ i. D.coefficients (k + i) * U i j) + D.coefficients (k + l) * v j) 0
+      (λ i. D.coefficients (k + i) * U i j) + D.coefficients (k + l) * v j) 0
   everywhere D j = go (cases_lt j (k + l))
     where
       times_zero : (c x : ℕ) → IsCongruent p x 0 → IsCongruent p (c * x) 0
@@ -82,9 +79,9 @@ module _ {p : ℕ} (F : IsFieldModulo p) {f : (ℕ → ℕ) → ℕ → ℕ} (L 
       go (inl b) = congruent_trans (congruent_eq (sym (three D.coefficients j))) (D.vanishes j b)
       go (inr b) = congruent_trans (congruent_add (congruent_add
           (sum_below-vanishes p k (λ i. D.coefficients i * E i j)
-              (λ i c. times_zero (D.coefficients i) (E i j) (wideE i j c b)))
+          (λ i c. times_zero (D.coefficients i) (E i j) (wideE i j c b)))
           (sum_below-vanishes p l (λ i. D.coefficients (k + i) * U i j)
-              (λ i c. times_zero (D.coefficients (k + i)) (U i j) (wideU i j c b))))
+          (λ i c. times_zero (D.coefficients (k + i)) (U i j) (wideU i j c b))))
           (times_zero (D.coefficients (k + l)) (v j) (wide j b))) (congruent_eq (omega arith))
 
   -- the coefficients of U vanish
@@ -92,8 +89,8 @@ module _ {p : ℕ} (F : IsFieldModulo p) {f : (ℕ → ℕ) → ℕ → ℕ} (L 
       → IsCongruent p (D.coefficients (k + i)) 0
   middle_vanishes D = indR.only_zero (λ i. D.coefficients (k + i)) (λ j.
       congruent_trans (congruent_sym (congruent_trans (images j)
-          (congruent_trans (congruent_add (congruent_add (firsts j) (seconds j)) (thirds j))
-          (congruent_eq (omega arith)))))
+      (congruent_trans (congruent_add (congruent_add (firsts j) (seconds j)) (thirds j))
+      (congruent_eq (omega arith)))))
       (congruent_trans (L.same whole (λ j. 0) (everywhere D) j) (linear_zero L j)))
     where
       a : ℕ → ℕ
@@ -107,13 +104,13 @@ module _ {p : ℕ} (F : IsFieldModulo p) {f : (ℕ → ℕ) → ℕ → ℕ} (L 
       images j = congruent_trans (L.add (λ j. sum_below k (λ i. a i * E i j) + sum_below l
           (λ i. a (k + i) * U i j)) v (a (k + l)) j)
           (congruent_add (congruent_trans
-              (L.same (λ j. sum_below k (λ i. a i * E i j) + sum_below l (λ i. a (k + i) * U i j))
-              (λ j. sum_below k (λ i. a i * E i j) + 1 * sum_below l (λ i. a (k + i) * U i j))
-              (λ j. congruent_eq (omega arith)) j)
+          (L.same (λ j. sum_below k (λ i. a i * E i j) + sum_below l (λ i. a (k + i) * U i j))
+          (λ j. sum_below k (λ i. a i * E i j) + 1 * sum_below l (λ i. a (k + i) * U i j))
+          (λ j. congruent_eq (omega arith)) j)
           (congruent_trans (L.add (λ j. sum_below k (λ i. a i * E i j))
-              (λ j. sum_below l (λ i. a (k + i) * U i j)) 1 j)
+          (λ j. sum_below l (λ i. a (k + i) * U i j)) 1 j)
           (congruent_add (linear_sum L k a E j)
-              (congruent_trans (congruent_eq (omega arith)) (linear_sum L l (λ i. a (k + i)) U j)))))
+          (congruent_trans (congruent_eq (omega arith)) (linear_sum L l (λ i. a (k + i)) U j)))))
           (congruent_refl (a (k + l) * f v j)))
 
       times_zero : (c x : ℕ) → IsCongruent p x 0 → IsCongruent p (c * x) 0
@@ -138,8 +135,8 @@ module _ {p : ℕ} (F : IsFieldModulo p) {f : (ℕ → ℕ) → ℕ → ℕ} (L 
       (congruent_trans (congruent_add (congruent_add
       (congruent_refl (sum_below k (λ i. D.coefficients i * E i j)))
       (sum_below-vanishes p l (λ i. D.coefficients (k + i) * U i j)
-          (λ i b. congruent_trans (congruent_mul_right (U i j) (middle_vanishes D i b))
-          (congruent_eq (omega arith)))))
+      (λ i b. congruent_trans (congruent_mul_right (U i j) (middle_vanishes D i b))
+      (congruent_eq (omega arith)))))
       (congruent_refl (D.coefficients (k + l) * v j))) (congruent_eq (omega arith)))) (everywhere D j)
 
   pub in_kernel_span : (a : ℕ → ℕ) × Combines p k a E v

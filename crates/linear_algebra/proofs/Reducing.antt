@@ -1,6 +1,5 @@
 -- A row made 0 at the pivots of a reduced echelon list, and a column made 0.
-use Rattle.std.proofs.Common.{◌≡◌, ℕ, ◌+◌, ◌*◌, ◌-◌, ◌<◌, ◌≤◌, ◌⊎◌, List, length, inl, inr, arith, ap, sym,
-    ◌∙◌}
+use Rattle.std.proofs.Common.{◌≡◌, ℕ, ◌+◌, ◌*◌, ◌-◌, ◌<◌, ◌≤◌, ◌⊎◌, List, length, inl, inr, arith, ap, sym, ◌∙◌}
 use Rattle.std.proofs.lemmas.Bool.{cases_eq, cases_lt}
 use Rattle.std.proofs.lemmas.List.{get_or_past}
 use Rattle.std.proofs.Math.Nat.{mod-lt}
@@ -8,8 +7,7 @@ use Rattle.linear_algebra.specs.Modular.{IsCongruent}
 use Rattle.linear_algebra.specs.Rows.{entry, row, pivot, add_multiple, IsRow, IsMatrix, IsEchelon, IsInSpan}
 use Rattle.linear_algebra.specs.Elimination.{IsCleared}
 use Rattle.linear_algebra.proofs.RowLemmas.{length-add_multiple, entry-add_multiple}
-use Rattle.linear_algebra.proofs.Congruences.{congruent_refl, congruent_add, congruent_trans, congruent_eq,
-    congruent_sym, congruent_mod, congruent_minus, same_below, to_congruent}
+use Rattle.linear_algebra.proofs.Congruences.{congruent_refl, congruent_add, congruent_trans, congruent_eq, congruent_sym, congruent_mod, congruent_minus, same_below, to_congruent}
 use Rattle.linear_algebra.proofs.Spans.{in_span_congruent, in_span_row, in_span_add, in_span_zero}
 
 -- w is v less a member of the span, and 0 at the first n pivots
@@ -55,13 +53,16 @@ entry_congruent {p} {width} c w r a b j = go (cases_lt j (length w))
         → IsCongruent p (entry (add_multiple p c w r) j) (entry w j + c * entry r j)
     go (inl l) = rw (entry-add_multiple p c w r j (b.length_is ∙ sym a.length_is) l)
         (congruent_mod (entry w j + c * entry r j))
-    go (inr l) = congruent_eq (rw (get_or_past (add_multiple p c w r) j 0 (rw length-add_multiple l),
-        get_or_past w j 0 l, get_or_past r j 0 (omega (arith, a.length_is, b.length_is))) (omega arith))
+    go (inr l) = congruent_eq (rw (
+      get_or_past (add_multiple p c w r) j 0 (rw length-add_multiple l),
+      get_or_past w j 0 l,
+      get_or_past r j 0 (omega (arith, a.length_is, b.length_is)),
+    ) (omega arith))
 
 pub reduced_step : {p width : ℕ} {E : List (List ℕ)} {v w : List ℕ} {n : ℕ} → 1 < p → IsMatrix p width E
     → IsEchelon E → n < length E →
     IsReducedUpTo p width E v w n → (c : ℕ) → c ≡ p - entry w (pivot (row E n))
-        → IsReducedUpTo p width E v (add_multiple p c w (row E n)) (n + 1)
+    → IsReducedUpTo p width E v (add_multiple p c w (row E n)) (n + 1)
 reduced_step {p} {width} {E} {v} {w} {n} one M e l h c f = record {
   is_row = row_is;
   difference = in_span_congruent (λ j. congruent_trans (congruent_eq (omega arith))
@@ -89,11 +90,13 @@ reduced_step {p} {width} {E} {v} {w} {n} one M e l h c f = record {
     go k b (inl g) = ap (λ i. entry (add_multiple p c w (row E n)) (pivot (row E i))) g
         ∙ zero_at (pivot (row E n)) (inside n l)
         (to_congruent 0 1 (rw (e.monic n l)
-            (let x = h.is_row.below (pivot (row E n)) (inside n l) in omega arith)))
+        (let x = h.is_row.below (pivot (row E n)) (inside n l) in omega arith)))
     go k b (inr ne) = zero_at (pivot (row E k)) (inside k (omega arith))
         (congruent_eq (rw (h.zero_below k (omega arith), e.cleared k n (omega arith) l ne) (omega arith)))
 
 pub cleared_by : {p width t : ℕ} (v r : List ℕ) → 0 < p → IsRow p width v → IsRow p width r
     → IsCleared p width t v r (add_multiple p (p - entry r t) r v)
-cleared_by {p} {width} {t} v r l a b = record { is_row = add_multiple_is_row (p - entry r t) r v l b a;
-    each = entry_congruent (p - entry r t) r v b a }
+cleared_by {p} {width} {t} v r l a b = record {
+  is_row = add_multiple_is_row (p - entry r t) r v l b a;
+  each = entry_congruent (p - entry r t) r v b a;
+}

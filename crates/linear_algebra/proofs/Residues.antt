@@ -42,7 +42,7 @@ module _ (q : ℕ) where
   plus-assoc a b c =
       below-path _ _
       (mod-add-mod (a.0 + b.0) (suc q) c.0 ∙ ap (λ n. n % suc q) (add_assoc a.0 b.0 c.0)
-          ∙ sym (add-mod-mod a.0 (b.0 + c.0) (suc q)))
+      ∙ sym (add-mod-mod a.0 (b.0 + c.0) (suc q)))
 
   pub plus-comm : (a b : Below (suc q)) → plus a b ≡ plus b a
   plus-comm a b = ap residue (add_comm a.0 b.0)
@@ -50,14 +50,14 @@ module _ (q : ℕ) where
   pub plus-zero : (a : Below (suc q)) → plus a (residue 0) ≡ a
   plus-zero a =
       ap (λ b. plus b (residue 0)) (sym (residue-self a)) ∙ plus-residue a.0 0 ∙ ap residue (omega arith)
-          ∙ residue-self a
+      ∙ residue-self a
 
   pub plus-minus : (a : Below (suc q)) → plus a (residues.minus q a) ≡ residue 0
   plus-minus a =
       ap (λ b. plus b (residue (q * a.0))) (sym (residue-self a)) ∙ plus-residue a.0 (q * a.0)
       ∙ below-path _ _
       (ap (λ n. n % suc q) (let e : a.0 + q * a.0 ≡ suc q * a.0 = omega arith in e)
-          ∙ mul-mod_right (suc q) a.0 ∙ sym (zero-mod (suc q)))
+      ∙ mul-mod_right (suc q) a.0 ∙ sym (zero-mod (suc q)))
 
   -- p times a is 0
   pub times-p : (a : Below (suc q)) → times plus (residue 0) (suc q) a ≡ residue 0

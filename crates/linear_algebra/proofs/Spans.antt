@@ -1,12 +1,10 @@
 -- The span of a list of rows: its rows, 0, sums and multiples are in it, and spans are transitive.
-use Rattle.std.proofs.Common.{◌≡◌, ℕ, zero, suc, ◌+◌, ◌*◌, ◌<◌, ◌≤◌, ◌⊎◌, List, [], ◌∷◌, ◌++◌, length, inl,
-    inr, arith, ap, ◌∙◌, refl}
+use Rattle.std.proofs.Common.{◌≡◌, ℕ, zero, suc, ◌+◌, ◌*◌, ◌<◌, ◌≤◌, ◌⊎◌, List, [], ◌∷◌, ◌++◌, length, inl, inr, arith, ap, ◌∙◌, refl}
 use Rattle.std.proofs.lemmas.Bool.{cases_lt}
 use Rattle.std.proofs.lemmas.List.{get_or_append_left, length_push, get_or_push}
 use Rattle.linear_algebra.specs.Modular.{IsCongruent, sum_below}
 use Rattle.linear_algebra.specs.Rows.{entry, row, IsCombination, IsInSpan, AreInSpan}
-use Rattle.linear_algebra.proofs.Congruences.{congruent_add, congruent_trans, congruent_eq,
-    congruent_mul_left}
+use Rattle.linear_algebra.proofs.Congruences.{congruent_add, congruent_trans, congruent_eq, congruent_mul_left}
 use Rattle.linear_algebra.proofs.Sums.{sum_below-one, sum_below-vanishes, update, update_same, update_other}
 use Rattle.linear_algebra.proofs.Pivots.{Combines}
 use Rattle.linear_algebra.proofs.Independence.{combine_combinations}
@@ -16,8 +14,13 @@ pub in_span_congruent : {p : ℕ} {rows : List (List ℕ)} {f g : ℕ → ℕ} �
 in_span_congruent e s = (s.0, record { each = λ j. congruent_trans (s.1.each j) (e j) })
 
 pub in_span_zero : {p : ℕ} {rows : List (List ℕ)} → IsInSpan p rows (λ j. 0)
-in_span_zero {p} {rows} = ((λ i. 0), record { each = λ j. sum_below-vanishes p (length rows)
-    (λ i. 0 * entry (row rows i) j) (λ i l. congruent_eq (omega arith)) })
+in_span_zero {p} {rows} = (
+  (λ i. 0),
+  record {
+    each = λ j. sum_below-vanishes p (length rows)
+        (λ i. 0 * entry (row rows i) j) (λ i l. congruent_eq (omega arith));
+  },
+)
 
 -- the coefficient 1 at i and 0 elsewhere give row i
 pub unit_combination : {p : ℕ} (rows : List (List ℕ)) (i : ℕ) → i < length rows
@@ -26,7 +29,7 @@ unit_combination {p} rows i l = record {
   each = λ j.
       congruent_trans (sum_below-one p (length rows) i (λ k. update i 1 (λ k. 0) k * entry (row rows k) j) l
       (λ k b ne. congruent_eq (ap (λ x. x * entry (row rows k) j) (update_other i 1 (λ k. 0) k ne)
-          ∙ omega arith)))
+      ∙ omega arith)))
       (congruent_eq (ap (λ x. x * entry (row rows i) j) (update_same i 1 (λ k. 0)) ∙ omega arith));
 }
 
@@ -58,7 +61,7 @@ in_span_trans {p} {rows} {vs} {f} h s = (
   record {
     each = λ j.
         congruent_trans ((combine_combinations p (length vs) (length rows) s.0 C (λ k j. entry (row rows k) j)
-            (λ i j. entry (row vs i) j) (λ i l. right i l (cases_lt i (length vs)))).each j) (s.1.each j);
+        (λ i j. entry (row vs i) j) (λ i l. right i l (cases_lt i (length vs)))).each j) (s.1.each j);
   },
 )
   where

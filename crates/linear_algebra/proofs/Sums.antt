@@ -1,5 +1,4 @@
-use Rattle.std.proofs.Common.{◌≡◌, ◌≢◌, ℕ, zero, suc, ◌+◌, ◌*◌, ◌<◌, ◌⊎◌, inl, inr, ⊎_elim, eqb, cond, arith,
-    ap, sym, ◌∙◌, refl}
+use Rattle.std.proofs.Common.{◌≡◌, ◌≢◌, ℕ, zero, suc, ◌+◌, ◌*◌, ◌<◌, ◌⊎◌, inl, inr, ⊎_elim, eqb, cond, arith, ap, sym, ◌∙◌, refl}
 use Rattle.std.proofs.lemmas.Bool.{cases_eq}
 use Rattle.std.proofs.lemmas.Bool.Decides.{nat_tests}
 use Rattle.linear_algebra.specs.Modular.{IsCongruent, sum_below}
@@ -22,13 +21,16 @@ pub sum_below-swap : (m n : ℕ) (f : ℕ → ℕ → ℕ) →
 sum_below-swap zero n f = sym (sum_below-zero n)
 sum_below-swap (suc m) n f =
     ap (λ x. x + sum_below n (f m)) (sum_below-swap m n f)
-        ∙ sym (sum_below-add n (λ j. sum_below m (λ i. f i j)) (f m))
+    ∙ sym (sum_below-add n (λ j. sum_below m (λ i. f i j)) (f m))
 
 -- equal terms, equal sums
 pub sum_below-same : (n : ℕ) (f g : ℕ → ℕ) → ((i : ℕ) → i < n → f i ≡ g i) → sum_below n f ≡ sum_below n g
 sum_below-same zero f g h = refl
-sum_below-same (suc n) f g h = omega (arith, sum_below-same n f g (λ i k. h i (omega arith)),
-    h n (omega arith))
+sum_below-same (suc n) f g h = omega (
+  arith,
+  sum_below-same n f g (λ i k. h i (omega arith)),
+  h n (omega arith),
+)
 
 pub sum_below-congruent : (p n : ℕ) (f g : ℕ → ℕ) → ((i : ℕ) → i < n → IsCongruent p (f i) (g i)) →
     IsCongruent p (sum_below n f) (sum_below n g)
@@ -52,7 +54,7 @@ sum_below-one p (suc n) k f l h = go (cases_eq k n) (sum_below-one p n k f)
         IsCongruent p (sum_below n f) (f k)) → IsCongruent p (sum_below n f + f n) (f k)
     go (inl e) ih = rw e (congruent_trans
         (congruent_add (sum_below-vanishes p n f (λ i m. h i (omega arith) (omega arith)))
-            (congruent_refl (f n)))
+        (congruent_refl (f n)))
         (congruent_eq (omega arith)))
     go (inr ne) ih = congruent_trans
         (congruent_add (ih (omega arith) (λ i m. h i (omega arith))) (h n (omega arith) (omega arith)))

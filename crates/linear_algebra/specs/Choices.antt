@@ -13,7 +13,7 @@ IsGreedyBelow p s t zero positions = positions ≡ []
 IsGreedyBelow p s t (suc n) positions =
     (IsGreedyBelow p s t n positions × IsInSpan p (t ++ rows_at s positions) (entry (row s n)))
     ⊎ ((before : List ℕ) × IsGreedyBelow p s t n before
-        × ¬ (IsInSpan p (t ++ rows_at s before) (entry (row s n))) × (positions ≡ before ++ n ∷ []))
+    × ¬ (IsInSpan p (t ++ rows_at s before) (entry (row s n))) × (positions ≡ before ++ n ∷ []))
 
 -- the positions in s of Greedy(s, t)
 abbrev pub IsGreedy : ℕ → List (List ℕ) → List (List ℕ) → List ℕ → Type 0

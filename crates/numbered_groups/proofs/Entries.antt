@@ -12,7 +12,7 @@ use Rattle.numbered_groups.proofs.GroupLaws.{inv-one, inv-of-mul}
 module _ {n : ℕ} (q : ℕ) (Γ : Group n) where
   pub times-at : (b k : ℕ) (v : Below b → Below n → Below (suc q)) (i : Below b) (g : Below n)
       → times (λ (v w : Below b → Below n → Below (suc q)) i g. plus q (v i g) (w i g))
-          (λ i g. residue q 0) k v i g ≡ times (plus q) (residue q 0) k (v i g)
+      (λ i g. residue q 0) k v i g ≡ times (plus q) (residue q 0) k (v i g)
   times-at b zero v i g = refl
   times-at b (suc k) v i g = ap (plus q (v i g)) (times-at b k v i g)
 
@@ -53,4 +53,4 @@ module _ {n : ℕ} (q : ℕ) (Γ : Group n) where
     pub move-mul : (g h : Below n) (v : Entries) → move (Γ.mul g h) v ≡ move g (move h v)
     move-mul g h v =
         fun_ext (λ i. fun_ext (λ k. ap (v i) (ap (λ x. Γ.mul x k) (inv-of-mul q Γ g h)
-            ∙ Γ.mul-assoc (Γ.inv h) (Γ.inv g) k)))
+        ∙ Γ.mul-assoc (Γ.inv h) (Γ.inv g) k)))

@@ -39,7 +39,7 @@ module _ (n : ℕ) (mul : ℕ → ℕ → ℕ) (G : IsGroup n mul) where
   inverse-one : (a : ℕ) → a < n → (x y : Inverse a) → x.0 ≡ y.0
   inverse-one a l x y =
       sym (G.mul-one x.0 x.1) ∙ ap (mul x.0) (sym y.2) ∙ sym (G.mul-assoc x.0 a y.0 x.1 l y.1)
-          ∙ ap (λ k. mul k y.0) x.3 ∙ G.one-mul y.0 y.1
+      ∙ ap (λ k. mul k y.0) x.3 ∙ G.one-mul y.0 y.1
 
   inverse-prop : (a : ℕ) → a < n → IsProp (Inverse a)
   inverse-prop a l x y i = (
@@ -70,5 +70,7 @@ IsPGroup-prop G h k i = record {
 
 -- p-groups are equal where their tables are
 pub same_table : (G H : PGroup) → G.table ≡ H.table → G ≡ H
-same_table G H e i = record { table = e i;
-    law = is_prop→PathP (λ i. IsPGroup (e i)) (λ i. IsPGroup-prop (e i)) G.law H.law i }
+same_table G H e i = record {
+  table = e i;
+  law = is_prop→PathP (λ i. IsPGroup (e i)) (λ i. IsPGroup-prop (e i)) G.law H.law i;
+}

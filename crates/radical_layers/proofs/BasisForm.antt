@@ -1,6 +1,5 @@
 -- Coordinates in a basis.
-use Rattle.std.proofs.Common.{◌≡◌, ℕ, zero, suc, ◌+◌, ◌*◌, ◌-◌, ◌%◌, ◌<◌, ◌≤◌, ◌⊎◌, List, [], ◌∷◌, length,
-    inl, inr, arith, ap, ap₂, sym, ◌∙◌, refl}
+use Rattle.std.proofs.Common.{◌≡◌, ℕ, zero, suc, ◌+◌, ◌*◌, ◌-◌, ◌%◌, ◌<◌, ◌≤◌, ◌⊎◌, List, [], ◌∷◌, length, inl, inr, arith, ap, ap₂, sym, ◌∙◌, refl}
 use Rattle.std.proofs.lemmas.Bool.{cases_lt}
 use Rattle.std.proofs.lemmas.List.{get_or_past}
 use Rattle.std.proofs.lemmas.Grind.{same_number_lists}
@@ -12,8 +11,7 @@ use Rattle.group_modules.specs.Tables.{Group, monoid}
 use Rattle.linear_algebra.specs.Modular.{IsCongruent, IsFieldModulo, sum_below}
 use Rattle.linear_algebra.specs.Rows.{entry, row, combination, IsRow, IsMatrix, IsInSpan}
 use Rattle.linear_algebra.proofs.Sums.{sum_below-congruent}
-use Rattle.linear_algebra.proofs.Congruences.{congruent_refl, congruent_add, congruent_trans, congruent_eq,
-    congruent_sym, congruent_mod, congruent_mul_right, congruent_minus, congruent_cancel, same_below}
+use Rattle.linear_algebra.proofs.Congruences.{congruent_refl, congruent_add, congruent_trans, congruent_eq, congruent_sym, congruent_mod, congruent_mul_right, congruent_minus, congruent_cancel, same_below}
 use Rattle.linear_algebra.proofs.Independence.{Independent}
 use Rattle.radical_layers.specs.Coordinates.{RowForm}
 use Rattle.radical_layers.proofs.Bridge.{at, tabs, at-tabs, same-table}
@@ -50,18 +48,18 @@ combination-two c u w X j = apart (length X) (λ i. entry (row X i) j)
 unique : (p : ℕ) → 1 < p → (X : List (List ℕ)) → Independent p (length X) (λ i j. entry (row X i) j)
     → (u w : ℕ → ℕ)
     → ((j : ℕ) → IsCongruent p (combination u X j) (combination w X j)) → (i : ℕ) → i < length X
-        → IsCongruent p (u i) (w i)
+    → IsCongruent p (u i) (w i)
 unique p h X I u w e i l = congruent_cancel ((p - 1) * w i) (congruent_trans
     (I.only_zero (λ i. u i + (p - 1) * w i)
-        (λ j. congruent_trans (congruent_eq (combination-two (p - 1) u w X j))
+    (λ j. congruent_trans (congruent_eq (combination-two (p - 1) u w X j))
     (congruent_trans (congruent_add (e j) (congruent_refl ((p - 1) * combination w X j)))
-        (congruent_minus (combination w X j) h))) i l)
+    (congruent_minus (combination w X j) h))) i l)
     (congruent_sym (congruent_minus (w i) h)))
 
 module _ {n : ℕ} (q : ℕ) (F : IsFieldModulo (suc q)) (Γ : Group n) (D : ℕ) (T : Module (suc q) (monoid Γ))
     (K : RowForm D T)
     (B : List (List ℕ)) (matrix : IsMatrix (suc q) D B)
-        (I : Independent (suc q) (length B) (λ i j. entry (row B i) j)) (count : length B ≡ D) where
+    (I : Independent (suc q) (length B) (λ i j. entry (row B i) j)) (count : length B ≡ D) where
   coefficients : (v : T.of) → IsInSpan (suc q) B (at q Γ D T K v)
   coefficients v = full F D B matrix I count (K.row v) (K.row-is v)
 
@@ -87,9 +85,9 @@ module _ {n : ℕ} (q : ℕ) (F : IsFieldModulo (suc q)) (Γ : Group n) (D : ℕ
   combines v j = congruent_trans (sum_below-congruent (suc q) (length B)
       (λ i. entry (to-basis v) i * entry (row B i) j) (λ i. (coefficients v).0 i * entry (row B i) j)
       (λ i l. congruent_mul_right (entry (row B i) j)
-          (congruent_trans (congruent_eq
-          (entry-list_of D (λ i. (coefficients v).0 i % suc q) i (subst (λ k. i < k) count l)))
-          (congruent_mod ((coefficients v).0 i)))))
+      (congruent_trans (congruent_eq
+      (entry-list_of D (λ i. (coefficients v).0 i % suc q) i (subst (λ k. i < k) count l)))
+      (congruent_mod ((coefficients v).0 i)))))
       ((coefficients v).1.each j)
 
   pub from-to : (v : T.of) → from-basis (to-basis v) ≡ v
@@ -104,7 +102,7 @@ module _ {n : ℕ} (q : ℕ) (F : IsFieldModulo (suc q)) (Γ : Group n) (D : ℕ
       (λ k l. let d : k < D = subst (λ y. k < y) (to-basis-row (from-basis x)).length_is l in
       same_below (unique (suc q) F.above_one B I (entry (to-basis (from-basis x))) (entry x)
       (λ j. congruent_trans (combines (from-basis x) j)
-          (at-tabs q Γ D T K B matrix (entry x) (length B) refl j)) k (subst (λ y. k < y) (sym count) d))
+      (at-tabs q Γ D T K B matrix (entry x) (length B) refl j)) k (subst (λ y. k < y) (sym count) d))
       ((to-basis-row (from-basis x)).below k d) (r.below k d))
 
   pub to-add : (v w : T.of) (j : ℕ) → IsCongruent (suc q) (entry (to-basis (T.add v w)) j)
@@ -118,15 +116,15 @@ module _ {n : ℕ} (q : ℕ) (F : IsFieldModulo (suc q)) (Γ : Group n) (D : ℕ
           (λ k. congruent_trans (combines (T.add v w) k) (congruent_trans (K.row-add v w k)
           (congruent_trans (congruent_add (congruent_sym (combines v k)) (congruent_sym (combines w k)))
           (congruent_eq ((let z : combination (entry (to-basis v)) B k + combination
-              (entry (to-basis w)) B k ≡ combination (entry (to-basis v)) B k + 1 * combination
-              (entry (to-basis w)) B k = omega arith in z)
+          (entry (to-basis w)) B k ≡ combination (entry (to-basis v)) B k + 1 * combination
+          (entry (to-basis w)) B k = omega arith in z)
           ∙ sym (combination-two 1 (entry (to-basis v)) (entry (to-basis w)) B k)))))) j
-              (subst (λ y. j < y) (sym count) d))
+          (subst (λ y. j < y) (sym count) d))
           (congruent_eq (omega arith))
       go (inr d) = congruent_eq (entry-past (to-basis (T.add v w)) (to-basis-row (T.add v w)) j d
           ∙ (let z : ◌≡◌ {A = ℕ} 0 (0 + 0) = omega arith in z)
-              ∙ sym (ap₂ ◌+◌ (entry-past (to-basis v) (to-basis-row v) j d)
-              (entry-past (to-basis w) (to-basis-row w) j d)))
+          ∙ sym (ap₂ ◌+◌ (entry-past (to-basis v) (to-basis-row v) j d)
+          (entry-past (to-basis w) (to-basis-row w) j d)))
 
   -- the coordinates in the basis
   abbrev pub basis-form : RowForm D T

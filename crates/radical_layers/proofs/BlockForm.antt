@@ -1,6 +1,5 @@
 -- Coordinates of b blocks, from those of one block and the places.
-use Rattle.std.proofs.Common.{◌≡◌, ℕ, zero, suc, ◌+◌, ◌<◌, ◌≤◌, ◌⊎◌, List, [], ◌∷◌, length, inl, inr, arith,
-    ap, ap₂, sym, ◌∙◌, refl}
+use Rattle.std.proofs.Common.{◌≡◌, ℕ, zero, suc, ◌+◌, ◌<◌, ◌≤◌, ◌⊎◌, List, [], ◌∷◌, length, inl, inr, arith, ap, ap₂, sym, ◌∙◌, refl}
 use Rattle.std.proofs.lemmas.Bool.{cases_lt}
 use Rattle.std.proofs.lemmas.List.{get_or_past}
 use Rattle.std.proofs.lemmas.Grind.{same_number_lists}
@@ -86,7 +85,7 @@ module _ {n : ℕ} (q : ℕ) (Γ : Group n) (K : RowForm n (Table q Γ 1)) (b w 
       (λ k l. let d : k < n = subst (λ m. k < m) (length-tab n (λ k. entry (to-row v) (Y.place i k).0)) l in
       entry-tab n (λ k. entry (to-row v) (Y.place i k).0) k d ∙ to-row-at v (Y.place i (k, d))
       ∙ ap₂ (λ j m. entry (K.row (part v j)) m) (Y.block-place i (k, d))
-          (ap (λ (m : Below n). m.0) (Y.member-place i (k, d))))
+      (ap (λ (m : Below n). m.0) (Y.member-place i (k, d))))
 
   pub from-to : (v : T.of) → from-row (to-row v) ≡ v
   unfolding from-row
@@ -102,11 +101,13 @@ module _ {n : ℕ} (q : ℕ) (Γ : Group n) (K : RowForm n (Table q Γ 1)) (b w 
   unfolding part-row
   to-from y r = same_number_lists (to-row (from-row y)) y ((to-row-is (from-row y)).length_is
       ∙ sym r.length_is)
-      (λ k l. let d : k < w = subst (λ m. k < m) (to-row-is (from-row y)).length_is l in let x : Below w = (k,
-          d) in
+      (λ k l. let d : k < w = subst (λ m. k < m) (to-row-is (from-row y)).length_is l in let x : Below w = (
+        k,
+        d,
+      ) in
       to-row-at (from-row y) x ∙ ap (λ u. entry u (Y.member x).0) (part-from y r (Y.block x))
       ∙ entry-tab n (λ k. entry y (Y.place (Y.block x) k).0) (Y.member x).0 (Y.member x).1
-          ∙ ap (λ (m : Below w). entry y m.0) (Y.place-at x))
+      ∙ ap (λ (m : Below w). entry y m.0) (Y.place-at x))
 
   pub to-add : (v u : T.of) (j : ℕ) → IsCongruent (suc q) (entry (to-row (T.add v u)) j)
       (entry (to-row v) j + entry (to-row u) j)

@@ -1,6 +1,5 @@
 -- The sums of the blocks of a table are linear, and a table with given sums.
-use Rattle.std.proofs.Common.{◌≡◌, ◌≢◌, ℕ, suc, ◌⊎◌, true, false, eqb, eq-eqb, inl, inr, ap, ap₂, sym, ◌∙◌,
-    refl}
+use Rattle.std.proofs.Common.{◌≡◌, ◌≢◌, ℕ, suc, ◌⊎◌, true, false, eqb, eq-eqb, inl, inr, ap, ap₂, sym, ◌∙◌, refl}
 use Rattle.std.proofs.lemmas.Bool.Decides.{eqb_tells}
 use mathlib.Core.Path.{subst, fun_ext}
 use Rattle.group_modules.specs.Module.{Module, sub, times, lin, IsLinear}
@@ -43,10 +42,10 @@ module _ {n : ℕ} (q : ℕ) (Γ : Group n) (m : ℕ) where
       lin-terms q Γ N m (delta i) v (below m)
       ∙ total-only N m (λ j. total N (below n) (part q Γ N m (delta i) v j)) i
       (λ j h. total-times q Γ N (below n) (v j) (delta i j)
-          ∙ ap (times N.add N.zero (block-sum q Γ m v j).0) (delta-off i j h)
-          ∙ times-zero N (block-sum q Γ m v j).0)
+      ∙ ap (times N.add N.zero (block-sum q Γ m v j).0) (delta-off i j h)
+      ∙ times-zero N (block-sum q Γ m v j).0)
       ∙ total-times q Γ N (below n) (v i) (delta i i)
-          ∙ ap (times N.add N.zero (block-sum q Γ m v i).0) (delta-on i)
+      ∙ ap (times N.add N.zero (block-sum q Γ m v i).0) (delta-on i)
       ∙ times-one q (block-sum q Γ m v i).0 ∙ residue-self q (block-sum q Γ m v i)
 
   pub block-is-linear : (i : Below m) → IsLinear P N (λ v. block-sum q Γ m v i)
@@ -59,13 +58,13 @@ module _ {n : ℕ} (q : ℕ) (Γ : Group n) (m : ℕ) where
   pub block-spread : (c : Below m → Below (suc q)) (i : Below m) → block-sum q Γ m (spread c) i ≡ c i
   block-spread c i =
       map-total P N (λ v. block-sum q Γ m v i) (block-is-linear i).on-add (below m)
-          (λ j. times P.add P.zero (c j).0 (unit q Γ m j))
+      (λ j. times P.add P.zero (c j).0 (unit q Γ m j))
       ∙ ap (total N (below m)) (fun_ext (λ j. map-times P N (λ v. block-sum q Γ m v i)
-          (block-is-linear i).on-add (c j).0 (unit q Γ m j)
+      (block-is-linear i).on-add (c j).0 (unit q Γ m j)
       ∙ ap (times N.add N.zero (c j).0) (sym (block-linear i (unit q Γ m j))
-          ∙ terms-unit q Γ m N (delta i) j)))
+      ∙ terms-unit q Γ m N (delta i) j)))
       ∙ total-only N m (λ j. times N.add N.zero (c j).0 (delta i j)) i
-          (λ j h. ap (times N.add N.zero (c j).0) (delta-off i j h) ∙ times-zero N (c j).0)
+      (λ j h. ap (times N.add N.zero (c j).0) (delta-off i j h) ∙ times-zero N (c j).0)
       ∙ ap (times N.add N.zero (c i).0) (delta-on i) ∙ times-one q (c i).0 ∙ residue-self q (c i)
 
   module _ (T : Module (suc q) (monoid Γ)) (rows : Below m → T.of) where
@@ -78,23 +77,30 @@ module _ {n : ℕ} (q : ℕ) (Γ : Group n) (m : ℕ) where
     pub f-spread : (c : Below m → Below (suc q)) → f (spread c) ≡ combine T m rows c
     f-spread c = map-total P T f f-linear.on-add (below m) (λ j. times P.add P.zero (c j).0 (unit q Γ m j))
         ∙ ap (total T (below m)) (fun_ext (λ j. map-times P T f f-linear.on-add (c j).0 (unit q Γ m j)
-            ∙ ap (times T.add T.zero (c j).0) (terms-unit q Γ m T rows j)))
+        ∙ ap (times T.add T.zero (c j).0) (terms-unit q Γ m T rows j)))
 
     -- where f is onto L, a member of the span of all (g - 1) v with v in L is the value at a table whose
     -- blocks have sum 0
     pub moved-value : (L : T.of → Type 0) → ((v : T.of) → L v → (u : P.of) × (f u ≡ v)) → (y : T.of)
         → Moved T L y
         → (x : P.of) × (f x ≡ y) × ((i : Below m) → block-sum q Γ m x i ≡ residue q 0)
-    moved-value L onto y none = (P.zero, map-zero P T f f-linear.on-add,
-        λ i. map-zero P N (λ v. block-sum q Γ m v i) (block-is-linear i).on-add)
+    moved-value L onto y none = (
+      P.zero,
+      map-zero P T f f-linear.on-add,
+      λ i. map-zero P N (λ v. block-sum q Γ m v i) (block-is-linear i).on-add,
+    )
     moved-value L onto y (both {x = a} {y = b} h k) = join (moved-value L onto a h) (moved-value L onto b k)
       where
         join : (x : P.of) × (f x ≡ a) × ((i : Below m) → block-sum q Γ m x i ≡ residue q 0) → (x : P.of)
             × (f x ≡ b) × ((i : Below m) → block-sum q Γ m x i ≡ residue q 0)
             → (x : P.of) × (f x ≡ T.add a b) × ((i : Below m) → block-sum q Γ m x i ≡ residue q 0)
-        join r s = (P.add r.0 s.0, f-linear.on-add r.0 s.0
-            ∙ ap₂ T.add r.1 s.1, λ i. (block-is-linear i).on-add r.0 s.0 ∙ ap₂ N.add (r.2 i) (s.2 i)
-            ∙ N.add-zero N.zero)
+        join r s = (
+          P.add r.0 s.0,
+          f-linear.on-add r.0 s.0
+              ∙ ap₂ T.add r.1 s.1,
+          λ i. (block-is-linear i).on-add r.0 s.0 ∙ ap₂ N.add (r.2 i) (s.2 i)
+              ∙ N.add-zero N.zero,
+        )
     moved-value L onto y (moved g v k) =
         let r : (u : P.of) × (f u ≡ v) = onto v k in (
           sub P (P.act g r.0) r.0,
@@ -102,5 +108,5 @@ module _ {n : ℕ} (q : ℕ) (Γ : Group n) (m : ℕ) where
               ∙ ap₂ (sub T) (f-linear.on-act g r.0 ∙ ap (T.act g) r.1) r.1,
           λ i. map-sub P N (λ v. block-sum q Γ m v i) (block-is-linear i).on-add (P.act g r.0) r.0
               ∙ ap (λ w. sub N w (block-sum q Γ m r.0 i)) ((block-is-linear i).on-act g r.0)
-                  ∙ sub-self N (block-sum q Γ m r.0 i),
+              ∙ sub-self N (block-sum q Γ m r.0 i),
         )

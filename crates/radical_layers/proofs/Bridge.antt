@@ -1,9 +1,7 @@
 -- Spans of rows and sums of tables.
-use Rattle.std.proofs.Common.{◌≡◌, ℕ, zero, suc, ◌+◌, ◌*◌, ◌-◌, ◌<◌, ◌≤◌, ◌⊎◌, List, [], ◌∷◌, ◌++◌, length,
-    map, inl, inr, arith, ap, sym, ◌∙◌, refl}
+use Rattle.std.proofs.Common.{◌≡◌, ℕ, zero, suc, ◌+◌, ◌*◌, ◌-◌, ◌<◌, ◌≤◌, ◌⊎◌, List, [], ◌∷◌, ◌++◌, length, map, inl, inr, arith, ap, sym, ◌∙◌, refl}
 use Rattle.std.proofs.lemmas.Bool.{cases_lt}
-use Rattle.std.proofs.lemmas.List.{get_or_append_left, get_or-append-add, length-append, length-map,
-    get_or-map}
+use Rattle.std.proofs.lemmas.List.{get_or_append_left, get_or-append-add, length-append, length-map, get_or-map}
 use Rattle.std.proofs.lemmas.Grind.{same_number_lists}
 use mathlib.Core.Path.{subst, fun_ext}
 use Rattle.group_modules.specs.Module.{Module, sub, times}
@@ -18,8 +16,7 @@ use Rattle.augmentation_ideal.proofs.Nakayama.{moved-times, neg-times}
 use Rattle.linear_algebra.specs.Modular.{IsCongruent, sum_below}
 use Rattle.linear_algebra.specs.Rows.{entry, row, combination, IsRow, IsMatrix, IsCombination, IsInSpan}
 use Rattle.linear_algebra.proofs.Spans.{in_span_congruent, in_span_zero, in_span_row, in_span_add}
-use Rattle.linear_algebra.proofs.Congruences.{congruent_refl, congruent_add, congruent_trans, congruent_eq,
-    congruent_sym, congruent_cancel, same_below}
+use Rattle.linear_algebra.proofs.Congruences.{congruent_refl, congruent_add, congruent_trans, congruent_eq, congruent_sym, congruent_cancel, same_below}
 use Rattle.radical_layers.specs.Coordinates.{RowForm}
 use Rattle.radical_layers.specs.Moves.{move_row, moves_by, moves}
 use Rattle.linear_algebra.proofs.GreedyChoice.{in-left, in-right}
@@ -51,19 +48,19 @@ module _ {n : ℕ} (q : ℕ) (Γ : Group n) (D : ℕ) (T : Module (suc q) (monoi
   pub at-zero : (j : ℕ) → IsCongruent (suc q) (at T.zero j) 0
   at-zero j = congruent_sym (congruent_cancel (at T.zero j) (congruent_trans (congruent_eq (omega arith))
       (congruent_trans (congruent_eq (ap (λ v. at v j) (sym (T.add-zero T.zero))))
-          (K.row-add T.zero T.zero j))))
+      (K.row-add T.zero T.zero j))))
 
   pub at-times : (k : ℕ) (v : T.of) (j : ℕ) → IsCongruent (suc q) (at (times T.add T.zero k v) j) (k * at v j)
   at-times zero v j = congruent_trans (at-zero j) (congruent_eq (omega arith))
   at-times (suc k) v j = congruent_trans (K.row-add v (times T.add T.zero k v) j)
       (congruent_trans (congruent_add (congruent_refl (at v j)) (at-times k v j))
-          (congruent_eq (omega arith)))
+      (congruent_eq (omega arith)))
 
   pub at-sub : (v w : T.of) (j : ℕ) → IsCongruent (suc q) (at (sub T v w) j) (at v j + q * at w j)
   at-sub v w j = congruent_trans (congruent_eq
       (ap (λ x. at (T.add v x) j) (sym (neg-times T (λ x. Unit {0}) w))))
       (congruent_trans (K.row-add v (times T.add T.zero q w) j)
-          (congruent_add (congruent_refl (at v j)) (at-times q w j)))
+      (congruent_add (congruent_refl (at v j)) (at-times q w j)))
 
   pub at-total : (m : ℕ) (f : Below m → T.of) (h : ℕ → ℕ) (j : ℕ)
       → ((i : Below m) → IsCongruent (suc q) (at (f i) j) (h i.0))
@@ -73,7 +70,7 @@ module _ {n : ℕ} (q : ℕ) (Γ : Group n) (D : ℕ) (T : Module (suc q) (monoi
       congruent_trans (K.row-add _ _ j)
       (congruent_trans (congruent_add (e _)
       (congruent_trans (congruent_eq (ap (λ v. at v j) (total-map T (λ i. up i) (below m) f)))
-          (at-total m (λ i. f (up i)) h j (λ i. e (up i)))))
+      (at-total m (λ i. f (up i)) h j (λ i. e (up i)))))
       (congruent_eq (omega arith)))
 
   -- tables with rows that agree modulo p are equal
@@ -93,9 +90,9 @@ module _ {n : ℕ} (q : ℕ) (Γ : Group n) (D : ℕ) (T : Module (suc q) (monoi
       → v ≡ total T (below (length E)) (λ i. times T.add T.zero (u i.0) (K.table (row E i.0)))
   from-span E m u v c = same-table v _ (λ j. congruent_trans (congruent_sym (c.each j)) (congruent_sym
       (at-total (length E) (λ i. times T.add T.zero (u i.0) (K.table (row E i.0)))
-          (λ i. u i * entry (row E i) j) j
+      (λ i. u i * entry (row E i) j) j
       (λ i. congruent_trans (at-times (u i.0) (K.table (row E i.0)) j)
-          (congruent_eq (ap (λ r. u i.0 * entry r j) (K.row-table (row E i.0) (m i.0 i.1))))))))
+      (congruent_eq (ap (λ r. u i.0 * entry r j) (K.row-table (row E i.0) (m i.0 i.1))))))))
 
   -- the sum of multiples of the tables of c rows
   abbrev pub tabs : List (List ℕ) → (ℕ → ℕ) → ℕ → T.of
@@ -106,8 +103,8 @@ module _ {n : ℕ} (q : ℕ) (Γ : Group n) (D : ℕ) (T : Module (suc q) (monoi
   at-tabs X m u c e j = congruent_trans
       (at-total c (λ i. times T.add T.zero (u i.0) (K.table (row X i.0))) (λ i. u i * entry (row X i) j) j
       (λ i. congruent_trans (at-times (u i.0) (K.table (row X i.0)) j)
-          (congruent_eq (ap (λ r. u i.0 * entry r j)
-          (K.row-table (row X i.0) (m i.0 (subst (λ k. i.0 < k) e i.1)))))))
+      (congruent_eq (ap (λ r. u i.0 * entry r j)
+      (K.row-table (row X i.0) (m i.0 (subst (λ k. i.0 < k) e i.1)))))))
       (congruent_eq (ap (λ k. sum_below k (λ i. u i * entry (row X i) j)) e))
 
   pub span-total : (R : List (List ℕ)) {A : Type 0} (xs : List A) (u : A → ℕ) (f : A → T.of)
@@ -116,11 +113,11 @@ module _ {n : ℕ} (q : ℕ) (Γ : Group n) (D : ℕ) (T : Module (suc q) (monoi
   span-total R [] u f h = in_span_congruent (λ j. congruent_sym (at-zero j)) in_span_zero
   span-total R (x ∷ xs) u f h = in_span_congruent
       (λ j. congruent_sym (congruent_trans (K.row-add _ _ j)
-          (congruent_trans (congruent_add (at-times (u x) (f x) j)
-          (congruent_refl (at (total T xs (λ i. times T.add T.zero (u i) (f i))) j)))
-          (congruent_eq (omega arith)))))
+      (congruent_trans (congruent_add (at-times (u x) (f x) j)
+      (congruent_refl (at (total T xs (λ i. times T.add T.zero (u i) (f i))) j)))
+      (congruent_eq (omega arith)))))
       (in_span_add {f = at (total T xs (λ i. times T.add T.zero (u i) (f i)))} {g = at (f x)} (u x)
-          (span-total R xs u f h) (h x))
+      (span-total R xs u f h) (h x))
 
   pub moved-total : (L : T.of → Type 0) {A : Type 0} (xs : List A) (u : A → ℕ) (f : A → T.of)
       → ((i : A) → Moved T L (f i))
@@ -140,8 +137,8 @@ module _ {n : ℕ} (q : ℕ) (Γ : Group n) (D : ℕ) (T : Module (suc q) (monoi
       go (inl m) = rw (get_or_append_left xs ys [] i m) (h i m)
       go (inr m) = let e : i ≡ length xs + (i - length xs) = omega arith in
           rw (e, get_or-append-add xs ys (i - length xs) [])
-              (k (i - length xs) (let f : length
-              (xs ++ ys) ≡ length xs + length ys = length-append xs ys in omega (arith, f, l, m)))
+          (k (i - length xs) (let f : length
+          (xs ++ ys) ≡ length xs + length ys = length-append xs ys in omega (arith, f, l, m)))
 
   each-map : (P : List ℕ → Type 0) (f : List ℕ → List ℕ) (xs : List (List ℕ))
       → ((i : ℕ) → i < length xs → P (f (row xs i))) → Each P (map f xs)
@@ -151,7 +148,7 @@ module _ {n : ℕ} (q : ℕ) (Γ : Group n) (D : ℕ) (T : Module (suc q) (monoi
 
   module _ (L : T.of → Type 0) (E : List (List ℕ)) (matrix : IsMatrix (suc q) D E)
       (members : (i : ℕ) → i < length E → L (K.table (row E i))) (spans : (v : T.of) → L v
-          → IsInSpan (suc q) E (at v)) where
+      → IsInSpan (suc q) E (at v)) where
     -- the row of a member of the span of all (g - 1) v with v in L
     abbrev IsMovedRow : List ℕ → Type 0
     IsMovedRow x = (v : T.of) × Moved T L v × (x ≡ K.row v)
@@ -161,8 +158,11 @@ module _ {n : ℕ} (q : ℕ) (Γ : Group n) (D : ℕ) (T : Module (suc q) (monoi
     moves-each [] i l = absurd (omega (arith, l))
     moves-each (g ∷ gs) i l = each-append IsMovedRow (map (move_row Γ T K g) E) (moves_by Γ T K gs E)
         (each-map IsMovedRow (move_row Γ T K g) E
-            (λ k m. (sub T (T.act g (K.table (row E k))) (K.table (row E k)),
-            moved g (K.table (row E k)) (members k m), refl)))
+        (λ k m. (
+          sub T (T.act g (K.table (row E k))) (K.table (row E k)),
+          moved g (K.table (row E k)) (members k m),
+          refl,
+        )))
         (moves-each gs) i l
 
     pub moves-matrix : IsMatrix (suc q) D (moves Γ T K E)
@@ -175,9 +175,9 @@ module _ {n : ℕ} (q : ℕ) (Γ : Group n) (D : ℕ) (T : Module (suc q) (monoi
     unfolding Each
     moved-from-span v h = subst (Moved T L) (sym (from-span (moves Γ T K E) moves-matrix h.0 v h.1))
         (moved-total L (below (length (moves Γ T K E))) (λ i. h.0 i.0)
-            (λ i. K.table (row (moves Γ T K E) i.0))
+        (λ i. K.table (row (moves Γ T K E) i.0))
         (λ i. let r : IsMovedRow (row (moves Γ T K E) i.0) = moves-each (below n) i.0 i.1 in subst (Moved T L)
-            (sym (ap K.table r.2 ∙ K.table-row r.0)) r.1))
+        (sym (ap K.table r.2 ∙ K.table-row r.0)) r.1))
 
     move-in-by : (g : Below n) (gs : List (Below n)) → In g gs → (i : ℕ) → i < length E
         → IsInSpan (suc q) (moves_by Γ T K gs E) (entry (move_row Γ T K g (row E i)))
@@ -185,8 +185,8 @@ module _ {n : ℕ} (q : ℕ) (Γ : Group n) (D : ℕ) (T : Module (suc q) (monoi
     move-in-by g (k ∷ gs) (inl e) i l = in-left (suc q) (map (move_row Γ T K k) E) (moves_by Γ T K gs E)
         (entry (move_row Γ T K g (row E i)))
         (rw e (let h : IsInSpan (suc q) (map (move_row Γ T K k) E)
-            (entry (row (map (move_row Γ T K k) E) i)) =
-            in_span_row (map (move_row Γ T K k) E) i (rw (length-map E (move_row Γ T K k)) l) in
+        (entry (row (map (move_row Γ T K k) E) i)) =
+        in_span_row (map (move_row Γ T K k) E) i (rw (length-map E (move_row Γ T K k)) l) in
         rw (get_or-map (move_row Γ T K k) E i [] [] l) at h))
     move-in-by g (k ∷ gs) (inr h) i l = in-right (suc q) (map (move_row Γ T K k) E) (moves_by Γ T K gs E)
         (entry (move_row Γ T K g (row E i))) (move-in-by g gs h i l)
@@ -199,7 +199,7 @@ module _ {n : ℕ} (q : ℕ) (Γ : Group n) (D : ℕ) (T : Module (suc q) (monoi
         (in_span_add {f = at x} {g = at y} 1 (span-from-moved x h) (span-from-moved y k))
     span-from-moved v (moved g w k) = subst (λ x. IsInSpan (suc q) (moves Γ T K E) (at x)) (sym expand)
         (span-total (moves Γ T K E) (below (length E)) (λ i. (spans w k).0 i.0)
-            (λ i. step (K.table (row E i.0))) (λ i. move-in-by g (below n) (in-below n g) i.0 i.1))
+        (λ i. step (K.table (row E i.0))) (λ i. move-in-by g (below n) (in-below n g) i.0 i.1))
       where
         step : T.of → T.of
         step x = sub T (T.act g x) x
@@ -211,6 +211,6 @@ module _ {n : ℕ} (q : ℕ) (Γ : Group n) (D : ℕ) (T : Module (suc q) (monoi
             (λ i. times T.add T.zero ((spans w k).0 i.0) (step (K.table (row E i.0))))
         expand = ap step (from-span E matrix (spans w k).0 w (spans w k).1)
             ∙ map-total T T step step-add (below (length E))
-                (λ i. times T.add T.zero ((spans w k).0 i.0) (K.table (row E i.0)))
+            (λ i. times T.add T.zero ((spans w k).0 i.0) (K.table (row E i.0)))
             ∙ ap (total T (below (length E)))
-                (fun_ext (λ i. map-times T T step step-add ((spans w k).0 i.0) (K.table (row E i.0))))
+            (fun_ext (λ i. map-times T T step step-add ((spans w k).0 i.0) (K.table (row E i.0))))

@@ -1,7 +1,6 @@
 -- Layer 0 of the layer basis has one member, of sum 1, and the others have sum 0: the sum of a block is its
 -- entry in layer 0.
-use Rattle.std.proofs.Common.{◌≡◌, ◌≢◌, ℕ, zero, suc, ◌+◌, ◌*◌, ◌<◌, ◌≤◌, ◌⊎◌, List, [], ◌∷◌, ◌++◌, length,
-    inl, inr, arith, ap, ap₂, sym, ◌∙◌, refl}
+use Rattle.std.proofs.Common.{◌≡◌, ◌≢◌, ℕ, zero, suc, ◌+◌, ◌*◌, ◌<◌, ◌≤◌, ◌⊎◌, List, [], ◌∷◌, ◌++◌, length, inl, inr, arith, ap, ap₂, sym, ◌∙◌, refl}
 use Rattle.std.proofs.lemmas.Bool.{cases_eq, cases_lt}
 use Rattle.std.proofs.Math.Nat.{zero-mod, mod-eq_of_lt}
 use Rattle.std.proofs.lemmas.List.{get_or_past}
@@ -26,14 +25,12 @@ use Rattle.linear_algebra.proofs.EchelonLists.{HasPivots-from_echelon, Combines-
 use Rattle.linear_algebra.proofs.GreedyLemmas.{greedy_is_one}
 use Rattle.radical_layers.specs.Coordinates.{RowForm}
 use Rattle.radical_layers.specs.Placing.{place_of}
-use Rattle.radical_layers.specs.LayerBasis.{Layers, AreLayers, joined, after, layer_basis, layer_sizes,
-    sizes_from, LayerBasisClaims}
+use Rattle.radical_layers.specs.LayerBasis.{Layers, AreLayers, joined, after, layer_basis, layer_sizes, sizes_from, LayerBasisClaims}
 use Rattle.linear_algebra.proofs.GreedyChoice.{in-left}
 use Rattle.radical_layers.proofs.Blocks.{block-is-linear, block-spread, spread}
 use Rattle.radical_layers.proofs.LayerLaws.{layer-spans, span-in-layer}
 use Rattle.radical_layers.proofs.LayerBasis.{joined-in}
-use Rattle.radical_layers.proofs.LayerForm.{size, layer-coordinates, layer-expand, smaller, joined-matrix,
-    basis-size}
+use Rattle.radical_layers.proofs.LayerForm.{size, layer-coordinates, layer-expand, smaller, joined-matrix, basis-size}
 
 module _ {n : ℕ} (q : ℕ) (Γ : Group n) where
   abbrev A1 : Module (suc q) (monoid Γ)
@@ -53,7 +50,7 @@ module _ {n : ℕ} (q : ℕ) (Γ : Group n) where
   radical-sum v (moved g w k) = map-sub A1 Fq sum-of (block-is-linear q Γ 1 (residue 0 0)).on-add
       (A1.act g w) w
       ∙ ap (λ x. sub Fq x (sum-of w)) ((block-is-linear q Γ 1 (residue 0 0)).on-act g w)
-          ∙ sub-self Fq (sum-of w)
+      ∙ sub-self Fq (sum-of w)
 
   -- and each table of sum 0 is one
   pub sum-radical : (v : A1.of) → sum-of v ≡ residue q 0 → Radical A1 1 v
@@ -110,7 +107,7 @@ module _ {n : ℕ} (q : ℕ) (F : IsFieldModulo (suc q)) (Γ : Group n) (K : Row
     first-pivot = go (first_place_is_pivot (suc q) (length E0) s.0 (λ i j. entry (row E0 i) j)
         (λ i. pivot (row E0 i)) (entry (K.row one-table))
         (HasPivots-from_echelon (A.powers_are 0).echelon) (Combines-from_combination s.1) 0
-            (λ j l. absurd (omega (arith, l)))
+        (λ j l. absurd (omega (arith, l)))
         (λ h. one-not-zero (sym (first one-table ∙ ap (λ (a : Below (suc q)). a.0) one-sum) ∙ same-zero h)))
       where
         s : IsInSpan (suc q) E0 (entry (K.row one-table))
@@ -137,19 +134,23 @@ module _ {n : ℕ} (q : ℕ) (F : IsFieldModulo (suc q)) (Γ : Group n) (K : Row
     other-sum : (k : ℕ) → 0 < k → k < length E0 → ε (K.table (row E0 k)) ≡ residue q 0
     other-sum k l m = below-path _ (residue q 0) (sum-row 0 k m ∙ ap (entry (row E0 k)) (sym first-pivot.1)
         ∙ (A.powers_are 0).echelon.cleared 0 k first-pivot.0 m (λ e. absurd (omega (arith, l, e)))
-            ∙ sym (zero-mod (suc q)))
+        ∙ sym (zero-mod (suc q)))
 
     in-one : (k : ℕ) → k < length E0 → ε (K.table (row E0 k)) ≡ residue q 0
         → IsInSpan (suc q) E1 (entry (row E0 k))
     in-one k l e = subst (λ x. IsInSpan (suc q) E1 (entry x))
         (K.row-table (row E0 k) ((A.powers_are 0).matrix k l))
         (layer-spans q Γ n T K 1 E1 (A.powers_are 1) (K.table (row E0 k))
-            (sum-radical q Γ (K.table (row E0 k)) e))
+        (sum-radical q Γ (K.table (row E0 k)) e))
 
     -- so the first layer has the first row alone
     alone-greedy : (k : ℕ) → suc k ≤ length E0 → IsGreedyBelow (suc q) E0 E1 (suc k) (0 ∷ [])
-    alone-greedy zero l = inr ([], refl,
-        (λ s. outside (subst (λ ys. IsInSpan (suc q) ys (entry (row E0 0))) (append-nil E1) s)), refl)
+    alone-greedy zero l = inr (
+      [],
+      refl,
+      (λ s. outside (subst (λ ys. IsInSpan (suc q) ys (entry (row E0 0))) (append-nil E1) s)),
+      refl,
+    )
       where
         append-nil : (xs : List (List ℕ)) → xs ++ [] ≡ xs
         append-nil [] = refl
@@ -159,12 +160,14 @@ module _ {n : ℕ} (q : ℕ) (F : IsFieldModulo (suc q)) (Γ : Group n) (K : Row
         outside s = one-not-zero (ap (λ (a : Below (suc q)). a.0) (sym first-sum
             ∙ radical-sum q Γ (K.table (row E0 0))
             (span-in-layer q Γ n T K 1 E1 (A.powers_are 1) (K.table (row E0 0))
-                (subst (λ x. IsInSpan (suc q) E1 (entry x))
-                (sym (K.row-table (row E0 0) ((A.powers_are 0).matrix 0 first-pivot.0))) s)))
-                ∙ zero-mod (suc q))
-    alone-greedy (suc k) l = inl (alone-greedy k (omega (arith, l)),
-        in-left (suc q) E1 (rows_at E0 (0 ∷ [])) (entry (row E0 (suc k)))
-        (in-one (suc k) l (other-sum (suc k) (omega arith) l)))
+            (subst (λ x. IsInSpan (suc q) E1 (entry x))
+            (sym (K.row-table (row E0 0) ((A.powers_are 0).matrix 0 first-pivot.0))) s)))
+            ∙ zero-mod (suc q))
+    alone-greedy (suc k) l = inl (
+      alone-greedy k (omega (arith, l)),
+      in-left (suc q) E1 (rows_at E0 (0 ∷ [])) (entry (row E0 (suc k)))
+          (in-one (suc k) l (other-sum (suc k) (omega arith) l)),
+    )
 
     first-layer : Y.positions 0 ≡ 0 ∷ []
     first-layer = greedy_is_one (suc q) E0 E1 (length E0) (Y.positions 0) (0 ∷ []) (A.positions_are 0)
@@ -193,9 +196,9 @@ module _ {n : ℕ} (q : ℕ) (F : IsFieldModulo (suc q)) (Γ : Group n) (K : Row
           radical-sum q Γ (K.table (row J k))
               (span-in-layer q Γ n T K 1 E1 (A.powers_are 1) (K.table (row J k))
               (subst (λ x. IsInSpan (suc q) E1 (entry x))
-                  (sym (K.row-table (row J k) (joined-matrix q F Γ K Y A c 1 k (omega (arith, l)))))
+              (sym (K.row-table (row J k) (joined-matrix q F Γ K Y A c 1 k (omega (arith, l)))))
               (joined-in (suc q) F Y.powers Y.positions A.positions_are (smaller q F Γ K Y A) c 1 k
-                  (omega (arith, l))))),
+              (omega (arith, l))))),
           (let z : 0 < suc k = omega arith in z),
         )
 
@@ -227,12 +230,14 @@ module _ {n : ℕ} (q : ℕ) (F : IsFieldModulo (suc q)) (Γ : Group n) (K : Row
         ap (λ (a : Below (suc q)). a.0)
         (ap ε (layer-expand q F Γ K Y A b v i)
         ∙ map-total T N ε (block-is-linear q Γ 1 (residue 0 0)).on-add (below (length B))
-            (λ k. times T.add T.zero (coef k.0) (K.table (row B k.0)))
+        (λ k. times T.add T.zero (coef k.0) (K.table (row B k.0)))
         ∙ ap (total N (below (length B)))
-            (fun_ext (λ k. map-times T N ε (block-is-linear q Γ 1 (residue 0 0)).on-add (coef k.0)
-            (K.table (row B k.0))))
-        ∙ total-only N (length B) (λ k. times N.add N.zero (coef k.0) (ε (K.table (row B k.0)))) (0,
-            positive) (λ k h. off k h (basis-sum k.0 k.1))
+        (fun_ext (λ k. map-times T N ε (block-is-linear q Γ 1 (residue 0 0)).on-add (coef k.0)
+        (K.table (row B k.0))))
+        ∙ total-only N (length B) (λ k. times N.add N.zero (coef k.0) (ε (K.table (row B k.0)))) (
+          0,
+          positive,
+        ) (λ k h. off k h (basis-sum k.0 k.1))
         ∙ on (basis-sum 0 positive))
         ∙ mod-eq_of_lt small
       where
@@ -264,14 +269,14 @@ module _ {n : ℕ} (q : ℕ) (F : IsFieldModulo (suc q)) (Γ : Group n) (K : Row
                 (sym (get_or_past ((layer-coordinates q F Γ K Y A b).row v)
                 (place_of (layer_sizes Y) b i.0 0) 0
                 (let e : length ((layer-coordinates q F Γ K Y A b).row v) ≡ n * b =
-                    ((layer-coordinates q F Γ K Y A b).row-is v).length_is in omega (arith, e, l))))
-                    (let z : 0 < suc q = omega arith in z)
+                ((layer-coordinates q F Γ K Y A b).row-is v).length_is in omega (arith, e, l))))
+                (let z : 0 < suc q = omega arith in z)
 
     -- and that place is i
     pub first-place : (b i : ℕ) → place_of (layer_sizes Y) b i 0 ≡ i
     first-place b i = subst (λ c. place_of (sizes_from Y.positions 0 c) b i 0 ≡ i) (sym has-layer.1)
         (subst (λ xs. place_of (length xs ∷ sizes_from Y.positions 1 has-layer.0) b i 0 ≡ i) (sym first-layer)
-            (let z : i * 1 + 0 ≡ i = omega arith in z))
+        (let z : i * 1 + 0 ≡ i = omega arith in z))
 
 pub layer-basis-claims : {n : ℕ} (q : ℕ) (F : IsFieldModulo (suc q)) (Γ : Group n)
     (K : RowForm n (Table q Γ 1)) (Y : Layers) → AreLayers q Γ K Y → LayerBasisClaims q Γ K Y

@@ -1,6 +1,5 @@
 -- The joined greedy lists of a descending chain of subspaces that ends at 0 are a basis of the first.
-use Rattle.std.proofs.Common.{◌≡◌, ℕ, zero, suc, ◌+◌, ◌*◌, ◌-◌, ◌<◌, ◌≤◌, ◌⊎◌, List, [], ◌++◌, length, get_or,
-    inl, inr, arith, ap, sym}
+use Rattle.std.proofs.Common.{◌≡◌, ℕ, zero, suc, ◌+◌, ◌*◌, ◌-◌, ◌<◌, ◌≤◌, ◌⊎◌, List, [], ◌++◌, length, get_or, inl, inr, arith, ap, sym}
 use Rattle.std.proofs.lemmas.Bool.{cases_lt}
 use Rattle.std.proofs.lemmas.List.{length-append, length-map, get_or_append_left, get_or-append-add}
 use mathlib.Core.Path.{subst}
@@ -8,14 +7,11 @@ use Rattle.linear_algebra.specs.Modular.{IsCongruent, IsFieldModulo}
 use Rattle.linear_algebra.specs.Rows.{entry, row, combination, IsInSpan, AreInSpan}
 use Rattle.linear_algebra.specs.Choices.{rows_at, IsGreedy}
 use Rattle.linear_algebra.proofs.Sums.{sum_below-vanishes}
-use Rattle.linear_algebra.proofs.Spans.{in_span_congruent, in_span_zero, in_span_row, in_span_add,
-    in_span_trans}
-use Rattle.linear_algebra.proofs.Congruences.{congruent_refl, congruent_add, congruent_trans, congruent_eq,
-    congruent_sym, congruent_mul_right, congruent_minus}
+use Rattle.linear_algebra.proofs.Spans.{in_span_congruent, in_span_zero, in_span_row, in_span_add, in_span_trans}
+use Rattle.linear_algebra.proofs.Congruences.{congruent_refl, congruent_add, congruent_trans, congruent_eq, congruent_sym, congruent_mul_right, congruent_minus}
 use Rattle.linear_algebra.proofs.Independence.{Independent}
 use Rattle.radical_layers.specs.LayerBasis.{joined, after}
-use Rattle.linear_algebra.proofs.GreedyChoice.{greedy-spans, greedy-independent, greedy-below, in-left,
-    in-right, in-combination}
+use Rattle.linear_algebra.proofs.GreedyChoice.{greedy-spans, greedy-independent, greedy-below, in-left, in-right, in-combination}
 use Rattle.radical_layers.proofs.Basis.{combination-append}
 
 are-in-append : (p : ℕ) (X xs ys : List (List ℕ)) → AreInSpan p X xs → AreInSpan p X ys
@@ -26,8 +22,8 @@ are-in-append p X xs ys h k i l = go (cases_lt i (length xs))
     go (inl m) = rw (get_or_append_left xs ys [] i m) (h i m)
     go (inr m) = let e : i ≡ length xs + (i - length xs) = omega (arith, m) in
         rw (e, get_or-append-add xs ys (i - length xs) [])
-            (k (i - length xs) (let f : length
-            (xs ++ ys) ≡ length xs + length ys = length-append xs ys in omega (arith, f, l, m)))
+        (k (i - length xs) (let f : length
+        (xs ++ ys) ≡ length xs + length ys = length-append xs ys in omega (arith, f, l, m)))
 
 module _ (p : ℕ) (F : IsFieldModulo p) (E : ℕ → List (List ℕ)) (pos : ℕ → List ℕ) (greedy : (i : ℕ)
     → IsGreedy p (E i) (E (suc i)) (pos i))
@@ -58,7 +54,7 @@ module _ (p : ℕ) (F : IsFieldModulo p) (E : ℕ → List (List ℕ)) (pos : �
   joined-spans (suc c) i e k l = in_span_trans
       (are-in-append p (R i ++ joined E pos (suc i) c) (E (suc i)) (R i)
       (λ a b. in-right p (R i) (joined E pos (suc i) c) (entry (row (E (suc i)) a))
-          (joined-spans c (suc i) e a b))
+      (joined-spans c (suc i) e a b))
       (λ a b. in-left p (R i) (joined E pos (suc i) c) (entry (row (R i) a)) (in_span_row (R i) a b)))
       (greedy-spans p (E i) (E (suc i)) (length (E i)) (pos i) (greedy i) k l)
 
@@ -66,8 +62,10 @@ module _ (p : ℕ) (F : IsFieldModulo p) (E : ℕ → List (List ℕ)) (pos : �
       (λ k j. entry (row (joined E pos i c) k) j)
   unfolding R
   joined-independent zero i = record { only_zero = λ u h k l. absurd (omega (arith, l)) }
-  joined-independent (suc c) i = record { only_zero = λ u h k l. go u h (joined-independent c (suc i)) k l
-      (cases_lt k (length (R i))) }
+  joined-independent (suc c) i = record {
+    only_zero = λ u h k l. go u h (joined-independent c (suc i)) k l
+        (cases_lt k (length (R i)));
+  }
     where
       J : List (List ℕ)
       J = joined E pos (suc i) c
@@ -85,15 +83,15 @@ module _ (p : ℕ) (F : IsFieldModulo p) (E : ℕ → List (List ℕ)) (pos : �
       inside u h = in_span_congruent (λ j. cancel (combination u (R i) j) (combination (v u) J j)
           (apart u h j))
           (in_span_add {f = λ j. 0} {g = combination (v u) J} (p - 1) in_span_zero
-              (in_span_trans (joined-in c (suc i)) (in-combination p (v u) J)))
+          (in_span_trans (joined-in c (suc i)) (in-combination p (v u) J)))
         where
           cancel : (a b : ℕ) → IsCongruent p (a + b) 0 → IsCongruent p (0 + (p - 1) * b) a
           cancel a b e = congruent_sym (congruent_trans
               (congruent_trans (congruent_eq (omega arith))
               (congruent_sym (congruent_add (congruent_refl a) (congruent_minus b F.above_one))))
               (congruent_trans (congruent_eq
-                  (let z : a + (b + (p - 1) * b) ≡ a + b + (p - 1) * b = omega arith in z))
-                  (congruent_add e (congruent_refl ((p - 1) * b)))))
+              (let z : a + (b + (p - 1) * b) ≡ a + b + (p - 1) * b = omega arith in z))
+              (congruent_add e (congruent_refl ((p - 1) * b)))))
 
       first-zero : (u : ℕ → ℕ) → ((j : ℕ) → IsCongruent p (combination u (R i ++ J) j) 0) → (k : ℕ)
           → k < length (R i) → IsCongruent p (u k) 0
@@ -107,13 +105,13 @@ module _ (p : ℕ) (F : IsFieldModulo p) (E : ℕ → List (List ℕ)) (pos : �
       go u h I k l (inr d) = subst (λ x. IsCongruent p (u x) 0)
           (let e : length (R i) + (k - length (R i)) ≡ k = omega (arith, d) in e)
           (I.only_zero (v u) (λ j. congruent_trans
-              (congruent_sym (congruent_trans
-              (congruent_add (vanishes j) (congruent_refl (combination (v u) J j)))
-              (congruent_eq (omega arith)))) (apart u h j))
+          (congruent_sym (congruent_trans
+          (congruent_add (vanishes j) (congruent_refl (combination (v u) J j)))
+          (congruent_eq (omega arith)))) (apart u h j))
           (k - length (R i)) (let s : length (R i ++ J) ≡ length (R i) + length J = length-append
-              (R i) J in omega (arith, s, l, d)))
+          (R i) J in omega (arith, s, l, d)))
         where
           vanishes : (j : ℕ) → IsCongruent p (combination u (R i) j) 0
           vanishes j = sum_below-vanishes p (length (R i)) (λ k. u k * entry (row (R i) k) j)
               (λ k d. congruent_trans (congruent_mul_right (entry (row (R i) k) j) (first-zero u h k d))
-                  (congruent_eq (let z : 0 * entry (row (R i) k) j ≡ 0 = omega arith in z)))
+              (congruent_eq (let z : 0 * entry (row (R i) k) j ≡ 0 = omega arith in z)))

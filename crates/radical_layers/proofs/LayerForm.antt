@@ -1,10 +1,8 @@
 -- The coordinates in the layer basis.
-use Rattle.std.proofs.Common.{◌≡◌, ◌≢◌, ℕ, zero, suc, ◌+◌, ◌-◌, ◌*◌, ◌%◌, ◌<◌, ◌≤◌, ◌⊎◌, List, [], ◌++◌,
-    length, get_or, inl, inr, eqb, cond, arith, ap, ap₂, sym, ◌∙◌, refl}
+use Rattle.std.proofs.Common.{◌≡◌, ◌≢◌, ℕ, zero, suc, ◌+◌, ◌-◌, ◌*◌, ◌%◌, ◌<◌, ◌≤◌, ◌⊎◌, List, [], ◌++◌, length, get_or, inl, inr, eqb, cond, arith, ap, ap₂, sym, ◌∙◌, refl}
 use Rattle.std.proofs.lemmas.Bool.{cases_lt}
 use Rattle.std.proofs.lemmas.Bool.Decides.{nat_tests}
-use Rattle.std.proofs.lemmas.List.{length-append, length-map, get_or_append_left, get_or-append-add,
-    get_or_past}
+use Rattle.std.proofs.lemmas.List.{length-append, length-map, get_or_append_left, get_or-append-add, get_or_past}
 use Rattle.std.proofs.Math.Nat.{zero-mod}
 use mathlib.Core.Path.{subst, fun_ext}
 use Rattle.group_modules.specs.Sums.{total, below}
@@ -37,8 +35,8 @@ matrix-append p w xs ys h k i l = go (cases_lt i (length xs))
     go (inl m) = rw (get_or_append_left xs ys [] i m) (h i m)
     go (inr m) = let e : i ≡ length xs + (i - length xs) = omega (arith, m) in
         rw (e, get_or-append-add xs ys (i - length xs) [])
-            (k (i - length xs) (let f : length
-            (xs ++ ys) ≡ length xs + length ys = length-append xs ys in omega (arith, f, l, m)))
+        (k (i - length xs) (let f : length
+        (xs ++ ys) ≡ length xs + length ys = length-append xs ys in omega (arith, f, l, m)))
 
 -- independent rows of n entries that span all such rows are n in number
 pub size-at-most : {p : ℕ} → IsFieldModulo p → (n : ℕ) (B : List (List ℕ)) → IsMatrix p n B
@@ -78,9 +76,9 @@ size-at-least {p} F n B spans = independent_le F n (length B) (λ i. (inside i).
       only_zero = λ u h i l. congruent_trans
           (congruent_sym (congruent_trans (sum_below-one p n i (λ k. u k * entry (unit-list n k) i) l
           (λ k d ne. congruent_eq (ap (λ x. u k * x) (entry-list_of n (λ j. cond (eqb j k) 1 0) i l
-              ∙ other i k (λ e. ne (sym e))) ∙ (let z : u k * 0 ≡ 0 = omega arith in z))))
+          ∙ other i k (λ e. ne (sym e))) ∙ (let z : u k * 0 ≡ 0 = omega arith in z))))
           (congruent_eq (ap (λ x. u i * x) (entry-list_of n (λ j. cond (eqb j i) 1 0) i l ∙ own i)
-              ∙ (let z : u i * 1 ≡ u i = omega arith in z))))) (h i);
+          ∙ (let z : u i * 1 ≡ u i = omega arith in z))))) (h i);
     })
     (λ i l. record { each = (inside i).1.each })
   where
@@ -94,8 +92,10 @@ size-at-least {p} F n B spans = independent_le F n (length B) (λ i. (inside i).
     small i k = let a : 1 < p = F.above_one in grind (arith, nat_tests)
 
     inside : (i : ℕ) → IsInSpan p B (entry (unit-list n i))
-    inside i = spans (unit-list n i) (record { length_is = length-list_of n (λ j. cond (eqb j i) 1 0);
-        below = λ j l. subst (λ x. x < p) (sym (entry-list_of n (λ j. cond (eqb j i) 1 0) j l)) (small j i) })
+    inside i = spans (unit-list n i) (record {
+      length_is = length-list_of n (λ j. cond (eqb j i) 1 0);
+      below = λ j l. subst (λ x. x < p) (sym (entry-list_of n (λ j. cond (eqb j i) 1 0) j l)) (small j i);
+    })
 
 module _ {n : ℕ} (q : ℕ) (F : IsFieldModulo (suc q)) (Γ : Group n) (K : RowForm n (Table q Γ 1)) (Y : Layers)
     (A : AreLayers q Γ K Y) where
@@ -110,16 +110,16 @@ module _ {n : ℕ} (q : ℕ) (F : IsFieldModulo (suc q)) (Γ : Group n) (K : Row
       (K.row-table (row (Y.powers (suc i)) k) ((A.powers_are (suc i)).matrix k l))
       (layer-spans q Γ n T K i (Y.powers i) (A.powers_are i) (K.table (row (Y.powers (suc i)) k))
       (radical-step q Γ n T K i _ (layer-members q Γ n T K (suc i) (Y.powers (suc i))
-          (A.powers_are (suc i)) k l)))
+      (A.powers_are (suc i)) k l)))
 
   pub joined-matrix : (c i : ℕ) → IsMatrix (suc q) n (joined Y.powers Y.positions i c)
   joined-matrix zero i k l = absurd (omega (arith, l))
   joined-matrix (suc c) i k l = matrix-append (suc q) n (rows_at (Y.powers i) (Y.positions i))
       (joined Y.powers Y.positions (suc i) c)
       (λ a d. let g : (row (rows_at (Y.powers i) (Y.positions i)) a ≡ row (Y.powers i)
-          (get_or (Y.positions i) a 0)) × (get_or (Y.positions i) a 0 < length (Y.powers i)) =
+      (get_or (Y.positions i) a 0)) × (get_or (Y.positions i) a 0 < length (Y.powers i)) =
       greedy-below (suc q) (Y.powers i) (Y.powers (suc i)) (length (Y.powers i)) (Y.positions i)
-          (A.positions_are i) a (subst (λ x. a < x) (length-map (Y.positions i) (row (Y.powers i))) d) in
+      (A.positions_are i) a (subst (λ x. a < x) (length-map (Y.positions i) (row (Y.powers i))) d) in
       subst (IsRow (suc q) n) (sym g.0) ((A.powers_are i).matrix (get_or (Y.positions i) a 0) g.1))
       (joined-matrix c (suc i)) k l
 
@@ -156,16 +156,18 @@ module _ {n : ℕ} (q : ℕ) (F : IsFieldModulo (suc q)) (Γ : Group n) (K : Row
   -- block i of v by the coefficients at its places
   pub layer-expand : (b : ℕ) (v : (Table q Γ b).of) (i : Below b)
       → (λ z g. v i g) ≡ total T (below (length B))
-          (λ k. times T.add T.zero (entry ((layer-coordinates b).row v) (place_of (layer_sizes Y) b i.0 k.0))
-          (K.table (row B k.0)))
+      (λ k. times T.add T.zero (entry ((layer-coordinates b).row v) (place_of (layer_sizes Y) b i.0 k.0))
+      (K.table (row B k.0)))
   layer-expand b v i =
       sym (expand q F Γ n T K B (joined-matrix Y.count 0) basis-independent basis-size (λ z g. v i g) x
-          (λ k l. ap (λ y. entry y k) (part-to q Γ one-block b (n * b) Y' v i)))
+      (λ k l. ap (λ y. entry y k) (part-to q Γ one-block b (n * b) Y' v i)))
       ∙ ap (total T (below (length B))) (fun_ext (λ k. ap (λ c. times T.add T.zero c (K.table (row B k.0)))
-      (part-row-at q Γ one-block b (n * b) Y' (to-row q Γ one-block b (n * b) Y' v) i (k.0,
-          subst (λ m. k.0 < m) basis-size k.1)
+      (part-row-at q Γ one-block b (n * b) Y' (to-row q Γ one-block b (n * b) Y' v) i (
+        k.0,
+        subst (λ m. k.0 < m) basis-size k.1,
+      )
       ∙ ap (entry (to-row q Γ one-block b (n * b) Y' v))
-          (placing-place b (layer_sizes Y) n size i (k.0, subst (λ m. k.0 < m) basis-size k.1)))))
+      (placing-place b (layer_sizes Y) n size i (k.0, subst (λ m. k.0 < m) basis-size k.1)))))
     where
       Y' : Placing b n (n * b)
       Y' = placing b (layer_sizes Y) n size

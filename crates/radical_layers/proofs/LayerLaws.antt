@@ -1,6 +1,5 @@
 -- The powers of the augmentation ideal by echelon lists: each is found from the one before, and is smaller.
-use Rattle.std.proofs.Common.{ℕ, zero, suc, ◌<◌, ◌≤◌, ◌⊎◌, List, [], ◌∷◌, length, inl, inr, arith, ap, sym,
-    ◌∙◌}
+use Rattle.std.proofs.Common.{ℕ, zero, suc, ◌<◌, ◌≤◌, ◌⊎◌, List, [], ◌∷◌, length, inl, inr, arith, ap, sym, ◌∙◌}
 use Rattle.std.proofs.lemmas.Bool.{cases_lt}
 use mathlib.Core.Path.{subst}
 use Rattle.group_modules.specs.Module.{Module, times}
@@ -42,7 +41,7 @@ module _ {n : ℕ} (q : ℕ) (Γ : Group n) (D : ℕ) (T : Module (suc q) (monoi
     pub span-in-layer : (v : T.of) → IsInSpan (suc q) E (at q Γ D T K v) → Radical T i v
     span-in-layer v s = subst (Radical T i) (sym (from-span q Γ D T K E L.matrix s.0 v s.1))
         (radical-sum i (below (length E)) (λ k. s.0 k.0) (λ k. K.table (row E k.0))
-            (λ k. layer-members k.0 k.1))
+        (λ k. layer-members k.0 k.1))
 
     row-at : (x : List ℕ) → IsRow (suc q) D x → IsInSpan (suc q) E (entry x)
         → IsInSpan (suc q) E (at q Γ D T K (K.table x))
@@ -58,11 +57,11 @@ module _ {n : ℕ} (q : ℕ) (Γ : Group n) (D : ℕ) (T : Module (suc q) (monoi
         e.matrix k l,
         moved-from-span q Γ D T K (Radical T i) E L.matrix layer-members layer-spans (K.table (row E' k))
             (subst (λ y. IsInSpan (suc q) (moves Γ T K E) (entry y))
-                (sym (K.row-table (row E' k) (e.matrix k l))) (e.spanned k l)),
+            (sym (K.row-table (row E' k) (e.matrix k l))) (e.spanned k l)),
       );
       spans = λ x s. subst (λ y. IsInSpan (suc q) E' (entry y)) (K.row-table x s.0)
           (in_span_trans e.spans (span-from-moved q Γ D T K (Radical T i) E L.matrix layer-members layer-spans
-              (K.table x) s.1));
+          (K.table x) s.1));
     }
 
 module _ {n : ℕ} (q : ℕ) (Γ : Group n) (F : IsFieldModulo (suc q)) (P : IsPrimePower q n) (b D : ℕ)
@@ -72,13 +71,13 @@ module _ {n : ℕ} (q : ℕ) (Γ : Group n) (F : IsFieldModulo (suc q)) (P : IsP
   within : AreInSpan (suc q) E E'
   within k l = subst (λ y. IsInSpan (suc q) E (entry y)) (K.row-table (row E' k) (L'.matrix k l))
       (layer-spans q Γ D (Table q Γ b) K i E L (K.table (row E' k))
-          (radical-step q Γ D (Table q Γ b) K i _ (layer-members q Γ D (Table q Γ b) K (suc i) E' L' k l)))
+      (radical-step q Γ D (Table q Γ b) K i _ (layer-members q Γ D (Table q Γ b) K (suc i) E' L' k l)))
 
   whole : length E ≤ length E' → (v : (Table q Γ b).of) → Radical (Table q Γ b) i v
       → Radical (Table q Γ b) (suc i) v
   whole l v h = span-in-layer q Γ D (Table q Γ b) K (suc i) E' L' v
       (same-dimension F E E' (echelon-independent (suc q) E' L'.echelon) within l (K.row v)
-          (layer-spans q Γ D (Table q Γ b) K i E L v h))
+      (layer-spans q Γ D (Table q Γ b) K i E L v h))
 
   -- the list of J^(i+1) is shorter than that of J^i, where this is not empty
   pub shorter : 0 < length E → length E' < length E
@@ -90,7 +89,7 @@ module _ {n : ℕ} (q : ℕ) (Γ : Group n) (F : IsFieldModulo (suc q)) (P : IsP
           (congruent_eq (sym (L.echelon.monic 0 some)
           ∙ ap (λ y. entry y (pivot (row E 0))) (sym (K.row-table (row E 0) (L.matrix 0 some)))
           ∙ ap (λ v. at q Γ D (Table q Γ b) K v (pivot (row E 0)))
-              (c.proper i (whole l) (K.table (row E 0)) (layer-members q Γ D (Table q Γ b) K i E L 0 some))))
+          (c.proper i (whole l) (K.table (row E 0)) (layer-members q Γ D (Table q Γ b) K i E L 0 some))))
           (at-zero q Γ D (Table q Γ b) K (pivot (row E 0)))))
         where
           c : RadicalClaims q Γ b

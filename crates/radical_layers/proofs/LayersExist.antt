@@ -1,6 +1,5 @@
 -- The layers exist, and are one.
-use Rattle.std.proofs.Common.{◌≡◌, ℕ, zero, suc, ◌+◌, ◌-◌, ◌<◌, ◌≤◌, ◌⊎◌, List, [], ◌∷◌, length, get_or, inl,
-    inr, arith, ap, sym, ◌∙◌, refl}
+use Rattle.std.proofs.Common.{◌≡◌, ℕ, zero, suc, ◌+◌, ◌-◌, ◌<◌, ◌≤◌, ◌⊎◌, List, [], ◌∷◌, length, get_or, inl, inr, arith, ap, sym, ◌∙◌, refl}
 use Rattle.std.proofs.lemmas.Bool.{cases_eq, cases_lt, cases_order}
 use Rattle.std.proofs.lemmas.List.{get_or_past}
 use mathlib.Core.Path.{subst, fun_ext}
@@ -52,8 +51,8 @@ module _ {n : ℕ} (q : ℕ) (F : IsFieldModulo (suc q)) (Γ : Group n) (K : Row
       positions i = greedy_is_one (suc q) (Y'.powers i) (Y'.powers (suc i)) (length (Y'.powers i))
           (Y.positions i) (Y'.positions i)
           (subst (λ E. IsGreedy (suc q) E (Y'.powers (suc i)) (Y.positions i)) (powers i)
-              (subst (λ E. IsGreedy (suc q) (Y.powers i) E (Y.positions i)) (powers (suc i))
-              (A.positions_are i)))
+          (subst (λ E. IsGreedy (suc q) (Y.powers i) E (Y.positions i)) (powers (suc i))
+          (A.positions_are i)))
           (B.positions_are i)
 
       empty : (Z : Layers) → Z.powers (after 0 Z.count) ≡ [] → length (Z.powers Z.count) ≡ 0
@@ -65,12 +64,12 @@ module _ {n : ℕ} (q : ℕ) (F : IsFieldModulo (suc q)) (Γ : Group n) (K : Row
       count (inr (inl l)) = absurd (let a : 0 < length
           (Y'.powers Y.count) = B.least Y.count l in let e : length (Y.powers Y.count) ≡ 0 = empty Y A.ends in
           let f : length (Y.powers Y.count) ≡ length (Y'.powers Y.count) = ap length (powers Y.count) in
-              omega (arith, a, e, f))
+          omega (arith, a, e, f))
       count (inr (inr l)) = absurd (let a : 0 < length
           (Y.powers Y'.count) = A.least Y'.count l in let e : length (Y'.powers Y'.count) ≡ 0 =
           empty Y' B.ends in
           let f : length (Y.powers Y'.count) ≡ length (Y'.powers Y'.count) = ap length (powers Y'.count) in
-              omega (arith, a, e, f))
+          omega (arith, a, e, f))
 
   after-last : (i k : ℕ) → IsPowerList q Γ K i [] → IsPowerList q Γ K (k + i) []
   after-last i zero h = subst (λ m. IsPowerList q Γ K m []) (let z : i ≡ 0 + i = omega arith in z) h
@@ -78,9 +77,13 @@ module _ {n : ℕ} (q : ℕ) (F : IsFieldModulo (suc q)) (Γ : Group n) (K : Row
       (let z : suc (k + i) ≡ suc k + i = omega arith in z) (one-more (k + i) (after-last i k h))
     where
       one-more : (m : ℕ) → IsPowerList q Γ K m [] → IsPowerList q Γ K (suc m) []
-      one-more m e = record { matrix = e.matrix; echelon = e.echelon;
-          members = λ j l. absurd (omega (arith, l)); spans =
-          λ x r. e.spans x (r.0, radical-step q Γ n (Table q Γ 1) K m (K.table x) r.1) }
+      one-more m e = record {
+        matrix = e.matrix;
+        echelon = e.echelon;
+        members = λ j l. absurd (omega (arith, l));
+        spans =
+            λ x r. e.spans x (r.0, radical-step q Γ n (Table q Γ 1) K m (K.table x) r.1);
+      }
 
   -- the layers from their lists
   pub layers-of-lists : (Es : List (List (List ℕ))) (xs : List (List ℕ)) → AreLayerLists q Γ K Es xs
@@ -98,8 +101,8 @@ module _ {n : ℕ} (q : ℕ) (F : IsFieldModulo (suc q)) (Γ : Group n) (K : Row
       power-at i (inl l) = A.powers_are i l
       power-at i (inr l) = subst (λ E. IsPowerList q Γ K i E) (sym (get_or_past Es i [] l))
           (subst (λ m. IsPowerList q Γ K m [])
-              (let z : (i - length Es) + length Es ≡ i = omega (arith, l) in z)
-              (after-last (length Es) (i - length Es) A.last_is))
+          (let z : (i - length Es) + length Es ≡ i = omega (arith, l) in z)
+          (after-last (length Es) (i - length Es) A.last_is))
 
       position-at : (i : ℕ) → (i < length Es) ⊎ (length Es ≤ i)
           → IsGreedy (suc q) (get_or Es i []) (get_or Es (suc i) []) (get_or xs i [])
@@ -147,13 +150,13 @@ module _ {n : ℕ} (q : ℕ) (F : IsFieldModulo (suc q)) (Γ : Group n) (K : Row
 
         go : (length (power i).0 ≡ 0) ⊎ (length (power i).0 ≡ 0 → ⊥)
             → (length (power (suc i)).0 ≤ f → ((j : ℕ) → j < suc i → 0 < length (power j).0) → (c : ℕ)
-                × (length (power c).0 ≡ 0) × ((j : ℕ) → j < c → 0 < length (power j).0))
+            × (length (power c).0 ≡ 0) × ((j : ℕ) → j < c → 0 < length (power j).0))
             → (c : ℕ) × (length (power c).0 ≡ 0) × ((j : ℕ) → j < c → 0 < length (power j).0)
         go (inl e) ih = (i, e, h)
         go (inr d) ih = ih
             (let s : length (power (suc i)).0 < length (power i).0 = (layer-claims q Γ K F P).shorter i
-                (power i).0 (power (suc i)).0 (power i).1 (power (suc i)).1
-                (let z : 0 < length (power i).0 = omega (arith, d) in z) in omega (arith, l, s))
+            (power i).0 (power (suc i)).0 (power i).1 (power (suc i)).1
+            (let z : 0 < length (power i).0 = omega (arith, d) in z) in omega (arith, l, s))
             (λ j k. before d j k (cases_eq j i))
 
     pub layers-exist : (Y : Layers) × AreLayers q Γ K Y

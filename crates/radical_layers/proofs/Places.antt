@@ -1,6 +1,5 @@
 -- The places by layer, block and position are one for each block and member.
-use Rattle.std.proofs.Common.{◌≡◌, ℕ, zero, suc, ◌+◌, ◌-◌, ◌*◌, ◌/◌, ◌%◌, ◌<◌, ◌≤◌, ◌⊎◌, List, [], ◌∷◌, inl,
-    inr, cond, ltb, arith, ap, ap₂, sym, ◌∙◌, refl}
+use Rattle.std.proofs.Common.{◌≡◌, ℕ, zero, suc, ◌+◌, ◌-◌, ◌*◌, ◌/◌, ◌%◌, ◌<◌, ◌≤◌, ◌⊎◌, List, [], ◌∷◌, inl, inr, cond, ltb, arith, ap, ap₂, sym, ◌∙◌, refl}
 use Rattle.std.proofs.lemmas.Bool.{cases_lt, lt-ltb, le-ltb}
 use Rattle.std.proofs.lemmas.Nat.{div-mul-add, mod-mul-add, div_below, div-add-mod', mul-le, mod_below}
 use Rattle.std.proofs.Math.Nat.{le_refl}
@@ -39,11 +38,11 @@ module _ (b : ℕ) where
           → place_of (s ∷ sizes) b i k < size_of (s ∷ sizes) * b
       at (inl d) ih = rw (yes k s (i * s + k) (b * s + place_of sizes b i (k - s)) d)
           (let e : (s + size_of sizes) * b ≡ b * s + size_of sizes * b = omega arith in
-              let h : i * s + k < b * s = below-product i b s k l d in omega (arith, e, h))
+          let h : i * s + k < b * s = below-product i b s k l d in omega (arith, e, h))
       at (inr d) ih = rw (otherwise k s (i * s + k) (b * s + place_of sizes b i (k - s)) d)
           (let e : (s + size_of sizes) * b ≡ b * s + size_of sizes * b = omega arith in
-              let h : place_of sizes b i (k - s) < size_of sizes * b = ih (omega (arith, m, d)) in
-              omega (arith, e, h))
+          let h : place_of sizes b i (k - s) < size_of sizes * b = ih (omega (arith, m, d)) in
+          omega (arith, e, h))
 
   block-below : (sizes : List ℕ) (x : ℕ) → x < size_of sizes * b → block_at sizes b x < b
   block-below [] x l = absurd (let e : 0 * b ≡ 0 = omega arith in omega (arith, e, l))
@@ -80,11 +79,11 @@ module _ (b : ℕ) where
           → block_at (s ∷ sizes) b (place_of (s ∷ sizes) b i k) ≡ i
       at (inl d) ih = ap (block_at (s ∷ sizes) b) (yes k s (i * s + k) (b * s + place_of sizes b i (k - s)) d)
           ∙ yes (i * s + k) (b * s) ((i * s + k) / s) (block_at sizes b (i * s + k - b * s))
-              (below-product i b s k l d) ∙ div-mul-add i s k d
+          (below-product i b s k l d) ∙ div-mul-add i s k d
       at (inr d) ih = let y : ℕ = place_of sizes b i (k - s) in
           ap (block_at (s ∷ sizes) b) (otherwise k s (i * s + k) (b * s + y) d)
           ∙ otherwise (b * s + y) (b * s) ((b * s + y) / s) (block_at sizes b (b * s + y - b * s))
-              (let h : b * s ≤ b * s + y = omega arith in h)
+          (let h : b * s ≤ b * s + y = omega arith in h)
           ∙ ap (block_at sizes b) (after-all s y) ∙ ih (omega (arith, m, d))
 
   member-place : (sizes : List ℕ) (i k : ℕ) → i < b → k < size_of sizes
@@ -98,13 +97,13 @@ module _ (b : ℕ) where
       at (inl d) ih = ap (member_at (s ∷ sizes) b)
           (yes k s (i * s + k) (b * s + place_of sizes b i (k - s)) d)
           ∙ yes (i * s + k) (b * s) ((i * s + k) % s) (s + member_at sizes b (i * s + k - b * s))
-              (below-product i b s k l d) ∙ mod-mul-add i s k d
+          (below-product i b s k l d) ∙ mod-mul-add i s k d
       at (inr d) ih = let y : ℕ = place_of sizes b i (k - s) in
           ap (member_at (s ∷ sizes) b) (otherwise k s (i * s + k) (b * s + y) d)
           ∙ otherwise (b * s + y) (b * s) ((b * s + y) % s) (s + member_at sizes b (b * s + y - b * s))
-              (let h : b * s ≤ b * s + y = omega arith in h)
+          (let h : b * s ≤ b * s + y = omega arith in h)
           ∙ ap (λ z. s + member_at sizes b z) (after-all s y) ∙ ap (λ z. s + z) (ih (omega (arith, m, d)))
-              ∙ (let e : s + (k - s) ≡ k = omega (arith, d) in e)
+          ∙ (let e : s + (k - s) ≡ k = omega (arith, d) in e)
 
   place-at : (sizes : List ℕ) (x : ℕ) → x < size_of sizes * b
       → place_of sizes b (block_at sizes b x) (member_at sizes b x) ≡ x
@@ -117,24 +116,28 @@ module _ (b : ℕ) where
       at (inl d) ih = ap₂ (place_of (s ∷ sizes) b) (yes x (b * s) (x / s) (block_at sizes b (x - b * s)) d)
           (yes x (b * s) (x % s) (s + member_at sizes b (x - b * s)) d)
           ∙ yes (x % s) s (x / s * s + x % s) (b * s + place_of sizes b (x / s) (x % s - s))
-              (mod_below x s (positive x b s d)) ∙ div-add-mod' x s
+          (mod_below x s (positive x b s d)) ∙ div-add-mod' x s
       at (inr d) ih = let i : ℕ = block_at sizes b (x - b * s) in let k : ℕ = member_at sizes b (x - b * s) in
           ap₂ (place_of (s ∷ sizes) b) (otherwise x (b * s) (x / s) i d)
-              (otherwise x (b * s) (x % s) (s + k) d)
+          (otherwise x (b * s) (x % s) (s + k) d)
           ∙ otherwise (s + k) s (i * s + (s + k)) (b * s + place_of sizes b i (s + k - s))
-              (let h : s ≤ s + k = omega arith in h)
+          (let h : s ≤ s + k = omega arith in h)
           ∙ ap (λ z. b * s + place_of sizes b i z) (let e : s + k - s ≡ k = omega arith in e)
-              ∙ ap (λ z. b * s + z) (ih (rest-below x b s (size_of sizes) l d))
+          ∙ ap (λ z. b * s + z) (ih (rest-below x b s (size_of sizes) l d))
           ∙ (let e : b * s + (x - b * s) ≡ x = omega (arith, d) in e)
 
   -- the places by layers of these sizes
   pub placing : (sizes : List ℕ) (n : ℕ) → size_of sizes ≡ n → Placing b n (n * b)
   placing sizes n e = record {
-    place = λ i k. (place_of sizes b i.0 k.0,
-        subst (λ m. place_of sizes b i.0 k.0 < m * b) e (place-below sizes i.0 k.0 i.1 (member k)));
+    place = λ i k. (
+      place_of sizes b i.0 k.0,
+      subst (λ m. place_of sizes b i.0 k.0 < m * b) e (place-below sizes i.0 k.0 i.1 (member k)),
+    );
     block = λ x. (block_at sizes b x.0, block-below sizes x.0 (inside x));
-    member = λ x. (member_at sizes b x.0,
-        subst (λ m. member_at sizes b x.0 < m) e (member-below sizes x.0 (inside x)));
+    member = λ x. (
+      member_at sizes b x.0,
+      subst (λ m. member_at sizes b x.0 < m) e (member-below sizes x.0 (inside x)),
+    );
     block-place = λ i k. below-path _ i (block-place sizes i.0 k.0 i.1 (member k));
     member-place = λ i k. below-path _ k (member-place sizes i.0 k.0 i.1 (member k));
     place-at = λ x. below-path _ x (place-at sizes x.0 (inside x));

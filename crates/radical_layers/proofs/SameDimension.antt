@@ -1,14 +1,12 @@
 -- A subspace with at least as many independent members as a list that spans the whole is the whole.
-use Rattle.std.proofs.Common.{◌≡◌, ◌≢◌, ℕ, suc, ◌+◌, ◌*◌, ◌%◌, ◌<◌, ◌≤◌, ◌⊎◌, List, [], ◌∷◌, ◌++◌, length,
-    inl, inr, arith, ap, sym, ◌∙◌}
+use Rattle.std.proofs.Common.{◌≡◌, ◌≢◌, ℕ, suc, ◌+◌, ◌*◌, ◌%◌, ◌<◌, ◌≤◌, ◌⊎◌, List, [], ◌∷◌, ◌++◌, length, inl, inr, arith, ap, sym, ◌∙◌}
 use Rattle.std.proofs.lemmas.Bool.{cases_eq, cases_lt}
 use Rattle.std.proofs.lemmas.List.{length_push, get_or_past}
 use Rattle.std.proofs.Math.Nat.{zero-mod}
 use mathlib.Core.Path.{subst}
 use Rattle.linear_algebra.specs.Modular.{IsCongruent, IsFieldModulo, sum_below}
 use Rattle.linear_algebra.specs.Rows.{entry, row, IsRow, IsMatrix, IsEchelon, IsInSpan, AreInSpan}
-use Rattle.linear_algebra.proofs.Congruences.{congruent_refl, congruent_add, congruent_trans, congruent_eq,
-    congruent_sym, congruent_mul_right}
+use Rattle.linear_algebra.proofs.Congruences.{congruent_refl, congruent_add, congruent_trans, congruent_eq, congruent_sym, congruent_mul_right}
 use Rattle.linear_algebra.proofs.Sums.{sum_below-same, sum_below-vanishes}
 use Rattle.linear_algebra.proofs.Pivots.{Combines, coefficient_at_pivot}
 use Rattle.linear_algebra.proofs.Dimension.{Dependence, dependent}
@@ -29,7 +27,7 @@ pub from-dependence : {p : ℕ} (F : IsFieldModulo p) (E' : List (List ℕ))
     (I : Independent p (length E') (λ i j. entry (row E' i) j)) (x : List ℕ)
     (a : ℕ → ℕ) (t : ℕ) → t < suc (length E') → a t % p ≢ 0
     → ((j : ℕ) → IsCongruent p (sum_below (suc (length E')) (λ i. a i * entry (row (E' ++ x ∷ []) i) j)) 0)
-        → IsInSpan p E' (entry x)
+    → IsInSpan p E' (entry x)
 from-dependence {p} F E' I x a t below nonzero all-zero = last (cases_eq (a m % p) 0)
   where
     m : ℕ
@@ -60,7 +58,7 @@ from-dependence {p} F E' I x a t below nonzero all-zero = last (cases_eq (a m % 
         first-zero j = congruent_trans (congruent_eq (omega arith))
             (congruent_trans (congruent_add (congruent_refl (sum_below m (λ i. a i * entry (row E' i) j)))
             (congruent_sym (congruent_trans (congruent_mul_right (entry x j) none)
-                (congruent_eq (let k : 0 * entry x j ≡ 0 = omega arith in k))))) (zero-sum j))
+            (congruent_eq (let k : 0 * entry x j ≡ 0 = omega arith in k))))) (zero-sum j))
 
         place : (t < m) ⊎ (m ≤ t) → a t % p ≡ 0
         place (inl b) = (I.only_zero a first-zero t b).same_remainder ∙ zero-mod p
@@ -105,13 +103,13 @@ module _ {p : ℕ} (F : IsFieldModulo p) (E E' : List (List ℕ))
       go : Dependence p (suc (length E')) (length E) C → IsInSpan p E' (entry x)
       go D = from-dependence F E' I x D.coefficients D.place D.below D.nonzero
           (λ j. congruent_trans (congruent_sym
-              ((combine_combinations p (suc (length E')) (length E) D.coefficients C
-              (λ k j. entry (row E k) j) (λ i j. entry (row V i) j)
+          ((combine_combinations p (suc (length E')) (length E) D.coefficients C
+          (λ k j. entry (row E k) j) (λ i j. entry (row V i) j)
           (λ i b. right i (subst (λ k. i < k) (sym size) b))).each j))
           (sum_below-vanishes p (length E)
-              (λ k. sum_below (suc (length E')) (λ i. D.coefficients i * C i k) * entry (row E k) j)
+          (λ k. sum_below (suc (length E')) (λ i. D.coefficients i * C i k) * entry (row E k) j)
           (λ k b. congruent_trans (congruent_mul_right (entry (row E k) j) (D.vanishes k b))
-              (congruent_eq (omega arith)))))
+          (congruent_eq (omega arith)))))
 
 -- as many independent rows as there are places span every row
 pub full : {p : ℕ} (F : IsFieldModulo p) (width : ℕ) (E' : List (List ℕ)) → IsMatrix p width E'

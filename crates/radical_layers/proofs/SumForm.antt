@@ -1,7 +1,6 @@
 -- The coordinates of the group algebra: first the sum of the coefficients, then those of the elements 1, 2
 -- and so on.
-use Rattle.std.proofs.Common.{◌≡◌, ◌≢◌, ℕ, suc, ◌+◌, ◌<◌, ◌≤◌, ◌⊎◌, List, length, Bool, true, false, inl, inr,
-    eqb, arith, ap, ap₂, sym, ◌∙◌, refl}
+use Rattle.std.proofs.Common.{◌≡◌, ◌≢◌, ℕ, suc, ◌+◌, ◌<◌, ◌≤◌, ◌⊎◌, List, length, Bool, true, false, inl, inr, eqb, arith, ap, ap₂, sym, ◌∙◌, refl}
 use Rattle.std.proofs.lemmas.Bool.{cases_lt}
 use Rattle.std.proofs.lemmas.Bool.Decides.{eqb_tells}
 use Rattle.std.proofs.lemmas.List.{get_or_past}
@@ -67,13 +66,13 @@ module _ {n : ℕ} (q : ℕ) (Γ : Group n) (some : 0 < n) where
   total-split : (f : Below n → Below (suc q)) → total N (below n) f ≡ N.add (rest f) (f origin)
   total-split f =
       ap (total N (below n)) (fun_ext (by-zero
-          (λ g. f g ≡ N.add (at-zero g (residue q 0) (f g)) (at-zero g (f g) (residue q 0)))
+      (λ g. f g ≡ N.add (at-zero g (residue q 0) (f g)) (at-zero g (f g) (residue q 0)))
       (sym (zero-add N (f origin)))
       (λ g h. sym (ap₂ N.add (choose-other g (residue q 0) (f g) h) (choose-other g (f g) (residue q 0) h)
-          ∙ N.add-zero (f g)))))
+      ∙ N.add-zero (f g)))))
       ∙ total-add N (below n) (λ g. at-zero g (residue q 0) (f g)) (λ g. at-zero g (f g) (residue q 0))
       ∙ ap (N.add (rest f)) (total-only N n (λ g. at-zero g (f g) (residue q 0)) origin
-          (λ g h. choose-other g (f g) (residue q 0) h))
+      (λ g h. choose-other g (f g) (residue q 0) h))
 
   rest-same : (f k : Below n → Below (suc q)) → ((g : Below n) → g.0 ≢ 0 → f g ≡ k g) → rest f ≡ rest k
   rest-same f k h = ap (total N (below n))
@@ -110,34 +109,34 @@ module _ {n : ℕ} (q : ℕ) (Γ : Group n) (some : 0 < n) where
   pub from-to : (v : T.of) → from-row (to-row v) ≡ v
   from-to v = fun_ext (λ z. fun_ext (by-zero (λ g. from-row (to-row v) z g ≡ v z g)
       (ap₂ (sub N) (value-to v origin) (rest-same (value (to-row v)) (v only) (λ g h. value-to v g
-          ∙ choose-other g (ε v) (v only g) h))
+      ∙ choose-other g (ε v) (v only g) h))
       ∙ ap (λ a. sub N a (rest (v only))) (total-split (v only) ∙ N.add-comm (rest (v only)) (v only origin))
-          ∙ N.add-assoc (v only origin) (rest (v only)) (N.neg (rest (v only)))
+      ∙ N.add-assoc (v only origin) (rest (v only)) (N.neg (rest (v only)))
       ∙ ap (N.add (v only origin)) (N.add-neg (rest (v only))) ∙ N.add-zero (v only origin)
-          ∙ ap (λ y. v y origin) (alone z))
+      ∙ ap (λ y. v y origin) (alone z))
       (λ g h. choose-other g (sub N (value (to-row v) origin) (rest (value (to-row v))))
-          (value (to-row v) g) h ∙ value-to v g ∙ choose-other g (ε v) (v only g) h
-          ∙ ap (λ y. v y g) (alone z))))
+      (value (to-row v) g) h ∙ value-to v g ∙ choose-other g (ε v) (v only g) h
+      ∙ ap (λ y. v y g) (alone z))))
 
   sum-from : (x : List ℕ) → ε (from-row x) ≡ value x origin
   sum-from x = total-split (from-row x only)
       ∙ ap (λ a. N.add a (sub N (value x origin) (rest (value x))))
-          (rest-same (from-row x only) (value x)
-          (λ g h. choose-other g (sub N (value x origin) (rest (value x))) (value x g) h))
+      (rest-same (from-row x only) (value x)
+      (λ g h. choose-other g (sub N (value x origin) (rest (value x))) (value x g) h))
       ∙ N.add-comm (rest (value x)) (sub N (value x origin) (rest (value x)))
-          ∙ sub-back N (value x origin) (rest (value x))
+      ∙ sub-back N (value x origin) (rest (value x))
 
   pub to-from : (x : List ℕ) → IsRow (suc q) n x → to-row (from-row x) ≡ x
   to-from x r = same_number_lists (to-row (from-row x)) x ((to-row-is (from-row x)).length_is
       ∙ sym r.length_is)
       (λ k l. let d : k < n = subst (λ m. k < m) (to-row-is (from-row x)).length_is l in
       to-row-at (from-row x) (k, d) ∙ ap (λ (a : Below (suc q)). a.0) (whole (k, d))
-          ∙ mod-eq_of_lt (r.below k d))
+      ∙ mod-eq_of_lt (r.below k d))
     where
       whole : (g : Below n) → at-zero g (ε (from-row x)) (from-row x only g) ≡ value x g
       whole = by-zero (λ g. at-zero g (ε (from-row x)) (from-row x only g) ≡ value x g) (sum-from x)
           (λ g h. choose-other g (ε (from-row x)) (from-row x only g) h
-              ∙ choose-other g (sub N (value x origin) (rest (value x))) (value x g) h)
+          ∙ choose-other g (sub N (value x origin) (rest (value x))) (value x g) h)
 
   pub to-add : (v w : T.of) (j : ℕ) → IsCongruent (suc q) (entry (to-row (T.add v w)) j)
       (entry (to-row v) j + entry (to-row w) j)
@@ -153,22 +152,28 @@ module _ {n : ℕ} (q : ℕ) (Γ : Group n) (some : 0 < n) where
           (at-zero g (ε w) (w only g)))
           (total-add N (below n) (v only) (w only))
           (λ g h. choose-other g (ε (T.add v w)) (T.add v w only g) h
-              ∙ sym (ap₂ N.add (choose-other g (ε v) (v only g) h) (choose-other g (ε w) (w only g) h)))
+          ∙ sym (ap₂ N.add (choose-other g (ε v) (v only g) h) (choose-other g (ε w) (w only g) h)))
 
       go : (j < n) ⊎ (n ≤ j) → IsCongruent (suc q) (entry (to-row (T.add v w)) j)
           (entry (to-row v) j + entry (to-row w) j)
       go (inl d) = congruent_trans (congruent_eq (to-row-at (T.add v w) (j, d)
           ∙ ap (λ (a : Below (suc q)). a.0) (whole (j, d))))
           (congruent_trans (congruent_mod
-              ((at-zero (j, d) (ε v) (v only (j, d))).0 + (at-zero (j, d) (ε w) (w only (j, d))).0))
+          ((at-zero (j, d) (ε v) (v only (j, d))).0 + (at-zero (j, d) (ε w) (w only (j, d))).0))
           (congruent_eq (sym (ap₂ ◌+◌ (to-row-at v (j, d)) (to-row-at w (j, d))))))
       go (inr d) = congruent_eq (past (T.add v w) d ∙ (let z : ◌≡◌ {A = ℕ} 0 (0 + 0) = omega arith in z)
           ∙ sym (ap₂ ◌+◌ (past v d) (past w d)))
 
   -- first the sum, then the coefficients of the elements other than 0
   pub sum-form : RowForm n T
-  sum-form = record { table = from-row; row = to-row; row-is = to-row-is; table-row = from-to;
-      row-table = to-from; row-add = to-add }
+  sum-form = record {
+    table = from-row;
+    row = to-row;
+    row-is = to-row-is;
+    table-row = from-to;
+    row-table = to-from;
+    row-add = to-add;
+  }
 
   pub sum-first : (v : T.of) → entry (sum-form.row v) 0 ≡ (ε v).0
   unfolding sum-form

@@ -80,7 +80,7 @@ module _ {n : ℕ} (q : ℕ) (F : IsFieldModulo (suc q)) (Γ : Group n) (K : Row
     own-block = C.expand b v i
         ∙ total-only regular (length B) (term i) k (λ k' d. term-zero i k' (λ e. d (same-member i k' e)))
         ∙ ap (λ c. times regular.add regular.zero c (K.table (row B k.0)))
-            (ap (λ x. entry x (at-place i k)) row-v ∙ entry_unit_same (n * b) (at-place i k) inside)
+        (ap (λ x. entry x (at-place i k)) row-v ∙ entry_unit_same (n * b) (at-place i k) inside)
         ∙ regular.add-zero (K.table (row B k.0))
 
     pub other-block : (i' : Below b) → i'.0 ≢ i.0 → (λ z g. v i' g) ≡ regular.zero
@@ -90,16 +90,16 @@ module _ {n : ℕ} (q : ℕ) (F : IsFieldModulo (suc q)) (Γ : Group n) (K : Row
     -- the value of a linear map there: member k of the layer basis times row i
     pub unit-value : (M : Module (suc q) (monoid Γ)) (u : Below b → M.of)
         → lin M u (terms q Γ b v) ≡ total M (below n)
-            (λ g. times M.add M.zero (K.table (row B k.0) (residue 0 0) g).0 (M.act g (u i)))
+        (λ g. times M.add M.zero (K.table (row B k.0) (residue 0 0) g).0 (M.act g (u i)))
     unit-value M u = lin-terms q Γ M b u v (below b)
         ∙ total-only M b (λ j. total M (below n) (part q Γ M b u v j)) i
         (λ j d. total-zero M (below n) (part q Γ M b u v j) (λ g.
         ap (λ (c : Below (suc q)). times M.add M.zero c.0 (M.act g (u j)))
-            (ap (λ (x : (Table q Γ 1).of). x (residue 0 0) g) (other-block j d))
-            ∙ times-mod M 0 (M.act g (u j))))
+        (ap (λ (x : (Table q Γ 1).of). x (residue 0 0) g) (other-block j d))
+        ∙ times-mod M 0 (M.act g (u j))))
         ∙ ap (total M (below n)) (fun_ext
-            (λ g. ap (λ (c : Below (suc q)). times M.add M.zero c.0 (M.act g (u i)))
-            (ap (λ (x : (Table q Γ 1).of). x (residue 0 0) g) own-block)))
+        (λ g. ap (λ (c : Below (suc q)). times M.add M.zero c.0 (M.act g (u i)))
+        (ap (λ (x : (Table q Γ 1).of). x (residue 0 0) g) own-block)))
 
 pub unit-claims : {n : ℕ} (q : ℕ) (F : IsFieldModulo (suc q)) (Γ : Group n) (K : RowForm n (Table q Γ 1))
     (Y : Layers) (A : AreLayers q Γ K Y) (C : LayerBasisClaims q Γ K Y)

@@ -78,8 +78,8 @@ pub record LayerBasisClaims {n : ℕ} (q : ℕ) (Γ : Group n) (K : RowForm n (T
       → (λ z g. v i g)
       ≡ total (Table q Γ 1) (below (length (layer_basis Y)))
       (λ k. times (Table q Γ 1).add (Table q Γ 1).zero
-          (entry ((coordinates b).row v) (place_of (layer_sizes Y) b i.0 k.0))
-          (K.table (row (layer_basis Y) k.0)))
+      (entry ((coordinates b).row v) (place_of (layer_sizes Y) b i.0 k.0))
+      (K.table (row (layer_basis Y) k.0)))
   -- the sum of block i is the entry at place i
   pub sums : SumFirst q Γ K → 0 < n → (b : ℕ) (v : (Table q Γ b).of) (i : Below b)
       → (block-sum q Γ b v i).0 ≡ entry ((coordinates b).row v) i.0

@@ -10,7 +10,7 @@ returns-clause-value c h inverse =
     let L : IsGroup (order G) (product G) = subst IsGroupTable c.self.view_is c.self.invariant in
     let same : c.inv.result ≡ h =
     inverse-unique L c.args.g c.inv.result h c.requires.by c.inv.ensures.below inverse.below
-        c.inv.ensures.left inverse.right in
+    c.inv.ensures.left inverse.right in
     c.mul-2.ensures.value
     ∙ ap (λ y. product G y c.args.g) (c.mul.ensures.value ∙ ap (λ y. product G y c.args.x) same)
 
@@ -19,6 +19,6 @@ returns-clause-moved c =
     let G = c.args.self.now in
     let L : IsGroup (order G) (product G) = subst IsGroupTable c.self.view_is c.self.invariant in
     ap (λ y. product G c.args.g y) (c.mul-2.ensures.value
-        ∙ ap (λ y. product G y c.args.g) c.mul.ensures.value)
+    ∙ ap (λ y. product G y c.args.g) c.mul.ensures.value)
     ∙ conjugate-moved L c.args.g c.inv.result c.args.x c.requires.by c.inv.ensures.below c.requires.element
-        c.inv.ensures.right
+    c.inv.ensures.right
