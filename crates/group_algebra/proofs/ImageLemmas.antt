@@ -56,14 +56,19 @@ module _ (G : PGroup) where
   pub row-back : (b : ℕ) (x : List ℕ) (v : (M b).of) → IsRow G.table.p (n * b) x → table_of G b x ≡ v → x ≡ row_of G b v
   row-back b x v r e = sym ((layer_coordinates G b).row-table x (residue-row G r)) ∙ ap (row_of G b) e
 
-  pub zero-table : (b : ℕ) → table_of G b (replicate (n * b) 0) ≡ (M b).zero
-  zero-table b = ap (table_of G b) (sym zero-row) ∙ (layer_coordinates G b).table-row (M b).zero
+  -- the row of 0
+  pub zero-row : (b : ℕ) → row_of G b (M b).zero ≡ replicate (n * b) 0
+  zero-row b = same_number_lists (row_of G b (M b).zero) (replicate (n * b) 0)
+      (r.length_is ∙ sym (length-replicate (n * b) 0))
+      (λ j l. let m : j < n * b = (let e : length (row_of G b (M b).zero) ≡ n * b = r.length_is in omega (arith, e, l)) in
+      same_below (at-zero q (group G) (n * b) (M b) (layer_coordinates G b) j) (r.below j m) (let z : 0 < suc q = omega arith in z)
+      ∙ sym (get_or-replicate (n * b) j 0 0 m))
     where
-      zero-row : row_of G b (M b).zero ≡ replicate (n * b) 0
-      zero-row = same_number_lists (row_of G b (M b).zero) (replicate (n * b) 0) (((layer_coordinates G b).row-is (M b).zero).length_is ∙ sym (length-replicate (n * b) 0))
-          (λ j l. let m : j < n * b = (let e : length (row_of G b (M b).zero) ≡ n * b = ((layer_coordinates G b).row-is (M b).zero).length_is in omega (arith, e, l)) in
-          same_below (at-zero q (group G) (n * b) (M b) (layer_coordinates G b) j) (((layer_coordinates G b).row-is (M b).zero).below j m) (let z : 0 < suc q = omega arith in z)
-          ∙ sym (get_or-replicate (n * b) j 0 0 m))
+      r : IsRow (suc q) (n * b) (row_of G b (M b).zero)
+      r = (layer_coordinates G b).row-is (M b).zero
+
+  pub zero-table : (b : ℕ) → table_of G b (replicate (n * b) 0) ≡ (M b).zero
+  zero-table b = ap (table_of G b) (sym (zero-row b)) ∙ (layer_coordinates G b).table-row (M b).zero
 
   -- a row that gained the images of the blocks
   pub image-gained : (f : (M 1).of → (M 1).of) → IsAdditive (M 1) (M 1) f → (R : ℕ → List ℕ) → ((k : ℕ) → k < n → R k ≡ row_of G 1 (f (member G k)))

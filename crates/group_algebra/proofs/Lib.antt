@@ -12,3 +12,4 @@ pub mod LayerSizes
 pub mod ElementRows
 pub mod TableLemmas
 pub mod ImageLemmas
+pub mod BlockSums

@@ -1,11 +1,12 @@
 //! The group algebra of a p-group.
 
-ghost use Rattle.std.specs.Prelude.{◌≡◌, ◌*◌, ◌^◌, ◌<◌, ℕ, length, slice_index, IfOk};
+ghost use Rattle.std.specs.Prelude.{◌≡◌, ◌*◌, ◌^◌, ◌<◌, ℕ, List, length, slice_index, IfOk};
 ghost use Rattle.group_modules.specs.Tables.{block-sum};
 ghost use Rattle.radical_layers.specs.Placing.{place_of};
 ghost use Rattle.fp_rows.specs.Refs.{entries_of, modulus_of};
 ghost use Rattle.p_groups.specs.PGroups.{largest_residue, group as group_of, order_of, prime_of};
 ghost use Rattle.group_algebra.specs.Coordinates.{free_module, layers, sizes, row_of, table_of, product_with, AreCoefficients};
+ghost use Rattle.group_algebra.specs.RowMaps.{map_row, IsBlock};
 
 use crate::combinations::{Images, add_image};
 use crate::layers::layer_basis;
@@ -32,6 +33,14 @@ pub struct Algebra {
     // The layer coordinates of g times member k at the position k n + g, and of member k times member l at k n + l.
     translates: Matrix,
     products: Matrix,
+}
+
+/// One of the blocks of a row of a free module, as a member of kG.
+#[derive(Clone, Copy)]
+struct Block<'a> {
+    row: RowRef<'a>,
+    count: usize,
+    index: usize,
 }
 
 impl Model for Algebra {
@@ -178,6 +187,59 @@ impl Algebra {
             ((free_module self.now rank).add (table_of self.now rank out.old.entries)
             (product_with self.now rank (table_of self.now 1 (entries_of a.entry)) (table_of self.now rank (entries_of v.entry)))) }
     {
+        let _length = a.len();
+        self.add_product(
+            rank,
+            Block {
+                row: a,
+                count: 1,
+                index: 0,
+            },
+            v,
+            out,
+        );
+    }
+
+    /// Writes the value at v of the linear map to kG^rank that takes basis element k to row k, from the free
+    /// module with one basis element for each row.
+    pub fn apply(&self, rank: usize, rows: &Matrix, v: RowRef<'_>, out: &mut Row)
+        requires rows_prime { rows.now.p ≡ prime_of self.now }
+        requires primes { (modulus_of v ≡ prime_of self.now) × (out.old.p ≡ prime_of self.now) }
+        requires rows_width { rows.now.width ≡ order_of self.now * rank }
+        requires fits { order_of self.now * length rows.now.rows < 2 ^ 64 }
+        requires argument { length (entries_of v) ≡ order_of self.now * length rows.now.rows }
+        requires out_length { length out.old.entries ≡ order_of self.now * rank }
+        ensures prime { out.new.p ≡ out.old.p }
+        ensures value { out.new.entries ≡ map_row self.now rank rows.now.rows (entries_of v.entry) }
+    {
+        let count = rows.rows();
+        out.clear();
+        for (index, row) in rows.iter().enumerate() {
+            let block = Block {
+                row: v,
+                count,
+                index,
+            };
+            self.add_product(rank, block, row.view(), out);
+        }
+    }
+
+    // Adds the product of a block of a row, read in place as a member of kG, and a member v of kG^rank.
+    fn add_product(&self, rank: usize, a: Block<'_>, v: RowRef<'_>, out: &mut Row)
+        requires inside { a.index < a.count }
+        requires fits { order_of self.now * a.count < 2 ^ 64 }
+        requires moduli { (modulus_of a.row ≡ prime_of self.now) × (modulus_of v ≡ prime_of self.now) }
+        requires prime { out.old.p ≡ prime_of self.now }
+        requires factor_length { length (entries_of a.row) ≡ order_of self.now * a.count }
+        requires length { length (entries_of v) ≡ order_of self.now * rank }
+        requires out_length { length out.old.entries ≡ order_of self.now * rank }
+        ensures prime { out.new.p ≡ out.old.p }
+        ensures gained { (b : List ℕ) → IsBlock self.now a.entry.count a.entry.index (entries_of a.entry.row) b
+            → out.new.entries
+            ≡ row_of self.now rank
+            ((free_module self.now rank).add (table_of self.now rank out.old.entries)
+            (product_with self.now rank (table_of self.now 1 b) (table_of self.now rank (entries_of v.entry)))) }
+    {
         let _length = v.len();
         prove!(out.len() == v.len());
         let n = self.group.order() as usize;
@@ -187,7 +249,8 @@ impl Algebra {
                 first: k * n,
                 step: 1,
             };
-            add_image(&self.places, images, rank, a.get(k), v, out);
+            let c = a.row.get(self.place(a.count, a.index, k));
+            add_image(&self.places, images, rank, c, v, out);
         }
     }
 }
