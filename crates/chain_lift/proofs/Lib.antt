@@ -1,4 +1,3 @@
-pub mod RowSums
 pub mod Stages
 pub mod LiftRows
 pub mod Pairings

@@ -13,7 +13,8 @@ use Rattle.fp_rows.specs.Values.{MatrixValue}
 use Rattle.p_groups.specs.PGroups.{PGroup, largest_residue, group}
 use Rattle.p_groups.proofs.Fields.{residues, field}
 use Rattle.group_algebra.specs.Coordinates.{free_module, layer_coordinates, table_of, row_of}
-use Rattle.min_res.specs.Stages.{stage_rows, stage_rows_are, rank_of}
+use Rattle.min_res.specs.Stages.{stage_rows, rank_of}
+use Rattle.min_res.proofs.StageRows.{stage_rows_are}
 use Rattle.min_res.specs.Values.{StageValue}
 use Rattle.min_res.specs.Defined.{InK, IsStageAt, σ}
 use Rattle.min_res.proofs.StageReadings.{width, section-value}
@@ -21,7 +22,9 @@ use Rattle.chain_maps.specs.Lifts.{ahead, lift}
 use Rattle.chain_maps.specs.Vectors.{vector}
 use Rattle.chain_maps.specs.Claims.{lift_map, LiftClaims}
 use Rattle.chain_maps.proofs.ChainMaps.{lift-claims}
-use Rattle.chain_lift.specs.RowMaps.{map_row, image_row, section_of, multiple_of_one}
+use Rattle.group_algebra.specs.RowMaps.{map_row}
+use Rattle.min_res.proofs.MapRows.{map-by}
+use Rattle.chain_lift.specs.RowMaps.{image_row, section_of, multiple_of_one}
 use Rattle.chain_lift.specs.Maps.{lift_row, IsLiftMap}
 use Rattle.chain_lift.proofs.Stages.{image-is}
 
@@ -35,18 +38,6 @@ module _ (G : PGroup) where
   abbrev S : StageRows
   S = stage_rows G
 
-  -- the value on rows, by the tables of the rows
-  map-by : (b m : ℕ) (rows : List (List ℕ)) → length rows ≡ m → (u : Below m → (free_module G b).of)
-      → ((k : Below m) → table_of G b (row rows k.0) ≡ u k) → (x : List ℕ)
-      → map_row G b rows x ≡ row_of G b (lin (free_module G b) u (terms q Γ m (table_of G m x)))
-  map-by b m rows e = subst P e
-      (λ u k x. ap (λ (u : Below (length rows) → (free_module G b).of). row_of G b
-      (lin (free_module G b) u (terms q Γ (length rows) (table_of G (length rows) x)))) (fun_ext k))
-    where
-      P : ℕ → Type 0
-      P m = (u : Below m → (free_module G b).of) → ((k : Below m) → table_of G b (row rows k.0) ≡ u k) → (x : List ℕ)
-          → map_row G b rows x ≡ row_of G b (lin (free_module G b) u (terms q Γ m (table_of G m x)))
-
   module _ (e : ℕ) (c : List ℕ) where
     -- the class
     abbrev C : Below (rank_of G e) → Below (suc q)
@@ -59,7 +50,7 @@ module _ (G : PGroup) where
       -- the value of the map of degree j at row i of the boundary of degree e + j + 1
       value-is : (i : Below (rank_of G (suc (ahead e j)))) → map_row G (rank_of G j) m.rows (row (images S (ahead e j)) i.0)
           ≡ row_of G (rank_of G j) (lift_map q Γ (layer_coordinates G) S e C j (row_table q Γ (layer_coordinates G) S (ahead e j) i))
-      value-is i = map-by (rank_of G j) (rank_of G (ahead e j)) m.rows M.count (lift q Γ (layer_coordinates G) S e C j)
+      value-is i = map-by G (rank_of G j) (rank_of G (ahead e j)) m.rows M.count (lift q Γ (layer_coordinates G) S e C j)
           (λ k. ap (table_of G (rank_of G j)) (M.each k)
           ∙ (layer_coordinates G (rank_of G j)).table-row (lift q Γ (layer_coordinates G) S e C j k))
           (row (images S (ahead e j)) i.0)

@@ -10,7 +10,7 @@ use Rattle.group_modules.specs.Sums.{below, up, total}
 use Rattle.group_modules.proofs.SumLaws.{total-map}
 use Rattle.group_modules.specs.Tables.{Group, monoid, block-sum}
 use Rattle.linear_algebra.specs.Modular.{sum_below}
-use Rattle.linear_algebra.specs.Rows.{entry, row, IsRow}
+use Rattle.linear_algebra.specs.Rows.{entry, pairing, row, IsRow}
 use Rattle.fp_rows.specs.Values.{MatrixValue}
 use Rattle.p_groups.specs.PGroups.{PGroup, largest_residue, group}
 use Rattle.p_groups.proofs.Fields.{residues}
@@ -56,7 +56,7 @@ module _ (G : PGroup) where
   -- the inner products with the rows of the map of degree d are the product
   pub product-is : (d e : ℕ) (a c : List ℕ) (m : MatrixValue) (out : List ℕ) → IsLiftMap G e c d m → IsRow (suc q) (rank_of G d) a
       → length out ≡ length m.rows
-      → ((i : ℕ) → i < length m.rows → entry out i ≡ sum_below (length a) (λ k. entry a k * entry (row m.rows i) k) % m.p)
+      → ((i : ℕ) → i < length m.rows → entry out i ≡ pairing m.p a (row m.rows i))
       → out ≡ product_row G d e a c
   product-is d e a c m out M r n v = ext_get_or 0 out (product_row G d e a c) (count ∙ sym (length-entries (rank_of G (d + e)) w))
       (λ i l. at i (let z : i < rank_of G (ahead e d) = (let t : length out ≡ rank_of G (ahead e d) = n ∙ M.count in omega (arith, t, l)) in z)

@@ -14,7 +14,8 @@ module _ (G : PGroup) (q : ℕ) (c : List ℕ) where
   abbrev pub lift_row : (j : ℕ) → Below (rank_of G (ahead q j)) → List ℕ
   lift_row j i =
       row_of G (rank_of G j)
-      (lift (largest_residue G) (group G) (layer_coordinates G) (stage_rows G) q (λ k. vector (largest_residue G) c k.0) j i)
+      (lift (largest_residue G) (group G) (layer_coordinates G) (stage_rows G) q
+      (λ k. vector (largest_residue G) c k.0) j i)
 
   -- m has the rows of this map
   pub record IsLiftMap (j : ℕ) (m : MatrixValue) : Type 0 where

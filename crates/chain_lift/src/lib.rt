@@ -1,4 +1,5 @@
-//! Lifts of classes of a p-group to chain maps of its minimal resolution, and the products of classes by lifts.
+//! Lifts of classes of a p-group to chain maps of its minimal resolution, and the products of classes by
+//! lifts.
 #![tactic(auto)]
 
 mod level;

@@ -3,29 +3,30 @@
 ghost use Rattle.chain_lift.specs.Products.{product_row};
 ghost use Rattle.chain_lift.specs.Stores.{IsLevel};
 ghost use Rattle.fp_rows.specs.Refs.{entries_of, modulus_of};
-ghost use Rattle.min_res.specs.Defined.{IsStageAt};
 ghost use Rattle.min_res.specs.Stages.{rank_of};
 ghost use Rattle.std.specs.Prelude.{◌≡◌, ◌≤◌, ◌<◌, ◌+◌, max, suc, length, IfOk, OnErr, OnOk};
 ghost use Rattle.p_groups.specs.PGroups.{prime_of};
 
 use crate::level::Level;
 use crate::maps::{first_rows, next_rows};
-use crate::products::write_inner_products;
+use crate::products::write_pairings;
 use fp_rows::{Row, RowRef};
 use group_algebra::PGroup;
 use group_table::Memory;
-use min_res::{Resolution, Stage};
+use min_res::Resolution;
 use std::alloc::Global;
 use std::marker::Model;
 use std::rc::Rc;
 
-/// The lift of a class of degree q, given by an entry for each basis element of degree q: maps from the free modules of degree q + j to
-/// those of degree j over the group algebra, for j from 0 to the height. The first takes basis element i to c_i times 1, and each other
-/// takes it to the section of what the map before takes its boundary to; they are a chain map. The value of a class of degree j at the
-/// map of degree j is the product of the two (Carlson, Townsley, Valeri-Elizondo and Zhang, "Cohomology Rings of Finite Groups",
+/// The lift of a class of degree q, given by an entry for each basis element of degree q: maps from the free
+/// modules of degree q + j to those of degree j over the group algebra, for j from 0 to the height. The first
+/// takes basis element i to c_i times 1, and each other takes it to the section of what the map before takes
+/// its boundary to; they are a chain map. The value of a class of degree j at the map of degree j is the
+/// product of the two (Carlson, Townsley, Valeri-Elizondo and Zhang, "Cohomology Rings of Finite Groups",
 /// chapter 4).
 ///
-/// It shares the stages that it used, and borrows no resolution: a resolution of the same group may grow meanwhile.
+/// It shares the stages that it used, and borrows no resolution: a resolution of the same group may grow
+/// meanwhile.
 #[derive(Drop)]
 pub struct Lift {
     alloc: Global,
@@ -44,39 +45,44 @@ impl Model for Lift {
 
     ghost coded = { coded_lift };
 
-    ghost view = { λ l. record { group = l.group; degree = l.degree; class = l.class.entries; height = length l.levels.items - 1 } };
+    ghost view = { λ l. record {
+      group = l.group;
+      degree = l.degree;
+      class = l.class.entries;
+      height = length l.levels.items - 1;
+    } };
 
     ghost invariant = { λ l. IsLiftStore
-        (record { group = l.group; degree = l.degree; class = l.class.entries; height = length l.levels.items - 1 })
+        (record {
+          group = l.group;
+          degree = l.degree;
+          class = l.class.entries;
+          height = length l.levels.items - 1;
+        })
         l.class.p l.levels.items };
 }
 
-// The stage of degree d, which is at most `last`.
-fn stage_at(res: &Resolution, d: u32) -> &Rc<Stage>
-    requires { d ≤ res.now.last }
-    ensures { IsStageAt res.now.group d result.now.value }
-{
-    match res.stage(d) {
-        Some(stage) => stage,
-        None => unreachable!(),
-    }
-}
-
 impl Lift {
-    /// The lift of the class, up to height 0. The class is one of degree q, which is at most the degree of the last stage.
+    /// The lift of the class, up to height 0. The class is one of degree q, which is at most the degree of
+    /// the last stage.
     pub fn new(alloc: Global, res: &Resolution, q: u32, class: RowRef<'_>) -> Result<Lift, Memory>
         requires degree { q ≤ res.now.last }
         requires prime { modulus_of class ≡ prime_of res.now.group }
         requires length { length (entries_of class) ≡ rank_of res.now.group q }
-        ensures { IfOk result (λ l. l ≡ record { group = res.now.group; degree = q; class = entries_of class.entry; height = 0 }) }
+        ensures { IfOk result (λ l. l ≡ record {
+          group = res.now.group;
+          degree = q;
+          class = entries_of class.entry;
+          height = 0;
+        }) }
     {
         let algebra = res.algebra();
         let group = algebra.group().try_clone(alloc)?;
         let mut kept = Row::zero(alloc, group.prime(), class.len())?;
         kept.add(1, class);
         let level = Level {
-            source: stage_at(res, q).clone()?,
-            target: stage_at(res, 0).clone()?,
+            source: res.stage_at(q).clone()?,
+            target: res.stage_at(0).clone()?,
             rows: first_rows(alloc, algebra, class)?,
         };
         let mut levels = Vec::new(alloc);
@@ -97,10 +103,11 @@ impl Lift {
         self.degree
     }
 
-    /// The class.
+    /// The class, which has an entry for each basis element of its degree.
     pub fn class(&self) -> RowRef<'_>
         ensures entries { entries_of result ≡ self.now.class }
         ensures modulus { modulus_of result ≡ prime_of self.now.group }
+        ensures length { length (entries_of result) ≡ rank_of self.now.group self.now.degree }
     {
         self.class.view()
     }
@@ -123,15 +130,16 @@ impl Lift {
     fn next(&self, res: &Resolution) -> Result<Level, Memory>
         requires within { self.now.degree + self.now.height < res.now.last }
         requires group { res.now.group ≡ self.now.group }
-        ensures { IfOk result (λ l. IsLevel self.now.group self.now.degree self.now.class (suc self.now.height) l) }
+        ensures { IfOk result
+            (λ l. IsLevel self.now.group self.now.degree self.now.class (suc self.now.height) l) }
     {
         let algebra = res.algebra();
         let _last = res.last();
         let before = self.last();
         let _width = before.source.kernel().width();
         let d = self.height() + 1;
-        let source = stage_at(res, self.degree() + d).clone()?;
-        let target = stage_at(res, d).clone()?;
+        let source = res.stage_at(self.degree() + d).clone()?;
+        let target = res.stage_at(d).clone()?;
         let rank = before.target.rank();
         let rows = next_rows(self.alloc, algebra, rank, &before.rows, &source, &target)?;
         Ok(Level {
@@ -162,8 +170,8 @@ impl Lift {
         self.levels.truncate(height as usize + 1);
     }
 
-    /// Makes the maps up to degree j, which with the degree of the class is at most the degree of the last stage. Maps that are known
-    /// stay. After an error the lift is as before.
+    /// Makes the maps up to degree j, which with the degree of the class is at most the degree of the last
+    /// stage. Maps that are known stay. After an error the lift is as before.
     pub fn extend_to(&mut self, res: &Resolution, j: u32) -> Result<(), Memory>
         requires within { self.old.degree + j ≤ res.now.last }
         requires group { res.now.group ≡ self.old.group }
@@ -191,9 +199,10 @@ impl Lift {
         requires out_prime { out.old.p ≡ prime_of self.now.group }
         requires out_length { length out.old.entries ≡ rank_of self.now.group (j + self.now.degree) }
         ensures prime { out.new.p ≡ out.old.p }
-        ensures value { out.new.entries ≡ product_row self.now.group j self.now.degree (entries_of a.entry) self.now.class }
+        ensures value { out.new.entries
+            ≡ product_row self.now.group j self.now.degree (entries_of a.entry) self.now.class }
     {
         let level = &self.levels[j as usize];
-        write_inner_products(a, &level.rows, out);
+        write_pairings(a, &level.rows, out);
     }
 }

@@ -20,7 +20,8 @@ module _ {n : ℕ} (q : ℕ) (Γ : Group n) (K : Coordinates q Γ) (S : StageRow
   pub record LiftClaims : Type 0 where
     -- the lift begins with the class
     pub begins : (e : ℕ) (c : Class q Γ K S e) (i : Below (rank q Γ S.ranks e)) → block-sum q Γ 1 (lift q Γ K S e c 0 i) (residue 0 0) ≡ c i
-    -- its value at the boundary of a basis element is in the kernel, where the section is a right inverse of the boundary
+    -- its value at the boundary of a basis element is in the kernel, where the section is a right inverse of
+    -- the boundary
     pub in_kernel : (e : ℕ) (c : Class q Γ K S e) (j : ℕ) (i : Below (rank q Γ S.ranks (suc (ahead e j))))
         → InKernel q Γ K S j (lift_map e c j (row_table q Γ K S (ahead e j) i))
     -- and it is a chain map

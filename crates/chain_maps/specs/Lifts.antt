@@ -1,5 +1,5 @@
--- Lifts of classes to chain maps of a minimal resolution, and the products of classes by lifts (Carlson, Townsley, Valeri-Elizondo and
--- Zhang, "Cohomology Rings of Finite Groups", chapter 4).
+-- Lifts of classes to chain maps of a minimal resolution, and the products of classes by lifts (Carlson,
+-- Townsley, Valeri-Elizondo and Zhang, "Cohomology Rings of Finite Groups", chapter 4).
 use Rattle.std.specs.Prelude.{ℕ, zero, suc, List}
 use Rattle.group_modules.specs.Module.{Module, Term, lin, ops, times}
 use Rattle.group_modules.specs.Operations as operations
@@ -16,7 +16,8 @@ abbrev pub ahead : ℕ → ℕ → ℕ
 ahead e zero = e
 ahead e (suc j) = suc (ahead e j)
 
--- the maps of basis elements that begin with u, and take x of degree d + 1 to the section of the value at the boundary of x
+-- the maps of basis elements that begin with u, and take x of degree d + 1 to the section of the value at the
+-- boundary of x
 abbrev pub steps : {E : Type 0} (basis : ℕ → Type 0) → ((d : ℕ) → basis (suc d) → List (operations.Term E (basis d)))
     → (M : ℕ → Ops E) → ((d : ℕ) → (M d).of → (M (suc d)).of) → (basis 0 → (M 0).of) → (d : ℕ) → basis d → (M d).of
 steps basis boundary M s u zero x = u x
@@ -39,7 +40,8 @@ module _ {n : ℕ} (q : ℕ) (Γ : Group n) (K : Coordinates q Γ) (S : StageRow
   abbrev pub row_terms : (d : ℕ) → Below (rank q Γ S.ranks (suc d)) → List (Term (monoid Γ) (Below (rank q Γ S.ranks d)))
   row_terms d i = terms q Γ (rank q Γ S.ranks d) (row_table q Γ K S d i)
 
-  -- the lift of a class c of degree e: basis element i of degree e goes to c(i) 1, and the maps of higher degrees are found by the section
+  -- the lift of a class c of degree e: basis element i of degree e goes to c(i) 1, and the maps of higher
+  -- degrees are found by the section
   abbrev pub lift : (e : ℕ) → Class e → (j : ℕ) → Below (rank q Γ S.ranks (ahead e j)) → (free j).of
   lift e c =
       steps (λ j. Below (rank q Γ S.ranks (ahead e j))) (λ j. row_terms (ahead e j)) (λ j. ops (free j)) (section_table q Γ K S)

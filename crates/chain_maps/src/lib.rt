@@ -1,5 +1,5 @@
-//! Chain maps of the minimal resolution of the field of p elements over the group algebra of a p-group: the lift of a class, in every
-//! degree, and the product of classes by lifts.
+//! Chain maps of the minimal resolution of the field of p elements over the group algebra of a p-group: the
+//! lift of a class, in every degree, and the product of classes by lifts.
 #![tactic(auto)]
 
 ghost use Rattle.std.specs.Prelude.{ℕ, suc};

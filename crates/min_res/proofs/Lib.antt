@@ -1,14 +1,15 @@
+pub mod StageRows
 pub mod GeneratorMoves
 pub mod ProductLists
 pub mod StageLaws
 pub mod SpanMembers
 pub mod NextStage
-pub mod BlockSums
-pub mod AddZero
 pub mod PartialSums
 pub mod MoveRows
 pub mod MatrixRows
 pub mod FirstKernel
+pub mod MapRows
 pub mod StageAbove
 pub mod StageLists
 pub mod StageReadings
+pub mod OneStage

@@ -15,7 +15,7 @@ use Rattle.p_groups.specs.PGroups.{PGroup, largest_residue, group}
 use Rattle.p_groups.proofs.Fields.{residues}
 use Rattle.group_algebra.specs.Coordinates.{free_module, layer_coordinates, row_of, table_of}
 use Rattle.min_res.specs.Products.{numbers}
-use Rattle.min_res.specs.RowMaps.{move_of, moves_of}
+use Rattle.min_res.specs.MoveRows.{move_of, moves_of}
 
 module _ (G : PGroup) (b : ℕ) where
   abbrev q : ℕ

@@ -1,26 +1,28 @@
 -- What was computed from the stage of degree d is the stage of degree d + 1.
 use Rattle.std.proofs.Common.{◌≡◌, ℕ, zero, suc, ◌+◌, ◌*◌, ◌^◌, ◌<◌, ◌≤◌, List, length, map, inl, inr, arith, ap, sym, ◌∙◌, refl}
 use Rattle.std.specs.Prelude.{Some, slice_index}
-use Rattle.std.proofs.lemmas.List.{length_push}
+use Rattle.std.proofs.lemmas.List.{length_push, length-map}
 use Rattle.std.proofs.lemmas.Nat.{mul-le}
 use mathlib.Core.Path.{subst}
 use Rattle.group_table.specs.Tables.{order}
 use Rattle.group_modules.specs.Field.{Below}
 use Rattle.linear_algebra.specs.Rows.{row, pivot, IsMatrix, IsEchelon, IsEchelonOf, AreInSpan}
-use Rattle.linear_algebra.specs.Choices.{IsGreedyBelow, IsGreedy, ArePreimages}
-use Rattle.linear_algebra.specs.Kernels.{IsKernelOf}
+use Rattle.linear_algebra.specs.Choices.{rows_at, IsGreedyBelow, IsGreedy, ArePreimages}
+use Rattle.linear_algebra.specs.Kernels.{unit_row, IsKernelOf}
 use Rattle.linear_algebra.proofs.GreedyChoice.{greedy-below}
-use Rattle.resolution_stages.specs.Definitions.{StageRows}
+use Rattle.resolution_stages.specs.Definitions.{StageRows, images}
 use Rattle.resolution_stages.specs.Checks.{StageParts}
 use Rattle.resolution_stages.specs.Computed.{IsMatrixOf}
 use Rattle.fp_rows.specs.Values.{MatrixValue}
-use Rattle.p_groups.specs.PGroups.{PGroup, largest_residue}
-use Rattle.group_algebra.specs.Coordinates.{layer_coordinates}
+use Rattle.p_groups.specs.PGroups.{PGroup, largest_residue, order_of}
+use Rattle.group_algebra.specs.Coordinates.{layer_coordinates, table_of}
 use Rattle.min_res.specs.Products.{AreGenerators, numbers}
-use Rattle.min_res.specs.RowMaps.{linear_map, moves_of}
-use Rattle.min_res.specs.Stages.{stage_rows, stage_rows_are, rank_of}
+use Rattle.min_res.specs.MoveRows.{moves_of}
+use Rattle.min_res.proofs.MapRows.{map-by, HoldsValues}
+use Rattle.min_res.specs.Stages.{stage_rows, rank_of}
+use Rattle.min_res.proofs.StageRows.{stage_rows_are}
 use Rattle.min_res.specs.Values.{BoundaryValue, StageValue}
-use Rattle.min_res.specs.Defined.{∂, σ, kernel_value, IsBoundaryAt, IsStageAt}
+use Rattle.min_res.specs.Defined.{∂, σ, boundary_row, kernel_value, IsBoundaryAt, IsStageAt}
 use Rattle.min_res.proofs.NextStage.{positions-one, targets, parts-found}
 use Rattle.min_res.proofs.FirstKernel.{matrix-value}
 
@@ -77,24 +79,36 @@ module _ (G : PGroup) where
       let l : b ≤ 268435456 = omega (arith, a, k, e, s, f) in
       let p : n * b ≤ 256 * 268435456 = mul-le n b 256 268435456 m l in omega (arith, p)
 
+  -- the values at the unit rows of the map by the chosen rows are the matrix of the boundary
+  matrix-at : (d : ℕ) (M : List (List ℕ)) → HoldsValues G (rank_of G d) (images S d) M
+      → IsMatrixOf (layer_coordinates G (rank_of G (suc d))) (layer_coordinates G (rank_of G d)) (∂ G d) M
+  matrix-at d M h = record {
+    count = h.count ∙ ap (λ m. order_of G * m) count;
+    each = λ j l. h.each j (subst (λ m. j < order_of G * m) (sym count) l)
+        ∙ map-by G (rank_of G d) (length (S.positions d)) (images S d) count (λ i. table_of G (rank_of G d) (row (images S d) i.0)) (λ i. refl)
+        (unit_row (order_of G * length (images S d)) j)
+        ∙ ap (λ m. boundary_row G d (unit_row (order_of G * m) j)) count;
+  }
+    where
+      count : length (images S d) ≡ length (S.positions d)
+      count = length-map (S.positions d) (row (S.kernel d))
+
   module _ (d b : ℕ) (E : List (List ℕ)) (xs : List ℕ) (M : List (List ℕ)) (eb : b ≡ rank_of G d) (eE : E ≡ S.kernel d) (ex : xs ≡ S.positions d)
-      (matrix : IsMatrixOf (layer_coordinates G (length xs)) (layer_coordinates G b) (linear_map G b E xs) M) where
+      (values : HoldsValues G b (rows_at E xs) M) where
     pub defined-matrix : IsMatrixOf (layer_coordinates G (rank_of G (suc d))) (layer_coordinates G (rank_of G d)) (∂ G d) M
-    defined-matrix = subst (λ xs. P (rank_of G d) (S.kernel d) xs) ex (subst (λ E. P (rank_of G d) E xs) eE (subst (λ b. P b E xs) eb matrix))
-      where
-        P : ℕ → List (List ℕ) → List ℕ → Type 0
-        P b E xs = IsMatrixOf (layer_coordinates G (length xs)) (layer_coordinates G b) (linear_map G b E xs) M
+    defined-matrix = matrix-at d M (subst (λ xs. HoldsValues G (rank_of G d) (rows_at (S.kernel d) xs) M) ex
+        (subst (λ E. HoldsValues G (rank_of G d) (rows_at E xs) M) eE (subst (λ b. HoldsValues G b (rows_at E xs) M) eb values)))
 
     pub targets-in : AreInSpan G.table.p M E
     targets-in = subst (λ E. AreInSpan G.table.p M E) (sym eE) (targets G d M defined-matrix)
 
   pub stage-above : (d : ℕ) (last s : StageValue) (B : BoundaryValue) → IsStageAt G d last → s.degree ≡ d + 1 → s.boundary ≡ Some B → s.rank ≡ length B.positions
       → B.source ≡ last.kernel → B.positions ≡ S.positions d → B.matrix.p ≡ last.kernel.p → B.matrix.width ≡ last.kernel.width
-      → IsMatrixOf (layer_coordinates G (length B.positions)) (layer_coordinates G last.rank) (linear_map G last.rank last.kernel.rows B.positions) B.matrix.rows
+      → HoldsValues G last.rank (rows_at last.kernel.rows B.positions) B.matrix.rows
       → s.kernel.p ≡ B.matrix.p → s.kernel.width ≡ length B.matrix.rows → IsKernelOf B.matrix.p B.matrix.rows s.kernel.rows
       → B.sections.p ≡ B.matrix.p → B.sections.width ≡ length B.matrix.rows → ArePreimages B.matrix.p B.matrix.rows s.kernel.rows last.kernel.rows B.sections.rows
       → IsStageAt G (suc d) s
-  stage-above d last s B L degree boundary rank source positions mp mw matrix kp kw kernel sp sw sections = record {
+  stage-above d last s B L degree boundary rank source positions mp mw values kp kw kernel sp sw sections = record {
     degree_is = degree ∙ (let z : d + 1 ≡ suc d = omega arith in z);
     rank_is = rank ∙ ap (λ (x : List ℕ). length x) positions;
     kernel_is = matrix-value s.kernel (kernel_value G (suc d)) (kp ∙ prime) (kw ∙ count) (ap (λ (x : StageParts). x.kernel) found);
@@ -109,7 +123,7 @@ module _ (G : PGroup) where
       prime = mp ∙ ap (λ (x : MatrixValue). x.p) L.kernel_is
 
       matrix' : IsMatrixOf (layer_coordinates G (rank_of G (suc d))) (layer_coordinates G (rank_of G d)) (∂ G d) B.matrix.rows
-      matrix' = defined-matrix d last.rank last.kernel.rows B.positions B.matrix.rows L.rank_is rows-are positions matrix
+      matrix' = defined-matrix d last.rank last.kernel.rows B.positions B.matrix.rows L.rank_is rows-are positions values
 
       count : length B.matrix.rows ≡ order G.table * rank_of G (suc d)
       count = matrix'.count

@@ -6,7 +6,8 @@ use Rattle.group_modules.specs.Field.{Below}
 -- x is a product of members of the list, where mul is the product and 0 the unit
 pub data IsProductOf (mul : ℕ → ℕ → ℕ) (generators : List ℕ) : ℕ → Type 0 where
   unit : IsProductOf mul generators 0
-  times : (x s : ℕ) → IsProductOf mul generators x → Contains generators s → IsProductOf mul generators (mul x s)
+  times : (x s : ℕ) → IsProductOf mul generators x → Contains generators s
+      → IsProductOf mul generators (mul x s)
 
 -- each number below n is such a product
 abbrev pub Generate : ℕ → (ℕ → ℕ → ℕ) → List ℕ → Type 0
@@ -18,7 +19,7 @@ pub record AreGenerators (G : GroupTable) (generators : List ℕ) : Type 0 where
   pub generate : Generate (order G) (product G) generators
 
 -- products of the generators, in a list and by a mark for each
-pub record AreProducts (G : GroupTable) (generators : List ℕ) (products : List ℕ) (seen : List Bool) : Type 0 where
+pub record AreProducts (G : GroupTable) (generators products : List ℕ) (seen : List Bool) : Type 0 where
   pub below : All (λ g. g < order G) products
   pub listed : All (IsProductOf (product G) generators) products
   pub marked : (x : ℕ) → slice_index_or seen x false ≡ true → IsProductOf (product G) generators x

@@ -5,7 +5,9 @@ use Rattle.min_res.specs.Stages.{rank_of}
 use Rattle.min_res.specs.declared.fault.ResFault.{ResFault}
 use Rattle.min_res.specs.declared.fault.ResFault.TheVariants.{TooLarge, Memory}
 
--- the fault names the degree and the dimension of its free module, which is above the limit; or memory was wanting
+-- the fault names the degree and the dimension of its free module, which is above the limit; or memory was
+-- wanting
 abbrev pub IsRefusal : PGroup → ℕ → ℕ → ResFault → Type 0
-IsRefusal G d limit (TooLarge degree dimension) = (degree ≡ d) × (dimension ≡ order_of G * rank_of G d) × (limit < dimension)
+IsRefusal G d limit (TooLarge degree dimension) =
+    (degree ≡ d) × (dimension ≡ order_of G * rank_of G d) × (limit < dimension)
 IsRefusal G d limit Memory = Unit {0}

@@ -29,7 +29,8 @@ no_rows = record { p = 0; width = 0; rows = [] }
 
 -- the boundary of a stage, and an empty one in degree 0
 abbrev pub boundary_of : StageValue → BoundaryValue
-boundary_of s = unwrap_or s.boundary (record { source = no_rows; positions = []; matrix = no_rows; sections = no_rows })
+boundary_of s =
+    unwrap_or s.boundary (record { source = no_rows; positions = []; matrix = no_rows; sections = no_rows })
 
 -- the stages 0 to last of a group: that of a degree is IsStageAt of specs/Defined, so these two say all
 pub record ResolutionValue : Type 0 where
@@ -38,4 +39,6 @@ pub record ResolutionValue : Type 0 where
 
 -- how it is stored
 abbrev pub coded_resolution : Coded ResolutionValue
-coded_resolution = code_by (PGroup × ℕ) (coded× coded_p_group coded_ℕ) (λ r. (r.group, r.last)) (λ p. record { group = p.0; last = p.1 }) (λ _. refl)
+coded_resolution =
+    code_by (PGroup × ℕ) (coded× coded_p_group coded_ℕ)
+    (λ r. (r.group, r.last)) (λ p. record { group = p.0; last = p.1 }) (λ _. refl)

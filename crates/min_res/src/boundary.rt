@@ -7,12 +7,13 @@ ghost use Rattle.min_res.specs.Shapes.{HasBoundaryShape};
 ghost use Rattle.resolution_stages.specs.Chain.{section_row};
 ghost use Rattle.std.specs.Prelude.{◌≡◌, ◌<◌, length, slice_index};
 
-use crate::combine::{write_combination, write_section};
+use crate::sections::write_section;
 use fp_rows::{Echelon, Matrix, Positions, Row, RowRef};
 use std::marker::Model;
 use std::rc::Rc;
 
-/// A boundary map by the places of its rows in the list of the kernel before, and its section by the values at the rows of that list.
+/// A boundary map by the places of its rows in the list of the kernel before, and its section by the values
+/// at the rows of that list.
 #[derive(Drop)]
 pub(crate) struct Boundary {
     pub(crate) source: Rc<Echelon>,
@@ -27,9 +28,19 @@ impl Model for Boundary {
 
     ghost Value = { BoundaryValue };
 
-    ghost view = { λ b. record { source = b.source.value; positions = b.positions; matrix = b.matrix; sections = b.sections } };
+    ghost view = { λ b. record {
+      source = b.source.value;
+      positions = b.positions;
+      matrix = b.matrix;
+      sections = b.sections;
+    } };
 
-    ghost invariant = { λ b. HasBoundaryShape (record { source = b.source.value; positions = b.positions; matrix = b.matrix; sections = b.sections }) };
+    ghost invariant = { λ b. HasBoundaryShape (record {
+      source = b.source.value;
+      positions = b.positions;
+      matrix = b.matrix;
+      sections = b.sections;
+    }) };
 }
 
 impl Boundary {
@@ -68,9 +79,11 @@ impl Boundary {
         requires out_length { length out.old.entries ≡ self.now.source.width }
         requires out_prime { out.old.p ≡ self.now.source.p }
         ensures prime { out.new.p ≡ out.old.p }
-        ensures value { out.new.entries ≡ combination_row self.now.source.p self.now.source.width (entry (entries_of u.entry)) self.now.matrix.rows }
+        ensures value { out.new.entries
+            ≡ combination_row self.now.source.p self.now.source.width (entry (entries_of u.entry))
+            self.now.matrix.rows }
     {
-        write_combination(u, &self.matrix, out);
+        self.matrix.combine(u, out);
     }
 
     pub(crate) fn write_section(&self, v: RowRef<'_>, out: &mut Row)
@@ -80,7 +93,8 @@ impl Boundary {
         requires out_prime { out.old.p ≡ self.now.source.p }
         ensures prime { out.new.p ≡ out.old.p }
         ensures value { out.new.entries
-            ≡ section_row self.now.source.p (length self.now.matrix.rows) self.now.source.rows self.now.sections.rows (entries_of v.entry) }
+            ≡ section_row self.now.source.p (length self.now.matrix.rows) self.now.source.rows
+            self.now.sections.rows (entries_of v.entry) }
     {
         write_section(v, &self.source, &self.sections, out);
     }

@@ -24,8 +24,7 @@ fn later_units(alloc: Global, p: Prime, n: usize) -> Result<Matrix, Memory>
     let mut unit = Row::zero(alloc, p, n)?;
     let mut rows = Matrix::new(alloc, p, n);
     for i in 1..n {
-        unit.clear();
-        unit.set(i, 1);
+        unit.set_unit(i);
         rows.push(unit.view())?;
     }
     Ok(rows)

@@ -2,17 +2,19 @@
 #![tactic(auto)]
 
 mod boundary;
-mod combine;
 mod fault;
 mod first;
 mod generators;
+mod laws;
 mod matrices;
 mod moves;
 mod next;
 mod resolution;
+mod sections;
 mod stage;
 
 pub use fault::ResFault;
+pub use laws::{boundary_law, exactness_law, one_stage_law, section_law, stage_exists_law};
 pub use resolution::Resolution;
 pub use stage::Stage;
 

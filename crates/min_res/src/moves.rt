@@ -4,7 +4,7 @@ ghost use Rattle.fp_rows.specs.Refs.{entries_of, modulus_of};
 ghost use Rattle.group_modules.specs.Field.{Below};
 ghost use Rattle.linear_algebra.specs.Rows.{IsRow};
 ghost use Rattle.min_res.specs.Products.{numbers};
-ghost use Rattle.min_res.specs.RowMaps.{move_of, moves_of};
+ghost use Rattle.min_res.specs.MoveRows.{move_of, moves_of};
 ghost use Rattle.std.specs.Prelude.{◌≡◌, ◌++◌, ◌<◌, ◌*◌, ◌^◌, All, IfOk, List, OnOk, length, map};
 ghost use Rattle.p_groups.specs.PGroups.{order_of, prime_of};
 
@@ -70,7 +70,8 @@ pub(crate) fn moves(
     requires list_width { list.now.width ≡ order_of algebra.now * rank }
     ensures prime { IfOk result (λ moves. moves.p ≡ prime_of algebra.now) }
     ensures width { IfOk result (λ moves. moves.width ≡ list.now.width) }
-    ensures rows { IfOk result (λ moves. (gs : List (Below (order_of algebra.now))) → numbers gs ≡ elements.now
+    ensures rows { IfOk result (λ moves. (gs : List (Below (order_of algebra.now)))
+        → numbers gs ≡ elements.now
         → moves.rows ≡ moves_of algebra.now rank gs list.now.rows) }
 {
     let mut moves = Matrix::new(alloc, list.prime(), list.width());

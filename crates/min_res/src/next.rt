@@ -9,7 +9,7 @@ ghost use Rattle.p_groups.specs.PGroups.{order_of, prime_of};
 
 use crate::boundary::Boundary;
 use crate::fault::ResFault;
-use crate::matrices::matrix_of;
+use crate::matrices::{chosen_rows, matrix_of};
 use crate::moves::moves;
 use crate::stage::Stage;
 use fp_rows::{Echelon, Positions, echelon, greedy, kernel, preimages};
@@ -18,8 +18,8 @@ use group_table::Memory;
 use std::alloc::Global;
 use std::rc::Rc;
 
-// The places in the list of K_d, a list of rows of `rank` blocks, of the rows of the next boundary: a greedy choice modulo the span of all
-// (g - 1) v with v in K_d, for which those with g among generators are enough.
+// The places in the list of K_d, a list of rows of `rank` blocks, of the rows of the next boundary: a greedy
+// choice modulo the span of all (g - 1) v with v in K_d, for which those with g among generators are enough.
 fn next_positions(
     alloc: Global,
     algebra: &Algebra,
@@ -32,7 +32,8 @@ fn next_positions(
     requires list_width { list.now.width ≡ order_of algebra.now * rank }
     requires small { list.now.width ≤ 2 ^ 28 }
     ensures { IfOk result (λ positions. (d : ℕ) → rank ≡ rank_of algebra.now d
-        → list.now.rows ≡ (stage_rows algebra.now).kernel d → positions ≡ (stage_rows algebra.now).positions d) }
+        → list.now.rows ≡ (stage_rows algebra.now).kernel d
+        → positions ≡ (stage_rows algebra.now).positions d) }
 {
     let moved = moves(alloc, algebra, rank, generators, list)?;
     let span = echelon(alloc, &moved)?;
@@ -56,7 +57,8 @@ fn stage_with(
     ensures width { IfOk result (λ s. s.kernel.width ≡ order_of algebra.now * length positions) }
 {
     let source = last.list().clone()?;
-    let matrix = matrix_of(alloc, algebra, last.rank(), &source, &positions)?;
+    let rows = chosen_rows(alloc, &source, &positions)?;
+    let matrix = matrix_of(alloc, algebra, last.rank(), &rows)?;
     let list = kernel(alloc, &matrix)?;
     let sections = preimages(alloc, &matrix, &source, &list)?;
     let rank = positions.len();

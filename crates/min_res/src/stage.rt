@@ -13,12 +13,12 @@ use fp_rows::{Echelon, Row, RowRef};
 use std::marker::Model;
 use std::rc::Rc;
 
-/// A stage of a minimal resolution P_0, P_1, ..: the free module P_d of degree d by its rank, the boundary map from it by its matrix
-/// in layer coordinates, the reduced echelon list of its kernel K_d, and the section of the boundary (Brown, "Cohomology of Groups", I.2;
-/// Carlson, "Modules and Group Algebras").
+/// A stage of a minimal resolution P_0, P_1, ..: the free module P_d of degree d by its rank, the boundary
+/// map from it by its matrix in layer coordinates, the reduced echelon list of its kernel K_d, and the
+/// section of the boundary (Brown, "Cohomology of Groups", I.2; Carlson, "Modules and Group Algebras").
 ///
-/// It shares the list of K_(d-1) with the stage before, and holds no other stage. In degree 0, where P_0 is the group algebra and K_0 the
-/// augmentation ideal, it has no boundary.
+/// It shares the list of K_(d-1) with the stage before, and holds no other stage. In degree 0, where P_0 is
+/// the group algebra and K_0 the augmentation ideal, it has no boundary.
 #[derive(Drop)]
 pub struct Stage {
     pub(crate) degree: u32,
@@ -33,9 +33,19 @@ impl Model for Stage {
 
     ghost Value = { StageValue };
 
-    ghost view = { λ s. record { degree = s.degree; rank = s.rank; kernel = s.kernel.value; boundary = s.boundary } };
+    ghost view = { λ s. record {
+      degree = s.degree;
+      rank = s.rank;
+      kernel = s.kernel.value;
+      boundary = s.boundary;
+    } };
 
-    ghost invariant = { λ s. HasStageShape (record { degree = s.degree; rank = s.rank; kernel = s.kernel.value; boundary = s.boundary }) };
+    ghost invariant = { λ s. HasStageShape (record {
+      degree = s.degree;
+      rank = s.rank;
+      kernel = s.kernel.value;
+      boundary = s.boundary;
+    }) };
 }
 
 impl Stage {
@@ -90,7 +100,8 @@ impl Stage {
         }
     }
 
-    /// The place, from 0, of row i of the boundary in the list of K_(d-1). For d above 0, and i below the rank.
+    /// The place, from 0, of row i of the boundary in the list of K_(d-1). For d above 0, and i below the
+    /// rank.
     pub fn position(&self, i: usize) -> u32
         requires above_zero { 0 < self.now.degree }
         requires inside { i < self.now.rank }
@@ -103,7 +114,8 @@ impl Stage {
     pub fn image(&self, i: usize) -> RowRef<'_>
         requires above_zero { 0 < self.now.degree }
         requires inside { i < self.now.rank }
-        ensures entries { entries_of result ≡ row (rows_at (boundary_of self.now).source.rows (boundary_of self.now).positions) i }
+        ensures entries { entries_of result
+            ≡ row (rows_at (boundary_of self.now).source.rows (boundary_of self.now).positions) i }
         ensures modulus { modulus_of result ≡ self.now.kernel.p }
     {
         self.map().image(i)
@@ -128,12 +140,14 @@ impl Stage {
         requires out_prime { out.old.p ≡ self.now.kernel.p }
         ensures prime { out.new.p ≡ out.old.p }
         ensures value { out.new.entries
-            ≡ combination_row self.now.kernel.p (boundary_of self.now).source.width (entry (entries_of u.entry)) (boundary_of self.now).matrix.rows }
+            ≡ combination_row self.now.kernel.p (boundary_of self.now).source.width
+            (entry (entries_of u.entry)) (boundary_of self.now).matrix.rows }
     {
         self.map().write_value(u, out);
     }
 
-    /// Writes the section of v, a member of K_(d-1): the one u with the boundary v that is 0 at each pivot of the list of K_d. For d above 0.
+    /// Writes the section of v, a member of K_(d-1): the one u with the boundary v that is 0 at each pivot of
+    /// the list of K_d. For d above 0.
     pub fn section(&self, v: RowRef<'_>, out: &mut Row)
         requires above_zero { 0 < self.now.degree }
         requires argument { length (entries_of v) ≡ (boundary_of self.now).source.width }

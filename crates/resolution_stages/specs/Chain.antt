@@ -11,7 +11,8 @@ use Rattle.radical_layers.specs.Moves.{IsEchelonFor}
 use Rattle.radical_layers.specs.Layers.{RowIn}
 use Rattle.resolution_stages.specs.Checks.{StageParts, IsSubmoduleList, IsNextStage}
 
--- the value of a section at x by its table: the sum over the pivots of E of x's entry there times the table's row
+-- the value of a section at x by its table: the sum over the pivots of E of x's entry there times the table's
+-- row
 abbrev pub section_row : ℕ → ℕ → List (List ℕ) → List (List ℕ) → List ℕ → List ℕ
 section_row p width E sections x = combination_row p width (λ k. entry x (pivot (row E k))) sections
 
@@ -50,7 +51,8 @@ module _ {n : ℕ} (q : ℕ) (Γ : Group n) (K : Coordinates q Γ) where
     pub positions : (d : ℕ) → S.positions d ≡ S'.positions d
     pub section : (d : ℕ) (x : List ℕ) → RowInKernel q Γ K S d x → S.section d x ≡ S'.section d x
 
-  -- S has the stages by their tables; parts that follow each other from the list of K_0 are those of S, and all stages are those of S
+  -- S has the stages by their tables; parts that follow each other from the list of K_0 are those of S, and
+  -- all stages are those of S
   pub record StageClaims (S : StageRows) : Type 0 where
     pub are : AreStages q Γ K S
     pub by_table : (d : ℕ) (x : List ℕ) → RowInKernel q Γ K S d x
@@ -70,12 +72,14 @@ pub record IsUnitList (p width : ℕ) (E : List (List ℕ)) : Type 0 where
   pub own : (i : ℕ) → i < length E → entry (row E i) (suc i) ≡ 1
   pub others : (i j : ℕ) → i < length E → j ≢ suc i → entry (row E i) j ≡ 0
 
--- the list of K_0 is that of J^1; and where a row begins with the sum of its table, it is the unit rows but the first
+-- the list of K_0 is that of J^1; and where a row begins with the sum of its table, it is the unit rows but
+-- the first
 pub record FirstListClaims {n : ℕ} (q : ℕ) (Γ : Group n) (K : Coordinates q Γ) : Type 0 where
   pub of_power : (E : List (List ℕ)) → IsEchelonFor (suc q) (n * 1) (RowIn (K 1) (Radical (Table q Γ 1) 1)) E → IsFirstList q Γ K E
   pub of_units : ((v : (Table q Γ 1).of) → entry ((K 1).row v) 0 ≡ (block-sum q Γ 1 v (residue 0 0)).0) → (E : List (List ℕ)) → IsUnitList (suc q) (n * 1) E → IsFirstList q Γ K E
 
--- parts that follow each other from the list of K_0: they are the first ones of the stages, one more may follow, and the next step can be taken
+-- parts that follow each other from the list of K_0: they are the first ones of the stages, one more may
+-- follow, and the next step can be taken
 pub record ChainClaims {n : ℕ} (q : ℕ) (Γ : Group n) (K : Coordinates q Γ) (E : List (List ℕ)) (Qs : List StageParts) : Type 0 where
   pub of_stages : (S : StageRows) × AreStages q Γ K S × (E ≡ S.kernel 0) × (Qs ≡ parts_from S 0 (length Qs))
   pub push : (Q : StageParts) → IsNextStage q Γ K (end_rank 1 Qs) (end_list E Qs) Q → IsChain q Γ K 1 E (Qs ++ Q ∷ [])

@@ -10,7 +10,8 @@ use Rattle.radical_layers.specs.Coordinates.{Coordinates}
 use Rattle.radical_layers.specs.Moves.{moves, IsEchelonFor}
 use Rattle.radical_layers.specs.Layers.{RowIn}
 
--- positions of the boundary's rows, the rows of the kernel, and the section of each row of the echelon list before
+-- positions of the boundary's rows, the rows of the kernel, and the section of each row of the echelon list
+-- before
 pub record StageParts : Type 0 where
   pub positions : List ℕ
   pub kernel : List (List ℕ)

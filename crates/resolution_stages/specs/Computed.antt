@@ -1,4 +1,5 @@
--- The matrix of a linear map, and the parts of a stage as elimination finds them from the matrix of the boundary.
+-- The matrix of a linear map, and the parts of a stage as elimination finds them from the matrix of the
+-- boundary.
 use Rattle.std.specs.Prelude.{◌≡◌, ℕ, suc, List, length, ◌<◌}
 use Rattle.group_modules.specs.Module.{Monoid, Module}
 use Rattle.group_modules.specs.Tables.{Group, Table}
@@ -22,7 +23,8 @@ pub record IsComputed {n : ℕ} (q : ℕ) (Γ : Group n) (K : Coordinates q Γ) 
   pub section_count : length Q.sections ≡ length E
   pub sections_are : (k : ℕ) → k < length E → IsPreimage (suc q) matrix Q.kernel (row E k) (row Q.sections k)
 
--- the parts that elimination finds are the next stage; the preimages exist, since each row of E is in the span of the matrix
+-- the parts that elimination finds are the next stage; the preimages exist, since each row of E is in the
+-- span of the matrix
 pub record ComputedClaims {n : ℕ} (q : ℕ) (Γ : Group n) (K : Coordinates q Γ) (b : ℕ) (E : List (List ℕ)) (Q : StageParts) (matrix : List (List ℕ)) : Type 0 where
   pub targets : IsGreedy (suc q) E (moves Γ (Table q Γ b) (K b) E) Q.positions → IsMatrixOf (K (length Q.positions)) (K b) (λ u. del q Γ K b E Q u) matrix → AreInSpan (suc q) matrix E
   pub next : IsComputed q Γ K b E Q matrix → IsNextStage q Γ K b E Q

@@ -1,5 +1,6 @@
-//! The minimal resolution of the field of p elements over the group algebra of a p-group: its stages by reduced echelon lists and greedy
-//! choices, in every degree, and the laws by which a calculation finds them one after the other.
+//! The minimal resolution of the field of p elements over the group algebra of a p-group: its stages by
+//! reduced echelon lists and greedy choices, in every degree, and the laws by which a calculation finds them
+//! one after the other.
 #![tactic(auto)]
 
 ghost use Rattle.std.specs.Prelude.{◌≡◌, ℕ, suc, List, length};
@@ -37,7 +38,8 @@ pub fn next_stage_law()
         → IsNextStage q Γ K b E Q → IsNextStage q Γ K b E R → Q ≡ R }
 {}
 
-/// The kernel list of the next stage, and that of the elements of sum 0, is the list of a submodule, as the next step wants it.
+/// The kernel list of the next stage, and that of the elements of sum 0, is the list of a submodule, as the
+/// next step wants it.
 pub fn next_list_law()
     ensures { (n q : ℕ) (Γ : Group n) (K : Coordinates q Γ) (b : ℕ) (E : List (List ℕ)) (Q : StageParts) → IsNextStage q Γ K b E Q
         → IsSubmoduleList q Γ K (length Q.positions) Q.kernel }
@@ -48,7 +50,8 @@ pub fn stages_law()
     ensures { (n q : ℕ) (Γ : Group n) (K : Coordinates q Γ) → IsFieldModulo (suc q) → IsPrimePower q n → (S : StageRows) × AreStages q Γ K S }
 {}
 
-/// The stages are one, their sections are the sums over the pivots, and parts that follow each other from the list of K_0 are theirs.
+/// The stages are one, their sections are the sums over the pivots, and parts that follow each other from the
+/// list of K_0 are theirs.
 pub fn one_stages_law()
     ensures { (n q : ℕ) (Γ : Group n) (K : Coordinates q Γ) (S : StageRows) → IsFieldModulo (suc q) → AreStages q Γ K S → StageClaims q Γ K S }
 {}

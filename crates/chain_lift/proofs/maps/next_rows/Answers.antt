@@ -1,8 +1,10 @@
 use Rattle.std.proofs.Common.{◌≡◌, ◌+◌, ◌∷◌, [], ◌++◌, ℕ, List, length, ap, sym, ◌∙◌}
 use Rattle.std.proofs.lemmas.List.{length_push}
 use Rattle.fp_rows.specs.Values.{MatrixValue}
+use Rattle.group_algebra.specs.Coordinates.{layer_coordinates}
 use Rattle.min_res.specs.Values.{boundary_of}
-use Rattle.chain_lift.specs.RowMaps.{map_row, image_row, section_of}
+use Rattle.group_algebra.specs.RowMaps.{map_row}
+use Rattle.chain_lift.specs.RowMaps.{image_row, section_of}
 use Rattle.chain_lift.proofs.Lists.{rows-push, length-sum}
 use Rattle.chain_lift.proofs.maps.next_rows.Goals as goal
 
@@ -14,10 +16,8 @@ pub loop-i-preserved : goal.loop-i-preserved
 loop-i-preserved c =
     let pushed : c.push.new.self.rows ≡ c.loop-i.rows.rows ++ _ ∷ [] = ap (λ (x : MatrixValue). x.rows) c.in_ok-push.ensures.pushed in
     record {
-      block_prime = c.write_value.ensures.block_prime ∙ c.loop-i.invariant.block_prime;
-      block_length = c.write_value.ensures.block_length ∙ c.loop-i.invariant.block_length;
-      value_prime = c.write_value.ensures.out_prime ∙ c.loop-i.invariant.value_prime;
-      value_length = c.write_value.ensures.out_length ∙ c.loop-i.invariant.value_length;
+      value_prime = c.apply.ensures.prime ∙ c.loop-i.invariant.value_prime;
+      value_length = ap (λ (x : List ℕ). length x) c.apply.ensures.value ∙ ((layer_coordinates c.args.algebra.now c.args.rank).row-is _).length_is;
       lifted_prime = c.section.ensures.prime ∙ c.loop-i.invariant.lifted_prime;
       lifted_length = ap (λ (x : List ℕ). length x) c.section.ensures.value ∙ length-sum _ _ _ (boundary_of c.args.target.now).sections.rows;
       rows_prime = ap (λ (x : MatrixValue). x.p) c.in_ok-push.ensures.pushed ∙ c.loop-i.invariant.rows_prime;
@@ -27,7 +27,7 @@ loop-i-preserved c =
           (λ i. section_of c.args.target.now (map_row c.args.algebra.now c.args.rank c.args.before.now.rows (image_row c.args.source.now i)))
           c.loop-i.rows.rows _ _ c.loop-i.invariant.count c.loop-i.invariant.each
           (c.view-in-loop-i.ensures.entries ∙ c.section.ensures.value
-          ∙ ap (section_of c.args.target.now) (c.view.ensures.entries ∙ c.write_value.ensures.value
+          ∙ ap (section_of c.args.target.now) (c.view.ensures.entries ∙ c.apply.ensures.value
           ∙ ap (map_row c.args.algebra.now c.args.rank c.args.before.now.rows) c.image.ensures.entries))
           pushed;
     }

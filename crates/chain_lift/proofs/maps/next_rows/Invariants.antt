@@ -1,13 +1,12 @@
 use Rattle.std.proofs.Common.{◌≡◌, ◌<◌, ◌*◌, ℕ, length}
 use Rattle.group_table.specs.Tables.{order}
 use Rattle.linear_algebra.specs.Rows.{row}
-use Rattle.chain_lift.specs.RowMaps.{map_row, image_row, section_of}
+use Rattle.group_algebra.specs.RowMaps.{map_row}
+use Rattle.chain_lift.specs.RowMaps.{image_row, section_of}
 use Rattle.chain_lift.proofs.maps.next_rows.Given as goal
 
 abbrev pub invariant-loop-i : goal.invariant-loop-i
 invariant-loop-i l = record {
-  block_prime : l.block.p ≡ l.algebra.table.p;
-  block_length : length l.block.entries ≡ order l.algebra.table;
   value_prime : l.value.p ≡ l.algebra.table.p;
   value_length : length l.value.entries ≡ order l.algebra.table * l.rank;
   lifted_prime : l.lifted.p ≡ l.algebra.table.p;

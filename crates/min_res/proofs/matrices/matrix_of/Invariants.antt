@@ -1,21 +1,18 @@
 use Rattle.std.proofs.Common.{◌≡◌, ◌<◌, ◌*◌, ℕ, length}
-use Rattle.group_table.specs.Tables.{order}
 use Rattle.linear_algebra.specs.Rows.{row}
 use Rattle.linear_algebra.specs.Kernels.{unit_row}
-use Rattle.min_res.specs.RowMaps.{value_row}
+use Rattle.p_groups.specs.PGroups.{order_of, prime_of}
+use Rattle.group_algebra.specs.RowMaps.{map_row}
 use Rattle.min_res.proofs.matrices.matrix_of.Given as goal
 
 abbrev pub invariant-loop-j : goal.invariant-loop-j
 invariant-loop-j l = record {
-  unit_prime : l.unit.p ≡ l.algebra.table.p;
-  unit_length : length l.unit.entries ≡ order l.algebra.table * length l.positions;
-  block_prime : l.block.p ≡ l.algebra.table.p;
-  block_length : length l.block.entries ≡ order l.algebra.table;
-  value_prime : l.value.p ≡ l.algebra.table.p;
-  value_length : length l.value.entries ≡ l.list.width;
-  matrix_prime : l.matrix.p ≡ l.algebra.table.p;
-  matrix_width : l.matrix.width ≡ l.list.width;
+  unit_prime : l.unit.p ≡ prime_of l.algebra;
+  unit_length : length l.unit.entries ≡ l.dimension;
+  value_prime : l.value.p ≡ prime_of l.algebra;
+  value_length : length l.value.entries ≡ l.rows.width;
+  matrix_prime : l.matrix.p ≡ l.rows.p;
+  matrix_width : l.matrix.width ≡ l.rows.width;
   count : length l.matrix.rows ≡ l.j;
-  each : (i : ℕ) → i < l.j
-      → row l.matrix.rows i ≡ value_row l.algebra l.target l.list.rows l.positions (unit_row (order l.algebra.table * length l.positions) i);
+  each : (i : ℕ) → i < l.j → row l.matrix.rows i ≡ map_row l.algebra l.target l.rows.rows (unit_row l.dimension i);
 }

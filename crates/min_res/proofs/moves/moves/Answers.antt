@@ -1,5 +1,5 @@
 use Rattle.std.proofs.Common.{◌≡◌, ap, ◌∙◌, arith, length, take}
-use Rattle.min_res.specs.RowMaps.{moves_of}
+use Rattle.min_res.specs.MoveRows.{moves_of}
 use Rattle.min_res.proofs.MoveRows.{moves-step, moves-end}
 use Rattle.min_res.proofs.moves.moves.Goals as goal
 

@@ -1,7 +1,7 @@
 use Rattle.std.proofs.Common.{◌≡◌, ◌++◌, ◌∷◌, [], List, ℕ, ap, ap₂, ◌∙◌, arith, length, map, take}
 use Rattle.std.proofs.Math.Seq.{take-length}
 use Rattle.fp_rows.specs.Values.{MatrixValue}
-use Rattle.min_res.specs.RowMaps.{move_of}
+use Rattle.min_res.specs.MoveRows.{move_of}
 use Rattle.min_res.proofs.MoveRows.{rows-step}
 use Rattle.min_res.proofs.moves.push_moves.Goals as goal
 

@@ -1,7 +1,7 @@
 use Rattle.std.proofs.Common.{◌≡◌, ◌++◌, ◌*◌, length, map, take}
 use Rattle.group_table.specs.Tables.{order}
 use Rattle.group_modules.specs.Field.{Below}
-use Rattle.min_res.specs.RowMaps.{move_of}
+use Rattle.min_res.specs.MoveRows.{move_of}
 use Rattle.min_res.proofs.moves.push_moves.Given as goal
 
 abbrev pub invariant-loop-k : goal.invariant-loop-k

@@ -14,8 +14,8 @@ use Rattle.chain_lift.proofs.Levels.{level-at}
 use Rattle.chain_lift.proofs.Pairings.{product-is}
 use Rattle.chain_lift.proofs.lift.Lift.product.Goals as goal
 
-pub write_inner_products-requires-clause-primes : goal.write_inner_products-requires-clause-primes
-write_inner_products-requires-clause-primes c =
+pub write_pairings-requires-clause-primes : goal.write_pairings-requires-clause-primes
+write_pairings-requires-clause-primes c =
     let S : IsLiftStore c.args.self.now c.self.inside.class.p c.self.inside.levels.items =
     subst (λ v. IsLiftStore v c.self.inside.class.p c.self.inside.levels.items) c.self.view_is c.self.invariant in
     let M : IsLiftMap c.args.self.now.group c.args.self.now.degree c.args.self.now.class c.args.j c.index-level.result.now.rows
@@ -23,8 +23,8 @@ write_inner_products-requires-clause-primes c =
     c.index-level.ensures).rows_are in
     (c.requires.prime ∙ sym M.prime, c.requires.out_prime ∙ sym M.prime)
 
-pub write_inner_products-requires-clause-argument : goal.write_inner_products-requires-clause-argument
-write_inner_products-requires-clause-argument c =
+pub write_pairings-requires-clause-argument : goal.write_pairings-requires-clause-argument
+write_pairings-requires-clause-argument c =
     let S : IsLiftStore c.args.self.now c.self.inside.class.p c.self.inside.levels.items =
     subst (λ v. IsLiftStore v c.self.inside.class.p c.self.inside.levels.items) c.self.view_is c.self.invariant in
     let M : IsLiftMap c.args.self.now.group c.args.self.now.degree c.args.self.now.class c.args.j c.index-level.result.now.rows
@@ -38,8 +38,8 @@ write_inner_products-requires-clause-argument c =
     ∙ ap (λ k. order c.args.self.now.group.table * k) (sym rank) in
     omega (arith, w, long)
 
-pub write_inner_products-requires-clause-out_length : goal.write_inner_products-requires-clause-out_length
-write_inner_products-requires-clause-out_length c =
+pub write_pairings-requires-clause-out_length : goal.write_pairings-requires-clause-out_length
+write_pairings-requires-clause-out_length c =
     let S : IsLiftStore c.args.self.now c.self.inside.class.p c.self.inside.levels.items =
     subst (λ v. IsLiftStore v c.self.inside.class.p c.self.inside.levels.items) c.self.view_is c.self.invariant in
     let M : IsLiftMap c.args.self.now.group c.args.self.now.degree c.args.self.now.class c.args.j c.index-level.result.now.rows
@@ -60,6 +60,6 @@ returns-clause-value c =
           (c.args.a.below k (subst (λ n. k < n) (sym c.requires.length) l));
     } in
     product-is c.args.self.now.group c.args.j c.args.self.now.degree (entries_of c.args.a) c.args.self.now.class c.index-level.result.now.rows _ M r
-    (c.write_inner_products.ensures.length ∙ c.requires.out_length
+    (c.write_pairings.ensures.length ∙ c.requires.out_length
     ∙ ap (rank_of c.args.self.now.group) (sym (ahead-is c.args.self.now.degree c.args.j)) ∙ sym M.count)
-    c.write_inner_products.ensures.value
+    c.write_pairings.ensures.value
