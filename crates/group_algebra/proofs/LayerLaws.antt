@@ -6,11 +6,11 @@ use Rattle.p_groups.proofs.Layers.{sum_coordinates_exist, layers_exist, layer_cl
 use Rattle.group_algebra.specs.Coordinates.{sum_coordinates, layers}
 
 module _ (G : PGroup) where
-  pub sum_coordinates_are : IsSumForm (largest_residue G) (group G) (sum_coordinates G)
+  abbrev pub sum_coordinates_are : IsSumForm (largest_residue G) (group G) (sum_coordinates G)
   sum_coordinates_are = (sum_coordinates_exist G).1
 
-  pub layers_are : AreLayers (largest_residue G) (group G) (sum_coordinates G) (layers G)
+  abbrev pub layers_are : AreLayers (largest_residue G) (group G) (sum_coordinates G) (layers G)
   layers_are = (layers_exist G (sum_coordinates G)).1
 
-  pub layer_claims : LayerBasisClaims (largest_residue G) (group G) (sum_coordinates G) (layers G)
+  abbrev pub layer_claims : LayerBasisClaims (largest_residue G) (group G) (sum_coordinates G) (layers G)
   layer_claims = layer_claims_of G (sum_coordinates G) (layers G) layers_are
