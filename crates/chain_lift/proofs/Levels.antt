@@ -95,10 +95,11 @@ added p (suc n) (x ∷ xs) r =
 
 -- the first map
 pub store-start : (v : LiftValue) (p : ℕ) (old new : List Level) (l : Level) → p ≡ v.group.table.p
-    → IsLevel v.group v.degree v.class 0 l
+    → length v.class ≡ rank_of v.group v.degree → IsLevel v.group v.degree v.class 0 l
     → v.height ≡ 0 → old ≡ [] → new ≡ old ++ l ∷ [] → IsLiftStore v p new
-store-start v p old new l e L z o n = subst (λ ls. IsLiftStore v p ls) (sym (n ∙ ap (λ (x : List Level). x ++ l ∷ []) o)) (record {
+store-start v p old new l e c L z o n = subst (λ ls. IsLiftStore v p ls) (sym (n ∙ ap (λ (x : List Level). x ++ l ∷ []) o)) (record {
   prime = e;
+  entries = c;
   count = omega (arith, z);
   few = omega arith;
   each = at;
@@ -114,6 +115,7 @@ pub store-push : (v : LiftValue) (p n : ℕ) (levels new : List Level) (l : Leve
     → IsLiftStore (record v { height = n }) p new
 store-push v p n levels new l S few L e f = subst (λ ls. IsLiftStore (record v { height = n }) p ls) (sym e) (record {
   prime = S.prime;
+  entries = S.entries;
   count = omega (arith, count, f, ap (λ (x : List Level). length x) e);
   few = omega (arith, count, few);
   each = λ j x k. at j x (cases_lt j (length levels)) k;
@@ -138,6 +140,7 @@ pub store-take : (v : LiftValue) (p k n : ℕ) (levels new : List Level) → IsL
     → IsLiftStore (record v { height = n }) p new
 store-take v p k n levels new S l e f = subst (λ ls. IsLiftStore (record v { height = n }) p ls) (sym e) (record {
   prime = S.prime;
+  entries = S.entries;
   count = omega (arith, count, f, ap (λ (x : List Level). length x) e);
   few = let b : length levels ≤ 2 ^ 32 = S.few in let a : length levels ≡ suc v.height = S.count in omega (arith, count, a, b, l);
   each = λ j x m. subst (IsLevel v.group v.degree v.class j) (sym (get_or-take (k + 1) levels j x (omega (arith, m, count))))

@@ -13,7 +13,8 @@ use Rattle.fp_rows.specs.Values.{MatrixValue}
 use Rattle.p_groups.specs.PGroups.{PGroup, largest_residue, group}
 use Rattle.p_groups.proofs.Fields.{residues, field}
 use Rattle.group_algebra.specs.Coordinates.{free_module, layer_coordinates, table_of, row_of}
-use Rattle.min_res.specs.Stages.{stage_rows, stage_rows_are, rank_of}
+use Rattle.min_res.specs.Stages.{stage_rows, rank_of}
+use Rattle.min_res.proofs.StageRows.{stage_rows_are}
 use Rattle.min_res.specs.Values.{StageValue}
 use Rattle.min_res.specs.Defined.{InK, IsStageAt, σ}
 use Rattle.min_res.proofs.StageReadings.{width, section-value}

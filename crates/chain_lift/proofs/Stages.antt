@@ -9,7 +9,8 @@ use Rattle.resolution_stages.specs.Definitions.{images}
 use Rattle.fp_rows.specs.Values.{MatrixValue}
 use Rattle.p_groups.specs.PGroups.{PGroup, largest_residue}
 use Rattle.p_groups.proofs.Fields.{residues}
-use Rattle.min_res.specs.Stages.{stage_rows, stage_rows_are, rank_of}
+use Rattle.min_res.specs.Stages.{stage_rows, rank_of}
+use Rattle.min_res.proofs.StageRows.{stage_rows_are}
 use Rattle.min_res.specs.Values.{StageValue}
 use Rattle.min_res.specs.Defined.{IsStageAt}
 use Rattle.min_res.proofs.StageAbove.{positions-inside}

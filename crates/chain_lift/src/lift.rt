@@ -3,7 +3,6 @@
 ghost use Rattle.chain_lift.specs.Products.{product_row};
 ghost use Rattle.chain_lift.specs.Stores.{IsLevel};
 ghost use Rattle.fp_rows.specs.Refs.{entries_of, modulus_of};
-ghost use Rattle.min_res.specs.Defined.{IsStageAt};
 ghost use Rattle.min_res.specs.Stages.{rank_of};
 ghost use Rattle.std.specs.Prelude.{◌≡◌, ◌≤◌, ◌<◌, ◌+◌, max, suc, length, IfOk, OnErr, OnOk};
 ghost use Rattle.p_groups.specs.PGroups.{prime_of};
@@ -14,7 +13,7 @@ use crate::products::write_inner_products;
 use fp_rows::{Row, RowRef};
 use group_algebra::PGroup;
 use group_table::Memory;
-use min_res::{Resolution, Stage};
+use min_res::Resolution;
 use std::alloc::Global;
 use std::marker::Model;
 use std::rc::Rc;
@@ -51,17 +50,6 @@ impl Model for Lift {
         l.class.p l.levels.items };
 }
 
-// The stage of degree d, which is at most `last`.
-fn stage_at(res: &Resolution, d: u32) -> &Rc<Stage>
-    requires { d ≤ res.now.last }
-    ensures { IsStageAt res.now.group d result.now.value }
-{
-    match res.stage(d) {
-        Some(stage) => stage,
-        None => unreachable!(),
-    }
-}
-
 impl Lift {
     /// The lift of the class, up to height 0. The class is one of degree q, which is at most the degree of the last stage.
     pub fn new(alloc: Global, res: &Resolution, q: u32, class: RowRef<'_>) -> Result<Lift, Memory>
@@ -75,8 +63,8 @@ impl Lift {
         let mut kept = Row::zero(alloc, group.prime(), class.len())?;
         kept.add(1, class);
         let level = Level {
-            source: stage_at(res, q).clone()?,
-            target: stage_at(res, 0).clone()?,
+            source: res.stage_at(q).clone()?,
+            target: res.stage_at(0).clone()?,
             rows: first_rows(alloc, algebra, class)?,
         };
         let mut levels = Vec::new(alloc);
@@ -97,10 +85,11 @@ impl Lift {
         self.degree
     }
 
-    /// The class.
+    /// The class, which has an entry for each basis element of its degree.
     pub fn class(&self) -> RowRef<'_>
         ensures entries { entries_of result ≡ self.now.class }
         ensures modulus { modulus_of result ≡ prime_of self.now.group }
+        ensures length { length (entries_of result) ≡ rank_of self.now.group self.now.degree }
     {
         self.class.view()
     }
@@ -130,8 +119,8 @@ impl Lift {
         let before = self.last();
         let _width = before.source.kernel().width();
         let d = self.height() + 1;
-        let source = stage_at(res, self.degree() + d).clone()?;
-        let target = stage_at(res, d).clone()?;
+        let source = res.stage_at(self.degree() + d).clone()?;
+        let target = res.stage_at(d).clone()?;
         let rank = before.target.rank();
         let rows = next_rows(self.alloc, algebra, rank, &before.rows, &source, &target)?;
         Ok(Level {

@@ -16,7 +16,8 @@ use Rattle.p_groups.proofs.Fields.{residues, field}
 use Rattle.group_algebra.specs.Coordinates.{layer_coordinates}
 use Rattle.group_algebra.proofs.LayerLaws.{layer_claims, sum_coordinates_are}
 use Rattle.fp_rows.specs.Values.{MatrixValue}
-use Rattle.min_res.specs.Stages.{stage_rows, stage_rows_are}
+use Rattle.min_res.specs.Stages.{stage_rows}
+use Rattle.min_res.proofs.StageRows.{stage_rows_are}
 use Rattle.min_res.specs.Defined.{kernel_value}
 
 -- matrices by their parts

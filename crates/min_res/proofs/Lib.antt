@@ -1,3 +1,4 @@
+pub mod StageRows
 pub mod GeneratorMoves
 pub mod ProductLists
 pub mod StageLaws
@@ -12,3 +13,4 @@ pub mod FirstKernel
 pub mod StageAbove
 pub mod StageLists
 pub mod StageReadings
+pub mod OneStage

@@ -19,7 +19,8 @@ use Rattle.p_groups.specs.PGroups.{PGroup, largest_residue, group}
 use Rattle.p_groups.proofs.Fields.{residues, field, prime_power}
 use Rattle.group_algebra.specs.Coordinates.{layer_coordinates}
 use Rattle.min_res.specs.Products.{AreGenerators, numbers}
-use Rattle.min_res.specs.Stages.{stage_rows, stage_rows_are, rank_of}
+use Rattle.min_res.specs.Stages.{stage_rows, rank_of}
+use Rattle.min_res.proofs.StageRows.{stage_rows_are}
 use Rattle.min_res.specs.Defined.{free, ∂}
 use Rattle.min_res.proofs.GeneratorMoves.{IsNumbered, greedy-by-generators}
 use Rattle.min_res.proofs.StageLaws.{submodule-list, parts-one}

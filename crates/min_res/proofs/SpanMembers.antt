@@ -11,7 +11,8 @@ use Rattle.p_groups.specs.PGroups.{PGroup, largest_residue, group}
 use Rattle.p_groups.proofs.Fields.{residues}
 use Rattle.group_algebra.specs.Coordinates.{layer_coordinates, table_of, row_of}
 use Rattle.fp_rows.specs.Values.{MatrixValue}
-use Rattle.min_res.specs.Stages.{stage_rows, stage_rows_are, rank_of}
+use Rattle.min_res.specs.Stages.{stage_rows, rank_of}
+use Rattle.min_res.proofs.StageRows.{stage_rows_are}
 use Rattle.min_res.specs.Defined.{free, K, InK, kernel_value}
 use Rattle.min_res.proofs.StageLaws.{kernel-submodule-at, total-in}
 

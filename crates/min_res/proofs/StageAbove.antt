@@ -18,7 +18,8 @@ use Rattle.p_groups.specs.PGroups.{PGroup, largest_residue}
 use Rattle.group_algebra.specs.Coordinates.{layer_coordinates}
 use Rattle.min_res.specs.Products.{AreGenerators, numbers}
 use Rattle.min_res.specs.RowMaps.{linear_map, moves_of}
-use Rattle.min_res.specs.Stages.{stage_rows, stage_rows_are, rank_of}
+use Rattle.min_res.specs.Stages.{stage_rows, rank_of}
+use Rattle.min_res.proofs.StageRows.{stage_rows_are}
 use Rattle.min_res.specs.Values.{BoundaryValue, StageValue}
 use Rattle.min_res.specs.Defined.{∂, σ, kernel_value, IsBoundaryAt, IsStageAt}
 use Rattle.min_res.proofs.NextStage.{positions-one, targets, parts-found}

@@ -24,7 +24,8 @@ use Rattle.resolution_stages.proofs.FromDefinitions.{kernel-is-submodule, stage-
 use Rattle.p_groups.specs.PGroups.{PGroup, largest_residue, group}
 use Rattle.p_groups.proofs.Fields.{field, prime_power}
 use Rattle.group_algebra.specs.Coordinates.{layer_coordinates}
-use Rattle.min_res.specs.Stages.{stage_rows, stage_rows_are, rank_of}
+use Rattle.min_res.specs.Stages.{stage_rows, rank_of}
+use Rattle.min_res.proofs.StageRows.{stage_rows_are}
 use Rattle.min_res.specs.Defined.{free, K, IsExactMinimal, IsSectionOf}
 
 module _ {n : ℕ} (q : ℕ) (Γ : Group n) where
@@ -93,6 +94,8 @@ module _ (G : PGroup) where
 
   pub section-is : (d : ℕ) → IsSectionOf G d
   section-is d = record {
+    is_row = λ x k. ((stage_rows_are G).section_is d x k).is_row;
     boundary_is = λ x k. ((stage_rows_are G).section_is d x k).boundary_is;
+    zero_at_pivots = λ x k. ((stage_rows_are G).section_is d x k).zero_at_pivots;
     by_table = λ x k. (stage-claims q (field G) Γ (layer_coordinates G) S (stage_rows_are G)).by_table d x k;
   }

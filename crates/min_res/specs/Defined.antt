@@ -1,5 +1,6 @@
 -- The stages by definition, as contracts compare them with values, and the laws that hold of them.
-use Rattle.std.specs.Prelude.{◌≡◌, ℕ, suc, List, map, None, Some, ◌*◌, ◌≤◌}
+use Rattle.std.specs.Prelude.{◌≡◌, ℕ, suc, List, length, map, None, Some, ◌*◌, ◌<◌, ◌≤◌}
+use Rattle.linear_algebra.specs.Rows.{entry, row, pivot, IsRow}
 use Rattle.group_modules.specs.Module.{Module, lin}
 use Rattle.group_modules.specs.Field.{Below}
 use Rattle.group_modules.specs.Tables.{monoid, terms}
@@ -9,7 +10,7 @@ use Rattle.resolution_stages.specs.Chain.{section_row}
 use Rattle.resolution_stages.specs.Computed.{IsMatrixOf}
 use Rattle.fp_rows.specs.Values.{MatrixValue}
 use Rattle.p_groups.specs.PGroups.{PGroup, largest_residue, group, order_of, prime_of}
-use Rattle.group_algebra.specs.Coordinates.{free_module, layer_coordinates, table_of}
+use Rattle.group_algebra.specs.Coordinates.{free_module, layer_coordinates, row_of, table_of}
 use Rattle.min_res.specs.Stages.{stage_rows, rank_of}
 use Rattle.min_res.specs.Values.{BoundaryValue, StageValue}
 
@@ -21,6 +22,10 @@ module _ (G : PGroup) where
   -- the boundary of degree d + 1, from P_(d+1) to P_d
   abbrev pub ∂ : (d : ℕ) → (free (suc d)).of → (free d).of
   ∂ d u = boundary (largest_residue G) (group G) (layer_coordinates G) (stage_rows G) d u
+
+  -- the same on rows
+  abbrev pub boundary_row : ℕ → List ℕ → List ℕ
+  boundary_row d x = row_of G (rank_of G d) (∂ d (table_of G (rank_of G (suc d)) x))
 
   -- K_d: the tables of sum 0 for d = 0, and the kernel of the boundary of degree d above
   abbrev pub K : (d : ℕ) → (free d).of → Type 0
@@ -66,8 +71,12 @@ module _ (G : PGroup) where
     pub minimal : (u : (free (suc d)).of) → K (suc d) u → Radical (free (suc d)) 1 u
     pub fewest : (l : ℕ) (s : Below l → (free d).of) → ((i : Below l) → K d (s i)) → GenerateK d l s → rank_of G (suc d) ≤ l
 
-  -- what the section gives: its boundary is the row, and the sum over the pivots by the table of sections is it
+  -- what the section gives at a member of K_d: a row whose boundary is the member and that is 0 at each pivot of the list of K_(d+1);
+  -- and it is the sum over the pivots of the list of K_d by the table of sections
   pub record IsSectionOf (d : ℕ) : Type 0 where
+    pub is_row : (x : List ℕ) → InK d x → IsRow (suc (largest_residue G)) (order_of G * rank_of G (suc d)) (σ d x)
     pub boundary_is : (x : List ℕ) → InK d x → ∂ d (table_of G (rank_of G (suc d)) (σ d x)) ≡ table_of G (rank_of G d) x
+    pub zero_at_pivots : (x : List ℕ) → InK d x → (i : ℕ) → i < length ((stage_rows G).kernel (suc d))
+        → entry (σ d x) (pivot (row ((stage_rows G).kernel (suc d)) i)) ≡ 0
     pub by_table : (x : List ℕ) → InK d x
         → σ d x ≡ section_row (suc (largest_residue G)) (order_of G * rank_of G (suc d)) ((stage_rows G).kernel d) (map (σ d) ((stage_rows G).kernel d)) x

@@ -6,6 +6,7 @@ mod combine;
 mod fault;
 mod first;
 mod generators;
+mod laws;
 mod matrices;
 mod moves;
 mod next;
@@ -13,6 +14,7 @@ mod resolution;
 mod stage;
 
 pub use fault::ResFault;
+pub use laws::{boundary_law, exactness_law, one_stage_law, section_law, stage_exists_law};
 pub use resolution::Resolution;
 pub use stage::Stage;
 

@@ -67,7 +67,8 @@ impl Resolution {
     pub fn extend(&mut self, limit: u64) -> Result<(), ResFault>
         requires few { self.old.last + 1 < 2 ^ 32 }
         requires limit { limit ≤ 2 ^ 28 }
-        ensures grown { OnOk result (self.new ≡ record self.old { last = suc self.old.last }) }
+        ensures group { self.new.group ≡ self.old.group }
+        ensures grown { OnOk result (self.new.last ≡ suc self.old.last) }
         ensures within { OnOk result (order_of self.old.group * rank_of self.old.group (suc self.old.last) ≤ limit) }
         ensures refused { IfErr result (λ e. IsRefusal self.old.group (suc self.old.last) limit e) }
         ensures kept { OnErr result (self.new ≡ self.old) }
@@ -90,20 +91,11 @@ impl Resolution {
         ensures width { IfOk result (λ s. s.kernel.width ≤ limit) }
         ensures refusal { IfErr result (λ e. IsRefusal self.now.group (suc self.now.last) limit e) }
     {
-        let last = self.at(self.stages.len() - 1);
+        let last = self.stage_at(self.last());
         match next_stage(self.alloc, &self.algebra, &self.generators, last, limit) {
             Ok(stage) => Ok(stage),
             Err(fault) => Err(fault),
         }
-    }
-
-    // The stage of degree d, which is at most `last`.
-    fn at(&self, d: usize) -> &Rc<Stage>
-        requires { d ≤ self.now.last }
-        ensures stage { IsStageAt self.now.group d result.now.value }
-        ensures small { result.now.value.kernel.width ≤ 2 ^ 28 }
-    {
-        &self.stages[d]
     }
 
     /// The group algebra.
@@ -120,13 +112,23 @@ impl Resolution {
         (self.stages.len() - 1) as u32
     }
 
-    /// The stage of degree d, and `None` exactly where d is above `last`.
+    /// The stage of degree d, which is at most `last`. The rows of its kernel have at most 2^28 entries.
+    pub fn stage_at(&self, d: u32) -> &Rc<Stage>
+        requires { d ≤ self.now.last }
+        ensures stage { IsStageAt self.now.group d result.now.value }
+        ensures small { result.now.value.kernel.width ≤ 2 ^ 28 }
+    {
+        &self.stages[d as usize]
+    }
+
+    /// The stage of degree d, and `None` exactly where d is above `last`. The rows of its kernel have at most 2^28 entries.
     pub fn stage(&self, d: u32) -> Option<&Rc<Stage>>
         ensures none { IsNone result ↔ (self.now.last < d) }
         ensures stage { IfSome result (λ s. IsStageAt self.now.group d s.now.value) }
+        ensures small { IfSome result (λ s. s.now.value.kernel.width ≤ 2 ^ 28) }
     {
         if d <= self.last() {
-            Some(self.at(d as usize))
+            Some(self.stage_at(d))
         } else {
             None
         }
@@ -143,7 +145,6 @@ impl Resolution {
         ensures prime { out.new.p ≡ out.old.p }
         ensures value { out.new.entries ≡ σ self.now.group (d - 1) (entries_of v.entry) }
     {
-        let stage = self.at(d as usize);
-        stage.section(v, out);
+        self.stage_at(d).section(v, out);
     }
 }

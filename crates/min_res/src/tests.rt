@@ -1,82 +1,25 @@
 ghost use Rattle.group_table.specs.Prime.{prime_value};
-ghost use Rattle.group_table.specs.Tables.{order};
 ghost use Rattle.min_res.specs.Defined.{InK};
 ghost use Rattle.min_res.specs.Stages.{rank_of};
-ghost use Rattle.std.specs.Prelude.{◌≡◌, ◌*◌, ◌<◌, All, IfOk, IsTrue, length, vec_len};
+ghost use Rattle.std.specs.Prelude.{◌≡◌, ◌*◌, IfOk, IsTrue, length};
 ghost use Rattle.p_groups.specs.PGroups.{order_of, prime_of};
 
 use super::*;
 use fp_rows::{Row, RowRef};
 use group_algebra::Algebra;
-use group_table::{Group, Prime};
-use std::alloc::{AllocError, Global};
+use group_table::Prime;
+use small_groups::SmallGroup;
+use std::alloc::Global;
 use std::process::Abort;
 use std::test::Fail;
-
-// The words 1, a, b, ab, c, ac, bc, abc with a and b of order 2 and their commutator c.
-const DIHEDRAL: [u16; 64] = [
-    0, 1, 2, 3, 4, 5, 6, 7, //
-    1, 0, 3, 2, 5, 4, 7, 6, //
-    2, 7, 0, 5, 6, 3, 4, 1, //
-    3, 6, 1, 4, 7, 2, 5, 0, //
-    4, 5, 6, 7, 0, 1, 2, 3, //
-    5, 4, 7, 6, 1, 0, 3, 2, //
-    6, 3, 4, 1, 2, 7, 0, 5, //
-    7, 2, 5, 0, 3, 6, 1, 4, //
-];
-
-// The words 1, i, j, ij, -1, -i, -j, -ij.
-const QUATERNION: [u16; 64] = [
-    0, 1, 2, 3, 4, 5, 6, 7, //
-    1, 4, 3, 6, 5, 0, 7, 2, //
-    2, 7, 4, 1, 6, 3, 0, 5, //
-    3, 2, 5, 4, 7, 6, 1, 0, //
-    4, 5, 6, 7, 0, 1, 2, 3, //
-    5, 0, 7, 2, 1, 4, 3, 6, //
-    6, 3, 0, 5, 2, 7, 4, 1, //
-    7, 6, 1, 0, 3, 2, 5, 4, //
-];
-
-// The pairs of numbers modulo 3.
-const NINE: [u16; 81] = [
-    0, 1, 2, 3, 4, 5, 6, 7, 8, //
-    1, 2, 0, 4, 5, 3, 7, 8, 6, //
-    2, 0, 1, 5, 3, 4, 8, 6, 7, //
-    3, 4, 5, 6, 7, 8, 0, 1, 2, //
-    4, 5, 3, 7, 8, 6, 1, 2, 0, //
-    5, 3, 4, 8, 6, 7, 2, 0, 1, //
-    6, 7, 8, 0, 1, 2, 3, 4, 5, //
-    7, 8, 6, 1, 2, 0, 4, 5, 3, //
-    8, 6, 7, 2, 0, 1, 5, 3, 4, //
-];
-
-const KLEIN: [u16; 16] = [
-    0, 1, 2, 3, //
-    1, 0, 3, 2, //
-    2, 3, 0, 1, //
-    3, 2, 1, 0, //
-];
-
-fn table_of(
-    rt: &impl Abort,
-    alloc: Global,
-    order: u16,
-    entries: &[u16],
-) -> Result<Vec<u16>, AllocError>
-    ensures { IfOk result (λ table. (vec_len table ≡ order * order) × All (λ e. e < order) table.items) }
-{
-    assert_eq!(rt; entries.len(), order as usize * order as usize);
-    assert!(rt; entries.iter().all(|e| *e < order));
-    Vec::from_slice(alloc, entries)
-}
 
 fn resolved(
     rt: &impl Abort,
     alloc: Global,
-    group: &Group,
+    kind: SmallGroup,
     degree: u32,
 ) -> Result<Resolution, Fail> {
-    let algebra = Algebra::build(alloc, group)?;
+    let algebra = Algebra::build(alloc, &kind.group(alloc)?)?;
     let mut resolution = Resolution::start(alloc, algebra)?;
     for _d in 0..degree {
         assert!(rt; resolution.last() < 24);
@@ -95,13 +38,6 @@ fn has_stage(resolution: &Resolution, d: u32, rank: usize, kernel: usize) -> boo
     }
 }
 
-fn has_rank(resolution: &Resolution, d: u32, rank: usize) -> bool {
-    match resolution.stage(d) {
-        Some(stage) => stage.rank() == rank,
-        None => false,
-    }
-}
-
 // Whether row i of the boundary has this place in the list of the kernel before.
 fn has_position(resolution: &Resolution, d: u32, i: usize, position: u32) -> bool {
     match resolution.stage(d) {
@@ -116,9 +52,7 @@ fn shows(r: RowRef<'_>, entries: &[u8]) -> bool {
 
 #[test]
 fn resolves_the_dihedral_group(rt: HostRuntime) -> Result<(), Fail> {
-    let table = table_of(&rt, rt.alloc(), 8, &DIHEDRAL)?;
-    let group = Group::from_table(rt.alloc(), Prime::P2, 3, table)?;
-    let resolution = resolved(&rt, rt.alloc(), &group, 2)?;
+    let resolution = resolved(&rt, rt.alloc(), SmallGroup::Dihedral, 2)?;
     for (d, rank, kernel) in [(0, 1, 7), (1, 2, 9), (2, 3, 15)] {
         assert!(rt; has_stage(&resolution, d, rank, kernel), "at {d}");
     }
@@ -130,20 +64,25 @@ fn resolves_the_dihedral_group(rt: HostRuntime) -> Result<(), Fail> {
 }
 
 #[test]
-fn resolves_the_trivial_group(rt: HostRuntime) -> Result<(), Fail> {
-    let table = table_of(&rt, rt.alloc(), 1, &[0])?;
-    let group = Group::from_table(rt.alloc(), Prime::P2, 0, table)?;
-    let resolution = resolved(&rt, rt.alloc(), &group, 1)?;
-    assert!(rt; has_stage(&resolution, 0, 1, 0));
-    assert!(rt; has_stage(&resolution, 1, 0, 0));
+fn has_the_ranks_of_small_groups(rt: HostRuntime) -> Result<(), Fail> {
+    let groups: [(SmallGroup, u32, &[usize]); 3] = [
+        (SmallGroup::Trivial, 1, &[1, 0]),
+        (SmallGroup::Quaternion, 6, &[1, 2, 2, 1, 1, 2, 2]),
+        (SmallGroup::Nine, 4, &[1, 2, 3, 4, 5]),
+    ];
+    for (kind, degree, ranks) in groups {
+        let resolution = resolved(&rt, rt.alloc(), kind, degree)?;
+        for d in 0..=degree {
+            assert!(rt; d <= resolution.last());
+            assert_eq!(rt; ranks.get(d as usize).copied(), Some(resolution.stage_at(d).rank()));
+        }
+    }
     Ok(())
 }
 
 #[test]
 fn names_the_dimension_above_the_limit(rt: HostRuntime) -> Result<(), Fail> {
-    let table = table_of(&rt, rt.alloc(), 4, &KLEIN)?;
-    let group = Group::from_table(rt.alloc(), Prime::P2, 2, table)?;
-    let mut resolution = resolved(&rt, rt.alloc(), &group, 0)?;
+    let mut resolution = resolved(&rt, rt.alloc(), SmallGroup::Klein, 0)?;
     assert_eq!(rt; resolution.last(), 0);
     assert!(rt; resolution.extend(10).is_ok());
     assert_eq!(rt; resolution.last(), 1);
@@ -157,46 +96,6 @@ fn names_the_dimension_above_the_limit(rt: HostRuntime) -> Result<(), Fail> {
     );
     assert_eq!(rt; resolution.last(), 1);
     assert!(rt; resolution.extend(12).is_ok());
-    Ok(())
-}
-
-#[test]
-fn has_the_ranks_of_the_quaternion_group(rt: HostRuntime) -> Result<(), Fail> {
-    let table = table_of(&rt, rt.alloc(), 8, &QUATERNION)?;
-    let group = Group::from_table(rt.alloc(), Prime::P2, 3, table)?;
-    let resolution = resolved(&rt, rt.alloc(), &group, 6)?;
-    for (d, rank) in [(0, 1), (1, 2), (2, 2), (3, 1), (4, 1), (5, 2), (6, 2)] {
-        assert!(rt; has_rank(&resolution, d, rank), "at {d}");
-    }
-    Ok(())
-}
-
-#[test]
-fn has_the_ranks_of_an_elementary_group(rt: HostRuntime) -> Result<(), Fail> {
-    let table = table_of(&rt, rt.alloc(), 9, &NINE)?;
-    let group = Group::from_table(rt.alloc(), Prime::P3, 2, table)?;
-    let resolution = resolved(&rt, rt.alloc(), &group, 4)?;
-    for (d, rank) in [(0, 1), (1, 2), (2, 3), (3, 4), (4, 5)] {
-        assert!(rt; has_rank(&resolution, d, rank), "at {d}");
-    }
-    Ok(())
-}
-
-// The boundary of degree 1 of the group of two elements takes 1 to g - 1, and g - 1 to 0; in the basis 1, g - 1.
-#[test]
-fn reads_the_stage_of_two_elements(rt: HostRuntime) -> Result<(), Fail> {
-    let table = table_of(&rt, rt.alloc(), 2, &[0, 1, 1, 0])?;
-    let group = Group::from_table(rt.alloc(), Prime::P2, 1, table)?;
-    let resolution = resolved(&rt, rt.alloc(), &group, 2)?;
-    assert!(rt; has_stage(&resolution, 2, 1, 1));
-    let stage = resolution.stage(1).ok_or("no stage")?;
-    let source = stage.source().ok_or("no source")?;
-    assert!(rt; stage.degree() > 0 && stage.rank() == 1 && source.rows() == 1);
-    assert!(rt; shows(source.row(0), &[0, 1]));
-    assert!(rt; stage.degree() > 0 && stage.rank() > 0);
-    assert!(rt; shows(stage.image(0), &[0, 1]));
-    assert!(rt; stage.degree() > 0 && source.rows() > 0);
-    assert!(rt; shows(stage.section_row(0), &[1, 0]));
     Ok(())
 }
 
@@ -220,12 +119,19 @@ fn there_and_back(alloc: Global, stage: &Stage) -> Result<Option<(Row, Row)>, Fa
     Ok(Some((value, unit)))
 }
 
+// The boundary of degree 1 of the group of two elements takes 1 to g - 1, and g - 1 to 0; in the basis 1, g - 1.
 #[test]
-fn goes_there_and_back(rt: HostRuntime) -> Result<(), Fail> {
-    let table = table_of(&rt, rt.alloc(), 2, &[0, 1, 1, 0])?;
-    let group = Group::from_table(rt.alloc(), Prime::P2, 1, table)?;
-    let resolution = resolved(&rt, rt.alloc(), &group, 1)?;
+fn reads_the_stage_of_two_elements(rt: HostRuntime) -> Result<(), Fail> {
+    let resolution = resolved(&rt, rt.alloc(), SmallGroup::Two, 2)?;
+    assert!(rt; has_stage(&resolution, 2, 1, 1));
     let stage = resolution.stage(1).ok_or("no stage")?;
+    let source = stage.source().ok_or("no source")?;
+    assert!(rt; stage.degree() > 0 && stage.rank() == 1 && source.rows() == 1);
+    assert!(rt; shows(source.row(0), &[0, 1]));
+    assert!(rt; stage.degree() > 0 && stage.rank() > 0);
+    assert!(rt; shows(stage.image(0), &[0, 1]));
+    assert!(rt; stage.degree() > 0 && source.rows() > 0);
+    assert!(rt; shows(stage.section_row(0), &[1, 0]));
     let (value, unit) = there_and_back(rt.alloc(), stage)?.ok_or("no boundary")?;
     assert!(rt; shows(value.view(), &[0, 1]));
     assert!(rt; shows(unit.view(), &[1, 0]));
@@ -288,9 +194,7 @@ fn section_of(
 // takes 1 to X^2, so their kernels are the multiples of X^2 and of X: the sections of 2 X + X^2 and of 2 X^2 are 2 + X and 2.
 #[test]
 fn sections_of_three_elements(rt: HostRuntime) -> Result<(), Fail> {
-    let table = table_of(&rt, rt.alloc(), 3, &[0, 1, 2, 1, 2, 0, 2, 0, 1])?;
-    let group = Group::from_table(rt.alloc(), Prime::P3, 1, table)?;
-    let resolution = resolved(&rt, rt.alloc(), &group, 2)?;
+    let resolution = resolved(&rt, rt.alloc(), SmallGroup::Three, 2)?;
     let first = section_of(&rt, rt.alloc(), &resolution, 1, &[0, 2, 1])?;
     assert!(rt; shows(first.view(), &[2, 1, 0]));
     let second = section_of(&rt, rt.alloc(), &resolution, 2, &[0, 0, 2])?;

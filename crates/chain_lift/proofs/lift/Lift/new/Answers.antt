@@ -30,9 +30,9 @@ invariant_of-result c =
     (record { source = c.in_ok-clone.field-0; target = c.in_ok-clone-2.field-0; rows = c.in_ok-first_rows.field-0 })
     = record {
       source_is = stage-along c.args.res.now.group A (sym c.algebra-algebra.ensures) _ _ _ _
-          (let z : c.args.q ≡ c.args.q + 0 = omega arith in z) c.in_ok-clone.ensures.cases c.stage_at.ensures;
+          (let z : c.args.q ≡ c.args.q + 0 = omega arith in z) c.in_ok-clone.ensures.cases c.stage_at.ensures.stage;
       target_is = stage-along c.args.res.now.group A
-          (sym c.algebra-algebra.ensures) _ _ _ _ refl c.in_ok-clone-2.ensures.cases c.stage_at-2.ensures;
+          (sym c.algebra-algebra.ensures) _ _ _ _ refl c.in_ok-clone-2.ensures.cases c.stage_at-2.ensures.stage;
       rows_are = first-map A c.args.q
           (entries_of c.args.class) c.in_ok-first_rows.field-0 c.in_ok-first_rows.ensures.prime c.in_ok-first_rows.ensures.width
           c.in_ok-first_rows.ensures.count ranks below c.in_ok-first_rows.ensures.rows;
@@ -43,6 +43,8 @@ invariant_of-result c =
     (let z : length c.new-levels.result.items ≡ 0 = ap (λ (x : List Level). length x) c.new-levels.ensures.items in omega (arith, count, z)) in
     store-start _ _ c.new-levels.result.items _ _
     (ap (λ (x : RowValue). x.p) c.add.ensures ∙ ap (λ (x : RowValue). x.p) c.in_ok-kept.ensures ∙ c.prime.ensures)
+    (let P : PGroup → ℕ → Type 0 = λ G n. n ≡ rank_of G c.args.q in
+    subst (λ G. P G (length c.add.new.self.entries)) (sym same) (subst (λ n. P A n) (sym (ap (λ (x : List ℕ). length x) kept)) ranks))
     (first-level A c.in_ok-group.group (sym same) c.args.q (entries_of c.args.class) c.add.new.self.entries (sym kept) _ L) none
     c.new-levels.ensures.items c.in_ok-push.ensures.items
 

@@ -15,10 +15,10 @@ next_rows-requires c =
     let e : c.algebra-algebra.result.now ≡ V = c.algebra-algebra.ensures ∙ c.requires.group in
     let A : IsStageAt V (c.args.self.now.degree + (c.args.self.now.height + 1)) c.deref-3.result.now
     = stage-along c.args.res.now.group V c.requires.group _ _ _ _ (ap₂ (λ (x y : ℕ). x + (y + 1)) c.degree.ensures c.height-d.ensures)
-    (c.deref-3.ensures ∙ c.in_ok-source.ensures.cases) c.stage_at.ensures in
+    (c.deref-3.ensures ∙ c.in_ok-source.ensures.cases) c.stage_at.ensures.stage in
     let B : IsStageAt V (c.args.self.now.height + 1) c.deref-4.result.now
     = stage-along c.args.res.now.group V c.requires.group _ _ _ _ (ap (λ (y : ℕ). y + 1) c.height-d.ensures) (c.deref-4.ensures
-    ∙ c.in_ok-target.ensures.cases) c.stage_at-2.ensures in
+    ∙ c.in_ok-target.ensures.cases) c.stage_at-2.ensures.stage in
     let r : c.rank-rank.result ≡ c.last-before.result.now.target.value.rank = c.rank-rank.ensures
     ∙ ap (λ (x : StageValue). x.rank) c.deref-2.ensures in
     let w : c.last-before.result.now.source.value.kernel.width < 2 ^ 64 =
@@ -35,10 +35,10 @@ returns c =
     let e : c.algebra-algebra.result.now ≡ V = c.algebra-algebra.ensures ∙ c.requires.group in
     let A : IsStageAt V (c.args.self.now.degree + (c.args.self.now.height + 1)) c.deref-3.result.now
     = stage-along c.args.res.now.group V c.requires.group _ _ _ _ (ap₂ (λ (x y : ℕ). x + (y + 1)) c.degree.ensures c.height-d.ensures)
-    (c.deref-3.ensures ∙ c.in_ok-source.ensures.cases) c.stage_at.ensures in
+    (c.deref-3.ensures ∙ c.in_ok-source.ensures.cases) c.stage_at.ensures.stage in
     let B : IsStageAt V (c.args.self.now.height + 1) c.deref-4.result.now
     = stage-along c.args.res.now.group V c.requires.group _ _ _ _ (ap (λ (y : ℕ). y + 1) c.height-d.ensures) (c.deref-4.ensures
-    ∙ c.in_ok-target.ensures.cases) c.stage_at-2.ensures in
+    ∙ c.in_ok-target.ensures.cases) c.stage_at-2.ensures.stage in
     let r : c.rank-rank.result ≡ c.last-before.result.now.target.value.rank = c.rank-rank.ensures
     ∙ ap (λ (x : StageValue). x.rank) c.deref-2.ensures in
     let P : PGroup → Type 0 = λ G. (i : ℕ) → i < c.deref-3.result.now.rank
