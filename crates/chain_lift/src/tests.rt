@@ -1,85 +1,15 @@
-ghost use Rattle.std.specs.Prelude.{◌≡◌, ◌≤◌, ◌*◌, ◌<◌, All, IfOk, length, vec_len};
+ghost use Rattle.std.specs.Prelude.{◌≡◌, ◌+◌, IfOk, length};
 ghost use Rattle.min_res.specs.Stages.{rank_of};
 ghost use Rattle.p_groups.specs.PGroups.{prime_of};
 
 use super::*;
 use fp_rows::{Row, RowRef};
 use group_algebra::Algebra;
-use group_table::{Group, Prime};
 use min_res::Resolution;
-use std::alloc::{AllocError, Global};
+use small_groups::SmallGroup;
+use std::alloc::Global;
 use std::process::Abort;
 use std::test::Fail;
-
-#[derive(Clone, Copy)]
-enum Kind {
-    Two,
-    Four,
-    Klein,
-    Dihedral,
-    Quaternion,
-    Nine,
-}
-
-impl Kind {
-    fn order(self) -> u16 {
-        match self {
-            Kind::Two => 2,
-            Kind::Four | Kind::Klein => 4,
-            Kind::Dihedral | Kind::Quaternion => 8,
-            Kind::Nine => 9,
-        }
-    }
-
-    // In the groups of order 8 the words 1, a, b, ab, c, ac, bc, abc, with c of order 2, the commutator of a and b. In the dihedral group
-    // a and b have order 2; in the quaternion group their squares are c.
-    fn product(self, a: u16, b: u16) -> u16 {
-        let commutator = (a >> 1) & b & 1;
-        let squares = (a & b & 1) ^ ((a & b) >> 1 & 1);
-        match self {
-            Kind::Two | Kind::Klein => a ^ b,
-            Kind::Four => (a % 4 + b % 4) % 4,
-            Kind::Dihedral => a ^ b ^ (commutator << 2),
-            Kind::Quaternion => a ^ b ^ ((commutator ^ squares) << 2),
-            Kind::Nine => (a % 3 + b % 3) % 3 + 3 * ((a / 3 % 3 + b / 3 % 3) % 3),
-        }
-    }
-}
-
-fn entries(alloc: Global, kind: Kind) -> Result<Vec<u16>, AllocError> {
-    let mut entries = Vec::new(alloc);
-    for a in 0..kind.order() {
-        for b in 0..kind.order() {
-            entries.push(kind.product(a, b))?;
-        }
-    }
-    Ok(entries)
-}
-
-fn table(
-    rt: &impl Abort,
-    alloc: Global,
-    order: u16,
-    entries: &[u16],
-) -> Result<Vec<u16>, AllocError>
-    ensures { IfOk result (λ table. (vec_len table ≡ order * order) × All (λ e. e < order) table.items) }
-{
-    assert_eq!(rt; entries.len(), order as usize * order as usize);
-    assert!(rt; entries.iter().all(|e| *e < order));
-    Vec::from_slice(alloc, entries)
-}
-
-fn group_of(rt: &impl Abort, alloc: Global, kind: Kind) -> Result<Group, Fail> {
-    let entries = entries(alloc, kind)?;
-    match kind {
-        Kind::Nine => Ok(Group::from_table(alloc, Prime::P3, 2, table(rt, alloc, 9, &entries)?)?),
-        Kind::Two => Ok(Group::from_table(alloc, Prime::P2, 1, table(rt, alloc, 2, &entries)?)?),
-        Kind::Four | Kind::Klein => {
-            Ok(Group::from_table(alloc, Prime::P2, 2, table(rt, alloc, 4, &entries)?)?)
-        }
-        _ => Ok(Group::from_table(alloc, Prime::P2, 3, table(rt, alloc, 8, &entries)?)?),
-    }
-}
 
 fn extended(rt: &impl Abort, resolution: &mut Resolution, count: u32) -> Result<(), Fail>
     ensures { IfOk result (λ _. resolution.new.group ≡ resolution.old.group) }
@@ -91,9 +21,14 @@ fn extended(rt: &impl Abort, resolution: &mut Resolution, count: u32) -> Result<
     Ok(())
 }
 
-fn resolved(rt: &impl Abort, alloc: Global, kind: Kind, degree: u32) -> Result<Resolution, Fail> {
-    let group = group_of(rt, alloc, kind)?;
-    let mut resolution = Resolution::start(alloc, Algebra::build(alloc, &group)?)?;
+fn resolved(
+    rt: &impl Abort,
+    alloc: Global,
+    kind: SmallGroup,
+    degree: u32,
+) -> Result<Resolution, Fail> {
+    let algebra = Algebra::build(alloc, &kind.group(alloc)?)?;
+    let mut resolution = Resolution::start(alloc, algebra)?;
     extended(rt, &mut resolution, degree)?;
     Ok(resolution)
 }
@@ -145,41 +80,13 @@ fn product_with(
     Ok(out)
 }
 
-// The product of basis classes i and k of degree 1.
-fn product(
-    rt: &impl Abort,
-    alloc: Global,
-    resolution: &Resolution,
-    i: usize,
-    k: usize,
-) -> Result<Row, Fail>
-    ensures { IfOk result (λ r. r.p ≡ prime_of resolution.now.group) }
-{
-    assert!(rt; resolution.last() >= 2);
-    let class = basis(rt, alloc, resolution, 1, k)?;
-    let mut lift = Lift::new(alloc, resolution, 1, class.view())?;
-    lift.extend_to(resolution, 1)?;
-    product_with(rt, alloc, resolution, 1, i, &lift)
-}
-
 fn shows(r: RowRef<'_>, entries: &[u8]) -> bool {
     r.len() == entries.len() && (0..r.len()).all(|i| r.get(i) == entries[i])
 }
 
-// The square of the class of degree 1 of a cyclic group of order 4 is 0, and that of a group of order 2 is not.
-#[test]
-fn squares_in_cyclic_groups(rt: HostRuntime) -> Result<(), Fail> {
-    for (kind, square) in [(Kind::Two, 1), (Kind::Four, 0)] {
-        let resolution = resolved(&rt, rt.alloc(), kind, 2)?;
-        let p = product(&rt, rt.alloc(), &resolution, 0, 0)?;
-        assert!(rt; shows(p.view(), &[square]));
-    }
-    Ok(())
-}
-
 #[test]
 fn extends_over_a_grown_resolution(rt: HostRuntime) -> Result<(), Fail> {
-    let mut resolution = resolved(&rt, rt.alloc(), Kind::Two, 1)?;
+    let mut resolution = resolved(&rt, rt.alloc(), SmallGroup::Two, 1)?;
     let class = basis(&rt, rt.alloc(), &resolution, 1, 0)?;
     assert_eq!(rt; resolution.last(), 1);
     let mut lift = Lift::new(rt.alloc(), &resolution, 1, class.view())?;
@@ -194,35 +101,48 @@ fn extends_over_a_grown_resolution(rt: HostRuntime) -> Result<(), Fail> {
     Ok(())
 }
 
-// Adds c times the product of basis classes i and k of degree 1.
-fn add_product(
+// The sum of c times the product of basis classes i and k of degree 1, for each c, i, k.
+fn quadratic(
     rt: &impl Abort,
     alloc: Global,
-    resolution: &Resolution,
-    c: u8,
-    i: usize,
-    k: usize,
-    sum: &mut Row,
-) -> Result<(), Fail>
-    requires { sum.old.p ≡ prime_of resolution.now.group }
-    ensures { sum.new.p ≡ sum.old.p }
-{
-    let p = product(rt, alloc, resolution, i, k)?;
-    assert!(rt; p.len() == sum.len());
-    assert!(rt; c < resolution.algebra().group().prime().value());
-    sum.add(c, p.view());
-    Ok(())
-}
-
-// Whether the products xx, xy, yx and yy of the basis classes x and y of degree 1, with these factors, add up to 0.
-fn vanishes(rt: &impl Abort, alloc: Global, kind: Kind, factors: [u8; 4]) -> Result<bool, Fail> {
+    kind: SmallGroup,
+    terms: &[(u8, usize, usize)],
+) -> Result<Row, Fail> {
     let resolution = resolved(rt, alloc, kind, 2)?;
     let mut sum = zero(alloc, &resolution, 2)?;
-    add_product(rt, alloc, &resolution, factors[0], 0, 0, &mut sum)?;
-    add_product(rt, alloc, &resolution, factors[1], 0, 1, &mut sum)?;
-    add_product(rt, alloc, &resolution, factors[2], 1, 0, &mut sum)?;
-    add_product(rt, alloc, &resolution, factors[3], 1, 1, &mut sum)?;
-    Ok((0..sum.len()).all(|i| sum.get(i) == 0))
+    for (c, i, k) in terms {
+        assert!(rt; resolution.last() >= 2 && *c < resolution.algebra().group().prime().value());
+        let class = basis(rt, alloc, &resolution, 1, *k)?;
+        let mut lift = Lift::new(alloc, &resolution, 1, class.view())?;
+        lift.extend_to(&resolution, 1)?;
+        let product = product_with(rt, alloc, &resolution, 1, *i, &lift)?;
+        assert!(rt; product.len() == sum.len());
+        sum.add(*c, product.view());
+    }
+    Ok(sum)
+}
+
+fn vanishes(r: RowRef<'_>) -> bool {
+    (0..r.len()).all(|i| r.get(i) == 0)
+}
+
+// In degree 2 the square of the class x of degree 1 is 0 in a cyclic group of order 4, and not in one of order 2. For x and y in the group
+// of type (3, 3) xx, yy and xy + yx are 0, and xy is not.
+#[test]
+fn has_the_squares_of_abelian_groups(rt: HostRuntime) -> Result<(), Fail> {
+    let cases: [(SmallGroup, &[(u8, usize, usize)], bool); 6] = [
+        (SmallGroup::Two, &[(1, 0, 0)], false),
+        (SmallGroup::Four, &[(1, 0, 0)], true),
+        (SmallGroup::Nine, &[(1, 0, 0)], true),
+        (SmallGroup::Nine, &[(1, 1, 1)], true),
+        (SmallGroup::Nine, &[(1, 0, 1), (1, 1, 0)], true),
+        (SmallGroup::Nine, &[(1, 0, 1)], false),
+    ];
+    for (kind, terms, zero) in cases {
+        let sum = quadratic(&rt, rt.alloc(), kind, terms)?;
+        assert_eq!(rt; vanishes(sum.view()), zero);
+    }
+    Ok(())
 }
 
 // Of the sums of xx, xy and yy none is 0 in the Klein group, xy alone in the dihedral group, and xx + xy + yy alone in the quaternion
@@ -230,24 +150,15 @@ fn vanishes(rt: &impl Abort, alloc: Global, kind: Kind, factors: [u8; 4]) -> Res
 #[test]
 fn has_the_relations_of_degree_two(rt: HostRuntime) -> Result<(), Fail> {
     for (kind, relation) in [
-        (Kind::Klein, 0),
-        (Kind::Dihedral, 0b010),
-        (Kind::Quaternion, 0b111),
+        (SmallGroup::Klein, 0),
+        (SmallGroup::Dihedral, 0b010),
+        (SmallGroup::Quaternion, 0b111),
     ] {
-        for sum in 1..8 {
-            let factors = [sum & 1, sum >> 1 & 1, 0, sum >> 2 & 1];
-            assert_eq!(rt; vanishes(&rt, rt.alloc(), kind, factors)?, sum == relation);
+        for bits in 1..8 {
+            let terms = [(bits & 1, 0, 0), (bits >> 1 & 1, 0, 1), (bits >> 2 & 1, 1, 1)];
+            let sum = quadratic(&rt, rt.alloc(), kind, &terms)?;
+            assert_eq!(rt; vanishes(sum.view()), bits == relation);
         }
     }
-    Ok(())
-}
-
-// In the group of type (3, 3) xx, yy and xy + yx are 0, and xy is not.
-#[test]
-fn is_exterior_for_an_odd_prime(rt: HostRuntime) -> Result<(), Fail> {
-    assert!(rt; vanishes(&rt, rt.alloc(), Kind::Nine, [1, 0, 0, 0])?);
-    assert!(rt; vanishes(&rt, rt.alloc(), Kind::Nine, [0, 0, 0, 1])?);
-    assert!(rt; vanishes(&rt, rt.alloc(), Kind::Nine, [0, 1, 1, 0])?);
-    assert!(rt; !vanishes(&rt, rt.alloc(), Kind::Nine, [0, 1, 0, 0])?);
     Ok(())
 }
