@@ -7,12 +7,13 @@ use Rattle.std.proofs.lemmas.Bool.Decides.{nat_tests}
 use Rattle.std.proofs.lemmas.Option.{option_and_then_some}
 use Rattle.std.proofs.lemmas.List.{append-nil}
 use Rattle.std.proofs.lemmas.Fmt.{decimal_digit}
+use Rattle.limits.specs.declared.TheConstants.{GREATEST_DEGREE}
 use Rattle.graded_polynomials.specs.Texts.{joined_by, star, plus_sign}
 use Rattle.graded_polynomials.proofs.Terms.{eqb-true}
 use Rattle.polynomial_texts.specs.Grammar.{NamedFactor, NamedTerm, Sum, zero_text, one_text, terms, is_letter, is_name_byte, IsFactor, IsTerm, IsTextOf, caret, exponent_text, factor_text, term_bytes}
 use Rattle.gc_poly.specs.declared.syntax.State.{State}
-use Rattle.gc_poly.specs.declared.syntax.State.TheVariants.{Start, Zero, One, Coefficient, TermStart, FactorStart, Name, Caret, ExponentOne, ExponentTwo, Exponent}
-use Rattle.gc_poly.specs.Automaton.{separator, term_start, exponent_start, after, run, is_end}
+use Rattle.gc_poly.specs.declared.syntax.State.TheVariants.{Start, Zero, One, Coefficient, TermStart, FactorStart, Name, Caret, ExponentDigit, Exponent}
+use Rattle.gc_poly.specs.Automaton.{separator, term_start, exponent_start, goes_on, after, run, is_end}
 use Rattle.gc_poly.proofs.Running.{IsAccepted, decimal-two}
 
 -- factors and terms that go on, each behind its separator
@@ -72,7 +73,7 @@ module _ (q : ℕ) where
     name : List ℕ
     exponent : Option ℕ
     named : Each (λ c. is_name_byte c ≡ true) name
-    formed : IfSome exponent (λ e. (1 ≤ e) × (e ≤ 24))
+    formed : IfSome exponent (λ e. (1 ≤ e) × (e ≤ GREATEST_DEGREE))
     rest : List ℕ
     tail : Tail rest
     bytes : v ≡ name ++ exponent_text exponent ++ rest
@@ -81,7 +82,7 @@ module _ (q : ℕ) where
   record ExponentRest (before v : List ℕ) : Type 0 where
     exponent : ℕ
     low : 1 ≤ exponent
-    high : exponent ≤ 24
+    high : exponent ≤ GREATEST_DEGREE
     rest : List ℕ
     tail : Tail rest
     bytes : before ++ v ≡ decimal exponent ++ rest
@@ -98,12 +99,22 @@ module _ (q : ℕ) where
   Rest FactorStart v = FactorRest v
   Rest Name v = NameRest v
   Rest Caret v = ExponentRest [] v
-  Rest ExponentOne v = ExponentRest (49 ∷ []) v
-  Rest ExponentTwo v = ExponentRest (50 ∷ []) v
+  Rest (ExponentDigit c) v = 1 ≤ c → c < 10 → ExponentRest ((48 + c) ∷ []) v
   Rest Exponent v = Tail v
 
   no-tail : Tail []
   no-tail = record { factors = []; others = []; each = tt; each_other = tt; bytes = refl }
+
+  -- an exponent of one digit
+  digit-exponent : (e : ℕ) (w : List ℕ) → 1 ≤ e → e < 10 → Tail w → ExponentRest ((48 + e) ∷ []) w
+  digit-exponent e w l h r = record {
+    exponent = e;
+    low = l;
+    high = omega arith;
+    rest = w;
+    tail = r;
+    bytes = sym (ap (λ (ds : List ℕ). ds ++ w) (decimal_digit e h));
+  }
 
   at-end : (s : State) → is_end s ≡ true → Rest s []
   at-end Start h = absurd (false≢true h)
@@ -114,22 +125,7 @@ module _ (q : ℕ) where
   at-end FactorStart h = absurd (false≢true h)
   at-end Name h = record { name = []; exponent = None; named = tt; formed = tt; rest = []; tail = no-tail; bytes = refl }
   at-end Caret h = absurd (false≢true h)
-  at-end ExponentOne h = record {
-    exponent = 1;
-    low = omega arith;
-    high = omega arith;
-    rest = [];
-    tail = no-tail;
-    bytes = sym (ap (λ (ds : List ℕ). ds ++ []) (decimal_digit 1 (omega arith)));
-  }
-  at-end ExponentTwo h = record {
-    exponent = 2;
-    low = omega arith;
-    high = omega arith;
-    rest = [];
-    tail = no-tail;
-    bytes = sym (ap (λ (ds : List ℕ). ds ++ []) (decimal_digit 2 (omega arith)));
-  }
+  at-end (ExponentDigit c) h = λ l u. digit-exponent c [] l u no-tail
   at-end Exponent h = no-tail
 
   chosen : {X : Type 0} (b : Bool) (x y : Option X) (z : X) → cond b x y ≡ Some z → ((b ≡ true) × (x ≡ Some z)) ⊎ ((b ≡ false) × (y ≡ Some z))
@@ -289,19 +285,8 @@ module _ (q : ℕ) where
       go (inl e) = more-name b w e.0 (let z : t ≡ Name = cc e.1 in subst (λ t. Rest t w) z r)
       go (inr e) = others (chosen (eqb b caret) (Some Caret) (separator b) t e.1)
 
-  -- an exponent of one digit
-  digit-exponent : (e : ℕ) (w : List ℕ) → 1 ≤ e → e < 10 → Tail w → ExponentRest ((48 + e) ∷ []) w
-  digit-exponent e w l h r = record {
-    exponent = e;
-    low = l;
-    high = omega arith;
-    rest = w;
-    tail = r;
-    bytes = sym (ap (λ (ds : List ℕ). ds ++ w) (decimal_digit e h));
-  }
-
   -- an exponent of two digits
-  digits-exponent : (c d : ℕ) (w : List ℕ) → 1 ≤ c → d < 10 → 10 * c + d ≤ 24 → Tail w → ExponentRest ((48 + c) ∷ []) ((48 + d) ∷ w)
+  digits-exponent : (c d : ℕ) (w : List ℕ) → 1 ≤ c → d < 10 → 10 * c + d ≤ GREATEST_DEGREE → Tail w → ExponentRest ((48 + c) ∷ []) ((48 + d) ∷ w)
   digits-exponent c d w l h k r = record {
     exponent = 10 * c + d;
     low = omega arith;
@@ -319,40 +304,28 @@ module _ (q : ℕ) where
   in-range a b c h = (grind (arith, nat_tests), grind (arith, nat_tests))
 
   caret-after : (b : ℕ) (w : List ℕ) (t : State) → exponent_start b ≡ Some t → Rest t w → ExponentRest [] (b ∷ w)
-  caret-after b w t h r = go (chosen (eqb b 49) (Some ExponentOne)
-      (cond (eqb b 50) (Some ExponentTwo) (cond (leb 51 b && leb b 57) (Some Exponent) None)) t h)
+  caret-after b w t h r = go (chosen (leb 49 b && leb b 57) (Some (ExponentDigit (b - 48))) None t h)
     where
-      third : ((leb 51 b && leb b 57 ≡ true) × (Some Exponent ≡ Some t)) ⊎ ((leb 51 b && leb b 57 ≡ false) × (None ≡ Some t))
+      go : ((leb 49 b && leb b 57 ≡ true) × (Some (ExponentDigit (b - 48)) ≡ Some t)) ⊎ ((leb 49 b && leb b 57 ≡ false) × (None ≡ Some t))
           → ExponentRest [] (b ∷ w)
-      third (inl e) = let k = in-range 51 b 57 e.0 in let z : t ≡ Exponent = cc e.1 in let n : 48 + (b - 48) ≡ b = omega (arith, k.0) in
-          shifted b w (subst (λ b. ExponentRest (b ∷ []) w) n
-          (digit-exponent (b - 48) w (omega (arith, k.0)) (omega (arith, k.1)) (subst (λ t. Rest t w) z r)))
-      third (inr e) = cc e.1
+      go (inl e) = let k = in-range 49 b 57 e.0 in let z : t ≡ ExponentDigit (b - 48) = cc e.1 in let n : 48 + (b - 48) ≡ b = omega (arith, k.0) in
+          shifted b w (subst (λ b. ExponentRest (b ∷ []) w) n ((subst (λ t. Rest t w) z r) (omega (arith, k.0)) (omega (arith, k.1))))
+      go (inr e) = cc e.1
 
-      second : ((eqb b 50 ≡ true) × (Some ExponentTwo ≡ Some t)) ⊎
-          ((eqb b 50 ≡ false) × (cond (leb 51 b && leb b 57) (Some Exponent) None ≡ Some t)) → ExponentRest [] (b ∷ w)
-      second (inl e) = subst (λ b. ExponentRest [] (b ∷ w)) (sym (eqb-true b 50 e.0))
-          (shifted 50 w (let z : t ≡ ExponentTwo = cc e.1 in subst (λ t. Rest t w) z r))
-      second (inr e) = third (chosen (leb 51 b && leb b 57) (Some Exponent) None t e.1)
+  digit-fits : (c b : ℕ) → goes_on c b ≡ true → (48 ≤ b) × (b < 58) × (10 * c + (b - 48) ≤ GREATEST_DEGREE)
+  digit-fits c b h = (grind (arith, nat_tests), grind (arith, nat_tests), grind (arith, nat_tests))
 
-      go : ((eqb b 49 ≡ true) × (Some ExponentOne ≡ Some t)) ⊎
-          ((eqb b 49 ≡ false) × (cond (eqb b 50) (Some ExponentTwo) (cond (leb 51 b && leb b 57) (Some Exponent) None) ≡ Some t))
-          → ExponentRest [] (b ∷ w)
-      go (inl e) = subst (λ b. ExponentRest [] (b ∷ w)) (sym (eqb-true b 49 e.0))
-          (shifted 49 w (let z : t ≡ ExponentOne = cc e.1 in subst (λ t. Rest t w) z r))
-      go (inr e) = second (chosen (eqb b 50) (Some ExponentTwo) (cond (leb 51 b && leb b 57) (Some Exponent) None) t e.1)
-
-  -- a digit, or the end of the factor, behind the exponent c
-  exponent-after : (c low : ℕ) (b : ℕ) (w : List ℕ) (t : State) → 1 ≤ c → c ≤ 2 → 10 * c + low ≤ 24 + 48 → low ≤ 57
-      → cond (leb 48 b && leb b low) (Some Exponent) (separator b) ≡ Some t → Rest t w → ExponentRest ((48 + c) ∷ []) (b ∷ w)
-  exponent-after c low b w t l m k u h r = go (chosen (leb 48 b && leb b low) (Some Exponent) (separator b) t h)
+  -- a digit, or the end of the factor, behind the first digit c
+  exponent-after : (c b : ℕ) (w : List ℕ) (t : State) → cond (goes_on c b) (Some Exponent) (separator b) ≡ Some t → Rest t w
+      → 1 ≤ c → c < 10 → ExponentRest ((48 + c) ∷ []) (b ∷ w)
+  exponent-after c b w t h r l u = go (chosen (goes_on c b) (Some Exponent) (separator b) t h)
     where
-      go : ((leb 48 b && leb b low ≡ true) × (Some Exponent ≡ Some t)) ⊎ ((leb 48 b && leb b low ≡ false) × (separator b ≡ Some t))
+      go : ((goes_on c b ≡ true) × (Some Exponent ≡ Some t)) ⊎ ((goes_on c b ≡ false) × (separator b ≡ Some t))
           → ExponentRest ((48 + c) ∷ []) (b ∷ w)
-      go (inl e) = let i = in-range 48 b low e.0 in let z : t ≡ Exponent = cc e.1 in let n : 48 + (b - 48) ≡ b = omega (arith, i.0) in
+      go (inl e) = let i = digit-fits c b e.0 in let z : t ≡ Exponent = cc e.1 in let n : 48 + (b - 48) ≡ b = omega (arith, i.0) in
           subst (λ b. ExponentRest ((48 + c) ∷ []) (b ∷ w)) n
-          (digits-exponent c (b - 48) w l (omega (arith, i.1)) (omega (arith, i.1)) (subst (λ t. Rest t w) z r))
-      go (inr e) = digit-exponent c (b ∷ w) l (omega arith) (separator-tail b w t e.1 r)
+          (digits-exponent c (b - 48) w l (omega (arith, i.0, i.1)) i.2 (subst (λ t. Rest t w) z r))
+      go (inr e) = digit-exponent c (b ∷ w) l u (separator-tail b w t e.1 r)
 
   letter-after : (b : ℕ) (w : List ℕ) (t : State) → cond (is_letter b) (Some Name) None ≡ Some t → Rest t w → FactorRest (b ∷ w)
   letter-after b w t h r = go (chosen (is_letter b) (Some Name) None t h)
@@ -370,8 +343,7 @@ module _ (q : ℕ) where
   step FactorStart b w t m l h r = letter-after b w t h r
   step Name b w t m l h r = name-after b w t h r
   step Caret b w t m l h r = caret-after b w t h r
-  step ExponentOne b w t m l h r = exponent-after 1 57 b w t (omega arith) (omega arith) (omega arith) (omega arith) h r
-  step ExponentTwo b w t m l h r = exponent-after 2 52 b w t (omega arith) (omega arith) (omega arith) (omega arith) h r
+  step (ExponentDigit c) b w t m l h r = exponent-after c b w t h r
   step Exponent b w t m l h r = separator-tail b w t h r
 
   accepted-rest : (v : List ℕ) (s : State) → q ≤ 6 → 1 ≤ q → IsAccepted q s v → Rest s v

@@ -5,6 +5,7 @@ use Rattle.std.specs.List.{slice_split, AllByRecursion as Each}
 use Rattle.std.proofs.lemmas.List.{get_or-map, length-map}
 use Rattle.std.proofs.lemmas.List.Elements.{All-from_recursion, recursion_from_All}
 use Rattle.std.proofs.lemmas.Slice.Zip.{AllZip-long}
+use Rattle.limits.specs.declared.TheConstants.{GREATEST_DEGREE, LONGEST_TEXT}
 use Rattle.graded_polynomials.specs.Polynomials.{Polynomial}
 use Rattle.graded_polynomials.specs.Texts.{Factor, ReadTerm, joined_by, star, plus_sign, read_value}
 use Rattle.polynomial_texts.specs.Grammar.{NamedFactor, NamedTerm, Sum, zero_text, one_text, terms, IsName, IsFactor, IsTerm, IsSum, IsTextOf, exponent_text, factor_text, numeral_pieces, term_bytes, sum_bytes, placed_names}
@@ -83,12 +84,12 @@ factors-of ds fs [] h z = tt
 factors-of ds [] (x ∷ xs) h z = absurd z
 factors-of ds (f ∷ fs) (x ∷ xs) h z = (exponent f.exponent h.0.exponent z.0.exponent_is, factors-of ds fs xs h.1 z.1)
   where
-    exponent : (e : Option ℕ) → IfSome e (λ e. (1 ≤ e) × (e ≤ 24)) → x.exponent ≡ number e → IsFactorOf ds x
+    exponent : (e : Option ℕ) → IfSome e (λ e. (1 ≤ e) × (e ≤ GREATEST_DEGREE)) → x.exponent ≡ number e → IsFactorOf ds x
     exponent None h k = record { within = z.0.within; low = omega (arith, k); high = omega (arith, k) }
     exponent (Some e) h k = record { within = z.0.within; low = omega (arith, k, h.0); high = omega (arith, k, h.1) }
 
 module _ (g : Generators) (p : 2 ≤ g.prime) where
-  term-of : (t : NamedTerm) (r : ReadTerm) → length (term_bytes t) ≤ 65536 → IsTerm (greatest g) t → NamesTerm g.degrees t r → IsTermOf g r
+  term-of : (t : NamedTerm) (r : ReadTerm) → length (term_bytes t) ≤ LONGEST_TEXT → IsTerm (greatest g) t → NamesTerm g.degrees t r → IsTermOf g r
   term-of t r l h z = go t.numeral h.numeral z.numeral_is
     where
       factors : AreFactorsOf g.degrees r.factors
@@ -101,14 +102,14 @@ module _ (g : Generators) (p : 2 ≤ g.prime) where
       go None h k = record { low = omega (arith, k); high = omega (arith, k, p); factors = factors }
       go (Some c) h k = record { low = omega (arith, k, h.0); high = omega (arith, k, h.1, p); factors = factors }
 
-  terms-of : (ts : List NamedTerm) (rs : List ReadTerm) → Each (λ b. length b ≤ 65536) (map term_bytes ts) → Each (IsTerm (greatest g)) ts
+  terms-of : (ts : List NamedTerm) (rs : List ReadTerm) → Each (λ b. length b ≤ LONGEST_TEXT) (map term_bytes ts) → Each (IsTerm (greatest g)) ts
       → NamesTerms g.degrees ts rs → Each (IsTermOf g) rs
   terms-of ts [] l h z = tt
   terms-of [] (r ∷ rs) l h z = absurd z
   terms-of (t ∷ ts) (r ∷ rs) l h z = (term-of t r l.0 h.0 z.0, terms-of ts rs l.1 h.1 z.1)
 
   -- the terms of a text are within bounds
-  pub sum-terms : (s : Sum) (text : List ℕ) (rs : List ReadTerm) → length text ≤ 65536 → IsTextOf (greatest g) s text
+  pub sum-terms : (s : Sum) (text : List ℕ) (rs : List ReadTerm) → length text ≤ LONGEST_TEXT → IsTextOf (greatest g) s text
       → NamesSum g.degrees s rs → AreTermsOf g rs
   sum-terms s text rs l h z = All-from_recursion (IsTermOf g) rs (go s h.formed (omega (arith, l, ap length h.text_is)) z)
     where
@@ -118,10 +119,10 @@ module _ (g : Generators) (p : 2 ≤ g.prime) where
       one : Each (IsTermOf g) (record { numeral = 1; factors = [] } ∷ [])
       one = (record { low = omega arith; high = omega (arith, p); factors = record { few = omega arith; each = λ i d l. absurd (omega arith) } }, tt)
 
-      go : (s : Sum) → IsSum (greatest g) s → length (sum_bytes s) ≤ 65536 → NamesSum g.degrees s rs → Each (IsTermOf g) rs
+      go : (s : Sum) → IsSum (greatest g) s → length (sum_bytes s) ≤ LONGEST_TEXT → NamesSum g.degrees s rs → Each (IsTermOf g) rs
       go zero_text k l z = subst (Each (IsTermOf g)) (sym z) none
       go one_text k l z = subst (Each (IsTermOf g)) (sym z) one
-      go (terms ts) k l z = terms-of ts rs (pieces-bounded plus_sign (map term_bytes ts) 65536 l) k.1 z
+      go (terms ts) k l z = terms-of ts rs (pieces-bounded plus_sign (map term_bytes ts) LONGEST_TEXT l) k.1 z
 
 pub name-fault : (g : Generators) (text : List ℕ) (s : Sum) (e : PolyFault) → IsTextOf (greatest g) s text
     → IsUnknownAt g.degrees (placed_names s) e → IsAnswerOf g text (Err e)
@@ -131,10 +132,10 @@ name-fault g text s (Mixed d k) h u = absurd u
 name-fault g text s (TooHigh d) h u = absurd u
 name-fault g text s Memory h u = tt
 
-degrees-small : (ds : List ℕ) (rs : List ReadTerm) → All (λ k. k ≤ 24) (map (term_degree ds) rs) → Each (λ r. term_degree ds r ≤ 24) rs
-degrees-small ds rs h = go rs (recursion_from_All (λ k. k ≤ 24) (map (term_degree ds) rs) h)
+degrees-small : (ds : List ℕ) (rs : List ReadTerm) → All (λ k. k ≤ GREATEST_DEGREE) (map (term_degree ds) rs) → Each (λ r. term_degree ds r ≤ GREATEST_DEGREE) rs
+degrees-small ds rs h = go rs (recursion_from_All (λ k. k ≤ GREATEST_DEGREE) (map (term_degree ds) rs) h)
   where
-    go : (rs : List ReadTerm) → Each (λ k. k ≤ 24) (map (term_degree ds) rs) → Each (λ r. term_degree ds r ≤ 24) rs
+    go : (rs : List ReadTerm) → Each (λ k. k ≤ GREATEST_DEGREE) (map (term_degree ds) rs) → Each (λ r. term_degree ds r ≤ GREATEST_DEGREE) rs
     go [] h = tt
     go (r ∷ rs) h = (h.0, go rs h.1)
 

@@ -7,6 +7,7 @@ use Rattle.std.proofs.lemmas.List.{take_all}
 use Rattle.std.proofs.lemmas.List.Elements.{All-from_recursion}
 use Rattle.std.proofs.lemmas.List.Splits.{slice_split_at, slice_split_none, length-slice_split, join_with_byte-slice_split}
 use Rattle.std.proofs.lemmas.Fmt.{decimal_digit}
+use Rattle.limits.specs.declared.TheConstants.{GREATEST_DEGREE}
 use Rattle.graded_polynomials.specs.Texts.{joined_by, star}
 use Rattle.graded_polynomials.proofs.Terms.{eqb-self, eqb-false}
 use Rattle.polynomial_texts.specs.Grammar.{NamedFactor, NamedTerm, IsName, IsFactor, IsTerm, is_letter, is_digit, exponent_text, factor_text, term_bytes}
@@ -15,8 +16,8 @@ use Rattle.polynomial_texts.proofs.Bytes.{Without, digit-byte, each-map, letter-
 use Rattle.polynomial_texts.proofs.Unique.{exponent_pieces, factor-joined, exponent-without, IsExponent}
 use Rattle.gc_poly.proofs.Running.{decimal-two}
 
--- a numeral up to 24 has one or two digits
-numeral-digits : (e : ℕ) → e ≤ 24
+-- a numeral up to the greatest degree has one or two digits
+numeral-digits : (e : ℕ) → e ≤ GREATEST_DEGREE
     → ((decimal e ≡ (48 + e) ∷ []) × (e < 10)) ⊎ ((decimal e ≡ (48 + e / 10) ∷ (48 + e % 10) ∷ []) × (e / 10 < 10) × (e % 10 < 10))
 numeral-digits e h = go (cases_lt e 10)
   where
@@ -31,7 +32,7 @@ digit-at : (ds bs : List ℕ) (i d r : ℕ) → ds ≡ bs → d < 10 → get_or 
 digit-at ds bs i d r e l g v = let b : get_or ds i 0 ≡ 48 + d = ap (λ ds. get_or ds i 0) e
     ∙ g in let k = v (ap is_digit b ∙ digit-byte d l) in omega (arith, k, b)
 
-pub digit-value : (e r : ℕ) (ds : List ℕ) → e ≤ 24 → decimal e ≡ ds → length ds < 2
+pub digit-value : (e r : ℕ) (ds : List ℕ) → e ≤ GREATEST_DEGREE → decimal e ≡ ds → length ds < 2
     → (is_digit (get_or ds 0 0) ≡ true → 48 + r ≡ get_or ds 0 0) → r ≡ e
 digit-value e r ds h k l v = go (numeral-digits e h)
   where
@@ -39,7 +40,7 @@ digit-value e r ds h k l v = go (numeral-digits e h)
     go (inl p) = digit-at ds ((48 + e) ∷ []) 0 e r (sym k ∙ p.0) p.1 refl v
     go (inr p) = absurd (let n : length ds ≡ 2 = ap length (sym k ∙ p.0) in omega arith)
 
-pub digits-value : (e r s : ℕ) (ds : List ℕ) → e ≤ 24 → decimal e ≡ ds → 2 ≤ length ds
+pub digits-value : (e r s : ℕ) (ds : List ℕ) → e ≤ GREATEST_DEGREE → decimal e ≡ ds → 2 ≤ length ds
     → (is_digit (get_or ds 0 0) ≡ true → 48 + r ≡ get_or ds 0 0) → (is_digit (get_or ds 1 0) ≡ true → 48 + s ≡ get_or ds 1 0) → 10 * r + s ≡ e
 digits-value e r s ds h k l v w = go (numeral-digits e h)
   where
@@ -49,7 +50,7 @@ digits-value e r s ds h k l v w = go (numeral-digits e h)
     go (inr p) = let a = digit-at ds ((48 + e / 10) ∷ (48 + e % 10) ∷ []) 0 (e / 10) r (sym k ∙ p.0) p.1 refl v in
         let b = digit-at ds ((48 + e / 10) ∷ (48 + e % 10) ∷ []) 1 (e % 10) s (sym k ∙ p.0) p.2 refl w in omega (arith, a, b)
 
-pub numeral-length : (e : ℕ) (ds : List ℕ) → e ≤ 24 → decimal e ≡ ds → (1 ≤ length ds) × (length ds ≤ 2)
+pub numeral-length : (e : ℕ) (ds : List ℕ) → e ≤ GREATEST_DEGREE → decimal e ≡ ds → (1 ≤ length ds) × (length ds ≤ 2)
 numeral-length e ds h k = go (numeral-digits e h)
   where
     go : ((decimal e ≡ (48 + e) ∷ []) × (e < 10)) ⊎ ((decimal e ≡ (48 + e / 10) ∷ (48 + e % 10) ∷ []) × (e / 10 < 10) × (e % 10 < 10))
@@ -81,7 +82,7 @@ pub record IsCut (f : NamedFactor) (n ds : List ℕ) : Type 0 where
   pub name_is : n ≡ f.name
   pub exponent : ℕ
   pub exponent_is : f.exponent ≡ Some exponent
-  pub small : exponent ≤ 24
+  pub small : exponent ≤ GREATEST_DEGREE
   pub digits : decimal exponent ≡ ds
 
 pub cut-some : (f : NamedFactor) (piece n ds : List ℕ) → IsFactor f → factor_text f ≡ piece → All (λ y. y ≢ 94) n → piece ≡ n ++ 94 ∷ ds

@@ -2,6 +2,7 @@
 use Rattle.std.proofs.Common.{◌≡◌, ◌≢◌, ℕ, zero, suc, ◌+◌, ◌-◌, ◌*◌, ◌<◌, ◌≤◌, inl, inr, List, [], ◌∷◌, ◌++◌, length, take, drop, get_or, All, subst, arith, ap, sym, ◌∙◌, refl}
 use Rattle.std.proofs.Math.Nat.{mul-le-mul_left}
 use Rattle.std.proofs.lemmas.List.{take_more}
+use Rattle.limits.specs.declared.TheConstants.{GREATEST_DEGREE}
 use Rattle.graded_polynomials.specs.Texts.{Factor}
 use Rattle.polynomial_texts.specs.Readings.{factors_degree, IsFirst}
 use Rattle.gc_poly.specs.declared.fault.PolyFault.TheVariants.{Mixed}
@@ -25,7 +26,7 @@ pub degree-more : (ds : List ℕ) (xs : List Factor) (i : ℕ) (x : Factor) → 
     → factors_degree ds (take (i + 1) xs) ≡ factors_degree ds (take i xs) + get_or ds x.generator 0 * x.exponent
 degree-more ds xs i x l e = ap (factors_degree ds) (take_more xs i x l ∙ ap (λ y. take i xs ++ y ∷ []) (sym e)) ∙ degree-append ds (take i xs) x
 
-pub factor-small : (a b : ℕ) → a ≤ 24 → b ≤ 24 → a * b ≤ 576
+pub factor-small : (a b : ℕ) → a ≤ GREATEST_DEGREE → b ≤ GREATEST_DEGREE → a * b ≤ 576
 factor-small a b h k = omega (arith, mul-le-mul_left a k)
 
 -- the degree so far is at most the whole
@@ -36,7 +37,7 @@ degree-front ds (x ∷ xs) zero = omega arith
 degree-front ds (x ∷ xs) (suc i) = omega (arith, degree-front ds xs i)
 
 -- the degrees are not all the first
-pub mixed-fault : (degrees : List ℕ) (e : ℕ) → 1 ≤ length degrees → All (λ k. k ≤ 24) degrees
+pub mixed-fault : (degrees : List ℕ) (e : ℕ) → 1 ≤ length degrees → All (λ k. k ≤ GREATEST_DEGREE) degrees
     → IsFirst (λ k. k ≢ get_or degrees 0 0) e (take (length degrees - 1) (drop 1 degrees)) → IsDegreeFault degrees (Mixed (get_or degrees 0 0) e)
 mixed-fault [] e l h f = absurd (omega arith)
 mixed-fault (x ∷ xs) e l h f = (h, refl, subst (IsFirst (λ k. k ≢ x) e) (rest-whole (x ∷ xs) 1) f)

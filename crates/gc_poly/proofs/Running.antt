@@ -1,18 +1,19 @@
 -- The automaton runs through every text of the grammar to an end.
-use Rattle.std.proofs.Common.{◌≡◌, ◌≢◌, ℕ, ◌+◌, ◌/◌, ◌%◌, ◌<◌, ◌≤◌, ◌⊎◌, inl, inr, true, false, cond, ◌&&◌, leb, eqb, List, [], ◌∷◌, ◌++◌, map, Option, None, Some, arith, ap, sym, subst, ◌∙◌, refl}
+use Rattle.std.proofs.Common.{◌≡◌, ◌≢◌, ℕ, ◌+◌, ◌-◌, ◌*◌, ◌/◌, ◌%◌, ◌<◌, ◌≤◌, ◌⊎◌, inl, inr, true, false, cond, ◌&&◌, leb, eqb, List, [], ◌∷◌, ◌++◌, map, Option, None, Some, arith, ap, sym, subst, ◌∙◌, refl}
 use Rattle.std.specs.Prelude.{decimal, IfSome}
 use Rattle.std.specs.Option.{option_and_then}
 use Rattle.std.specs.List.{AllByRecursion as Each}
 use Rattle.std.proofs.lemmas.Bool.{false≢true, cases_lt, cases_eq}
 use Rattle.std.proofs.lemmas.Bool.Decides.{nat_tests}
 use Rattle.std.proofs.lemmas.Fmt.{decimal_digit, decimal_step}
+use Rattle.limits.specs.declared.TheConstants.{GREATEST_DEGREE}
 use Rattle.graded_polynomials.specs.Texts.{joined_by, star, plus_sign}
 use Rattle.graded_polynomials.proofs.Terms.{eqb-false}
 use Rattle.polynomial_texts.specs.Grammar.{NamedFactor, NamedTerm, Sum, zero_text, one_text, terms, is_letter, is_name_byte, IsName, IsFactor, IsTerm, IsSum, IsTextOf, GoesOn, caret, exponent_text, factor_text, numeral_pieces, term_bytes, sum_bytes}
 use Rattle.polynomial_texts.proofs.Bytes.{digit-byte}
 use Rattle.gc_poly.specs.declared.syntax.State.{State}
-use Rattle.gc_poly.specs.declared.syntax.State.TheVariants.{Start, Zero, One, Coefficient, TermStart, FactorStart, Name, Caret, ExponentOne, ExponentTwo, Exponent}
-use Rattle.gc_poly.specs.Automaton.{separator, term_start, exponent_start, after, run, is_end}
+use Rattle.gc_poly.specs.declared.syntax.State.TheVariants.{Start, Zero, One, Coefficient, TermStart, FactorStart, Name, Caret, ExponentDigit, Exponent}
+use Rattle.gc_poly.specs.Automaton.{separator, term_start, exponent_start, goes_on, after, run, is_end}
 
 pub run-append : (q : ℕ) (s : State) (xs ys : List ℕ) → run q s (xs ++ ys) ≡ option_and_then (λ t. run q t ys) (run q s xs)
 run-append q s [] ys = refl
@@ -38,11 +39,8 @@ pub record IsFactorEnd (q : ℕ) (t : State) : Type 0 where
 name-end : (q : ℕ) → IsFactorEnd q Name
 name-end q = record { ending = refl; star_next = refl; plus_next = refl }
 
-one-end : (q : ℕ) → IsFactorEnd q ExponentOne
-one-end q = record { ending = refl; star_next = refl; plus_next = refl }
-
-two-end : (q : ℕ) → IsFactorEnd q ExponentTwo
-two-end q = record { ending = refl; star_next = refl; plus_next = refl }
+digit-end : (q c : ℕ) → IsFactorEnd q (ExponentDigit c)
+digit-end q c = record { ending = refl; star_next = refl; plus_next = refl }
 
 exponent-end : (q : ℕ) → IsFactorEnd q Exponent
 exponent-end q = record { ending = refl; star_next = refl; plus_next = refl }
@@ -76,53 +74,47 @@ name-runs : (q : ℕ) (s : State) (n : List ℕ) → BeginsName q s → IsName n
 name-runs q s [] b h = absurd h
 name-runs q s (x ∷ xs) b h = run-step q s Name Name x xs (b x h.0) (name-goes-on q xs h.1)
 
-digit-start : (e : ℕ) → 3 ≤ e → e < 10 → exponent_start (48 + e) ≡ Some Exponent
-digit-start e l h = rw (eqb-false (48 + e) 49 (λ z. omega arith), eqb-false (48 + e) 50 (λ z. omega arith), both) refl
+digit-start : (e : ℕ) → 1 ≤ e → e < 10 → exponent_start (48 + e) ≡ Some (ExponentDigit e)
+digit-start e l h = rw (both, back) refl
   where
-    both : (leb 51 (48 + e) && leb (48 + e) 57) ≡ true
+    both : (leb 49 (48 + e) && leb (48 + e) 57) ≡ true
     both = grind (arith, nat_tests)
 
+    back : 48 + e - 48 ≡ e
+    back = omega arith
+
 one-digit : (q e : ℕ) → 1 ≤ e → e < 10 → RunsToEnd q Caret ((48 + e) ∷ [])
-one-digit q e l h = go (cases_eq e 1) (cases_eq e 2)
+one-digit q e l h = (ExponentDigit e, run-step q Caret (ExponentDigit e) (ExponentDigit e) (48 + e) [] (digit-start e l h) refl, digit-end q e)
+
+digit-goes-on : (c d : ℕ) → d < 10 → 10 * c + d ≤ GREATEST_DEGREE → goes_on c (48 + d) ≡ true
+digit-goes-on c d l h = rw (digit-byte d l, back) fits
   where
-    go : (e ≡ 1) ⊎ (e ≡ 1 → ⊥) → (e ≡ 2) ⊎ (e ≡ 2 → ⊥) → RunsToEnd q Caret ((48 + e) ∷ [])
-    go (inl z) w = (ExponentOne, ap (λ e. run q Caret ((48 + e) ∷ [])) z, one-end q)
-    go (inr n) (inl z) = (ExponentTwo, ap (λ e. run q Caret ((48 + e) ∷ [])) z, two-end q)
-    go (inr n) (inr m) = (Exponent, run-step q Caret Exponent Exponent (48 + e) [] (digit-start e (omega arith) h) refl, exponent-end q)
+    back : 48 + d - 48 ≡ d
+    back = omega arith
 
-second-low : (d : ℕ) → d ≤ 4 → (leb 48 (48 + d) && leb (48 + d) 52) ≡ true
-second-low d h = grind (arith, nat_tests)
+    fits : leb (10 * c + d) GREATEST_DEGREE ≡ true
+    fits = grind (arith, nat_tests)
 
-two-digits : (q c d : ℕ) → d < 10 → (c ≡ 1) ⊎ ((c ≡ 2) × (d ≤ 4)) → RunsToEnd q Caret ((48 + c) ∷ (48 + d) ∷ [])
-two-digits q c d h (inl z) = (
+two-digits : (q c d : ℕ) → 1 ≤ c → c < 10 → d < 10 → 10 * c + d ≤ GREATEST_DEGREE → RunsToEnd q Caret ((48 + c) ∷ (48 + d) ∷ [])
+two-digits q c d l k u h = (
   Exponent,
-  run-step q Caret ExponentOne Exponent (48 + c) ((48 + d) ∷ []) (ap (λ c. exponent_start (48 + c)) z)
-      (run-step q ExponentOne Exponent Exponent (48 + d) [] (ap (λ t. cond t (Some Exponent) (separator (48 + d))) (digit-byte d h)) refl),
-  exponent-end q,
-)
-two-digits q c d h (inr z) = (
-  Exponent,
-  run-step q Caret ExponentTwo Exponent (48 + c) ((48 + d) ∷ []) (ap (λ c. exponent_start (48 + c)) z.0)
-      (run-step q ExponentTwo Exponent Exponent (48 + d) [] (ap (λ t. cond t (Some Exponent) (separator (48 + d))) (second-low d z.1)) refl),
+  run-step q Caret (ExponentDigit c) Exponent (48 + c) ((48 + d) ∷ []) (digit-start c l k)
+      (run-step q (ExponentDigit c) Exponent Exponent (48 + d) [] (ap (λ t. cond t (Some Exponent) (separator (48 + d))) (digit-goes-on c d u h)) refl),
   exponent-end q,
 )
 
 -- a numeral of two digits
-pub decimal-two : (e : ℕ) → 10 ≤ e → e ≤ 24 → decimal e ≡ (48 + e / 10) ∷ (48 + e % 10) ∷ []
+pub decimal-two : (e : ℕ) → 10 ≤ e → e ≤ GREATEST_DEGREE → decimal e ≡ (48 + e / 10) ∷ (48 + e % 10) ∷ []
 decimal-two e l h = decimal_step e l (omega arith) ∙ ap (λ ds. ds ++ (48 + e % 10) ∷ []) (decimal_digit (e / 10) (omega arith))
 
-decimal-runs : (q e : ℕ) → 1 ≤ e → e ≤ 24 → RunsToEnd q Caret (decimal e)
+decimal-runs : (q e : ℕ) → 1 ≤ e → e ≤ GREATEST_DEGREE → RunsToEnd q Caret (decimal e)
 decimal-runs q e l h = go (cases_lt e 10)
   where
     go : (e < 10) ⊎ (10 ≤ e) → RunsToEnd q Caret (decimal e)
     go (inl s) = subst (RunsToEnd q Caret) (sym (decimal_digit e s)) (one-digit q e l s)
-    go (inr s) = subst (RunsToEnd q Caret) (sym (decimal-two e s h)) (two-digits q (e / 10) (e % 10) (omega arith) (tens (cases_lt e 20)))
-      where
-        tens : (e < 20) ⊎ (20 ≤ e) → (e / 10 ≡ 1) ⊎ ((e / 10 ≡ 2) × (e % 10 ≤ 4))
-        tens (inl t) = inl (omega arith)
-        tens (inr t) = inr (omega arith, omega arith)
+    go (inr s) = subst (RunsToEnd q Caret) (sym (decimal-two e s h)) (two-digits q (e / 10) (e % 10) (omega arith) (omega arith) (omega arith) (omega arith))
 
-exponent-runs : (q : ℕ) (e : Option ℕ) → IfSome e (λ e. (1 ≤ e) × (e ≤ 24)) → RunsToEnd q Name (exponent_text e)
+exponent-runs : (q : ℕ) (e : Option ℕ) → IfSome e (λ e. (1 ≤ e) × (e ≤ GREATEST_DEGREE)) → RunsToEnd q Name (exponent_text e)
 exponent-runs q None h = (Name, refl, name-end q)
 exponent-runs q (Some e) h = let r = decimal-runs q e h.0 h.1 in (r.0, run-step q Name Caret r.0 94 (decimal e) refl r.1, r.2)
 

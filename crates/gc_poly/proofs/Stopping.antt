@@ -5,7 +5,7 @@ use Rattle.std.proofs.lemmas.Bool.{false≢true}
 use Rattle.std.proofs.lemmas.List.{take_more, take_all}
 use Rattle.polynomial_texts.specs.Grammar.{Sum, IsTextOf, GoesOn, Stops}
 use Rattle.gc_poly.specs.declared.syntax.State.{State}
-use Rattle.gc_poly.specs.declared.syntax.State.TheVariants.{Start, Zero, One, Coefficient, TermStart, FactorStart, Name, Caret, ExponentOne, ExponentTwo, Exponent}
+use Rattle.gc_poly.specs.declared.syntax.State.TheVariants.{Start, Zero, One, Coefficient, TermStart, FactorStart, Name, Caret, ExponentDigit, Exponent}
 use Rattle.gc_poly.specs.Automaton.{after, run, is_end}
 use Rattle.gc_poly.proofs.Running.{run-append, run-on, IsAccepted, text-accepted, goes-on-runs}
 use Rattle.gc_poly.proofs.Accepting.{accepted-text}
@@ -19,9 +19,8 @@ ending q Coefficient = (42 ∷ 97 ∷ [], (Name, refl, refl))
 ending q TermStart = (97 ∷ [], (Name, refl, refl))
 ending q FactorStart = (97 ∷ [], (Name, refl, refl))
 ending q Name = ([], (Name, refl, refl))
-ending q Caret = (49 ∷ [], (ExponentOne, refl, refl))
-ending q ExponentOne = ([], (ExponentOne, refl, refl))
-ending q ExponentTwo = ([], (ExponentTwo, refl, refl))
+ending q Caret = (49 ∷ [], (ExponentDigit 1, refl, refl))
+ending q (ExponentDigit c) = ([], (ExponentDigit c, refl, refl))
 ending q Exponent = ([], (Exponent, refl, refl))
 
 module _ (q : ℕ) (text : List ℕ) (m : q ≤ 6) (l : 1 ≤ q) where

@@ -4,6 +4,7 @@ use Rattle.std.specs.Prelude.{replicate, Result, Ok, Err, IfOk}
 use Rattle.std.proofs.lemmas.Bool.{false≢true}
 use Rattle.std.proofs.lemmas.Bool.Decides.{nat_tests}
 use Rattle.std.proofs.lemmas.List.{take_more, append-nil}
+use Rattle.limits.specs.declared.TheConstants.{GREATEST_DEGREE}
 use Rattle.linear_algebra.proofs.Congruences.{congruent_eq}
 use Rattle.graded_polynomials.specs.Monomials.{exponent, degree, is_exterior, fits, joined, IsTrimmed, IsWithin, IsMonomial}
 use Rattle.graded_polynomials.specs.Polynomials.{Term, Polynomial, IsPolynomial, IsSame, coefficient, scaled, product}
@@ -224,6 +225,6 @@ value-step g d e ts i t out by new l x F B H = record {
 }
 
 -- the degree of a factor, behind those before it
-pub factor-room : (ds : List ℕ) (xs : List Factor) (i : ℕ) (x : Factor) → i < length xs → x ≡ get_or xs i x → factors_degree ds xs ≤ 24
-    → factors_degree ds (take i xs) + get_or ds x.generator 0 * x.exponent ≤ 24
+pub factor-room : (ds : List ℕ) (xs : List Factor) (i : ℕ) (x : Factor) → i < length xs → x ≡ get_or xs i x → factors_degree ds xs ≤ GREATEST_DEGREE
+    → factors_degree ds (take i xs) + get_or ds x.generator 0 * x.exponent ≤ GREATEST_DEGREE
 factor-room ds xs i x l e h = omega (arith, sym (degree-more ds xs i x l e), degree-front ds xs (i + 1), h)

@@ -1,5 +1,6 @@
 -- What the reader of texts keeps, step by step, and what it answers.
 use Rattle.std.specs.Prelude.{◌≡◌, ◌≢◌, ℕ, ◌+◌, ◌≤◌, ◌<◌, List, [], ◌∷◌, length, All, slice_index, slice_index_or, ◌*◌, Result, Ok, Err}
+use Rattle.limits.specs.declared.TheConstants.{GREATEST_DEGREE, LONGEST_TEXT}
 use Rattle.graded_polynomials.specs.Polynomials.{Term, Polynomial, IsSame, product}
 use Rattle.graded_polynomials.specs.Texts.{Factor, ReadTerm, name, power}
 use Rattle.polynomial_texts.specs.Grammar.{PlacedName}
@@ -27,14 +28,14 @@ IsUnknownAt ds ns (Mixed d e) = ⊥
 IsUnknownAt ds ns (TooHigh d) = ⊥
 IsUnknownAt ds ns Memory = Unit {0}
 
--- a power of a generator, with an exponent from 1 to 24
+-- a power of a generator, with an exponent from 1 to the greatest degree
 pub record IsFactorOf (ds : List ℕ) (x : Factor) : Type 0 where
   pub within : x.generator < length ds
   pub low : 1 ≤ x.exponent
-  pub high : x.exponent ≤ 24
+  pub high : x.exponent ≤ GREATEST_DEGREE
 
 pub record AreFactorsOf (ds : List ℕ) (xs : List Factor) : Type 0 where
-  pub few : length xs ≤ 65536
+  pub few : length xs ≤ LONGEST_TEXT
   pub each : All (IsFactorOf ds) xs
 
 pub record IsTermOf (g : Generators) (t : ReadTerm) : Type 0 where
@@ -52,18 +53,18 @@ pub record IsPowerOf (g : Generators) (x : Factor) (f : Polynomial) : Type 0 whe
   pub factor : (h : List Term) → IsSame (greatest g) (product (greatest g) g.degrees h f.terms)
       (product (greatest g) g.degrees h (record { scalar = 1; monomial = power x.generator x.exponent } ∷ []))
 
--- the degrees are all d, at most 24; where there is none, d is 0
+-- the degrees are all d, at most the greatest; where there is none, d is 0
 pub record IsDegreeOf (degrees : List ℕ) (d : ℕ) : Type 0 where
   pub each : All (λ e. e ≡ d) degrees
-  pub small : d ≤ 24
+  pub small : d ≤ GREATEST_DEGREE
   pub none : degrees ≡ [] → d ≡ 0
 
 abbrev pub IsDegreeFault : List ℕ → PolyFault → Type 0
 IsDegreeFault ds (Syntax c) = ⊥
 IsDegreeFault ds (UnknownName c) = ⊥
-IsDegreeFault ds (TooHigh d) = IsFirst (λ e. 24 < e) d ds
+IsDegreeFault ds (TooHigh d) = IsFirst (λ e. GREATEST_DEGREE < e) d ds
 IsDegreeFault [] (Mixed d e) = ⊥
-IsDegreeFault (x ∷ xs) (Mixed d e) = All (λ k. k ≤ 24) (x ∷ xs) × (x ≡ d) × IsFirst (λ k. k ≢ d) e xs
+IsDegreeFault (x ∷ xs) (Mixed d e) = All (λ k. k ≤ GREATEST_DEGREE) (x ∷ xs) × (x ≡ d) × IsFirst (λ k. k ≢ d) e xs
 IsDegreeFault ds Memory = ⊥
 
 -- the answer is the one that the text has, or want of memory

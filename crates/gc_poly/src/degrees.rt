@@ -6,6 +6,7 @@ ghost use Rattle.gc_poly.specs.Reading.{AreFactorsOf, AreTermsOf, IsDegreeOf, Is
 
 use crate::read_term::{Factor, ReadTerm};
 use crate::{Gens, PolyFault};
+use limits::GREATEST_DEGREE;
 use std::alloc::{AllocError, Global};
 
 // The degree of a product of powers of generators.
@@ -36,13 +37,13 @@ pub(crate) fn term_degrees(
     Ok(degrees)
 }
 
-// The first degree above 24.
+// The first degree above the greatest.
 fn first_high(degrees: &[u32]) -> Option<u32>
-    ensures some { IfSome result (λ d. IsFirst (λ e. 24 < e) d degrees.now) }
-    ensures none { IsNone result → All (λ e. e ≤ 24) degrees.now }
+    ensures some { IfSome result (λ d. IsFirst (λ e. GREATEST_DEGREE < e) d degrees.now) }
+    ensures none { IsNone result → All (λ e. e ≤ GREATEST_DEGREE) degrees.now }
 {
     for e in degrees {
-        if *e > 24 {
+        if *e > GREATEST_DEGREE {
             return Some(*e);
         }
     }

@@ -15,7 +15,7 @@ pub enum PolyFault {
     UnknownName(u32),
     /// A term has this degree, and a later one that degree.
     Mixed(u32, u32),
-    /// A term has this degree, above 24.
+    /// A term has this degree, above `GREATEST_DEGREE`.
     TooHigh(u32),
     /// Want of memory.
     Memory,

@@ -2,6 +2,7 @@
 
 ghost use Rattle.std.specs.Prelude.{◌≡◌, ◌≢◌, ℕ, ◌+◌, ◌≤◌, ◌<◌, ◌==◌, ◌++◌, ◌∷◌, true, map, length, All, IfOk, MatchOption, decimal};
 ghost use Rattle.std.specs.List.{slice_split};
+ghost use Rattle.limits.specs.declared.TheConstants.{GREATEST_DEGREE};
 ghost use Rattle.graded_polynomials.specs.Texts.{joined_by, star};
 ghost use Rattle.polynomial_texts.specs.Grammar.{NamedFactor, NamedTerm, IsFactor, IsTerm, is_digit, factor_text, term_bytes};
 ghost use Rattle.polynomial_texts.specs.Readings.{number};
@@ -33,9 +34,9 @@ fn digit(b: u8) -> u8
     if is_digit(b) { b - b'0' } else { 0 }
 }
 
-// The number of a numeral up to 24.
+// The number of a numeral up to the greatest degree.
 fn exponent(digits: &[u8]) -> u8
-    ensures { (e : ℕ) → e ≤ 24 → decimal e ≡ digits.now → result ≡ e }
+    ensures { (e : ℕ) → e ≤ GREATEST_DEGREE → decimal e ≡ digits.now → result ≡ e }
 {
     match digits {
         [] => 0,

@@ -2,6 +2,7 @@
 
 ghost use Rattle.std.specs.Prelude.{◌≡◌, ◌≢◌, ℕ, ◌+◌, ◌^◌, ◌≤◌, ◌<◌, List, [], map, length, IfOk, IfSome, IsNone, MatchOption, MatchResult, slice_index_or};
 ghost use Rattle.std.specs.List.{AllByRecursion as Each};
+ghost use Rattle.limits.specs.declared.TheConstants.{LONGEST_TEXT};
 ghost use Rattle.graded_polynomials.specs.Texts as texts;
 ghost use Rattle.polynomial_texts.specs.Grammar.{NamedFactor, NamedTerm, Sum, IsFactor, IsTerm, IsTextOf, factor_text, term_bytes};
 ghost use Rattle.polynomial_texts.specs.Grammar.{numeral_length, factor_names, term_names, placed_names};
@@ -126,7 +127,7 @@ fn read_terms(
 // The terms of a text of the grammar.
 fn read_sum(alloc: Global, gens: &Gens, text: &[u8]) -> Result<Vec<ReadTerm>, PolyFault>
     requires prime { gens.now.prime ≤ 7 }
-    requires small { length text.now ≤ 65536 }
+    requires small { length text.now ≤ LONGEST_TEXT }
     ensures { (s : Sum) → IsTextOf (greatest gens.now) s text.now
         → MatchResult result (λ v. NamesSum gens.now.degrees s v.items) (IsUnknownAt gens.now.degrees (placed_names s)) }
 {
@@ -144,9 +145,9 @@ fn read_sum(alloc: Global, gens: &Gens, text: &[u8]) -> Result<Vec<ReadTerm>, Po
 
 /// The polynomial of a text, or the text's first fault. The text has at most 65,536 bytes: `0`, `1`, or terms joined by `+`,
 /// in any order. A term is an optional numeral from 1 to p - 1 with `*`, and factors joined by `*`, multiplied from left to right.
-/// A factor is a name, alone or with `^` and a numeral from 1 to 24.
+/// A factor is a name, alone or with `^` and a numeral from 1 to `GREATEST_DEGREE`.
 pub fn read_poly(alloc: Global, gens: &Gens, text: &[u8]) -> Result<Poly, PolyFault>
-    requires { length text.now ≤ 65536 }
+    requires { length text.now ≤ LONGEST_TEXT }
     ensures { IsAnswerOf gens.now text.now result }
 {
     if let Some(place) = stop(gens.modulus(), text) {

@@ -2,7 +2,9 @@
 
 ghost use Rattle.std.specs.Prelude.{◌≡◌, ◌+◌, ◌-◌, ◌≤◌, Some, IsNone, IfSome, true, ◌↔◌};
 ghost use Rattle.polynomial_texts.specs.Grammar.{Sum, IsTextOf, Stops, is_letter, is_digit, is_name_byte};
-ghost use Rattle.gc_poly.specs.Automaton.{separator, term_start, exponent_start, after, is_end};
+ghost use Rattle.gc_poly.specs.Automaton.{separator, term_start, exponent_start, goes_on, after, is_end};
+
+use limits::GREATEST_DEGREE;
 
 /// What the bytes so far end in.
 #[derive(Clone, Copy, Debug, PartialEq, Eq)]
@@ -19,11 +21,9 @@ pub(crate) enum State {
     FactorStart,
     Name,
     Caret,
-    /// The exponent 1, to which a digit may come.
-    ExponentOne,
-    /// The exponent 2, to which a digit up to 4 may come.
-    ExponentTwo,
-    /// An exponent to which no digit may come.
+    /// This first digit of an exponent.
+    ExponentDigit(u8),
+    /// An exponent of two digits.
     Exponent,
 }
 
@@ -88,9 +88,8 @@ impl State {
             State::Name if is_name_byte(b) => Some(State::Name),
             State::Name if b == b'^' => Some(State::Caret),
             State::Caret => exponent_start(b),
-            State::ExponentOne if is_digit(b) => Some(State::Exponent),
-            State::ExponentTwo if b'0' <= b && b <= b'4' => Some(State::Exponent),
-            State::Name | State::ExponentOne | State::ExponentTwo | State::Exponent => separator(b),
+            State::ExponentDigit(c) if goes_on(c, b) => Some(State::Exponent),
+            State::Name | State::ExponentDigit(_) | State::Exponent => separator(b),
         }
     }
 
@@ -107,8 +106,7 @@ impl State {
             State::Zero
             | State::One
             | State::Name
-            | State::ExponentOne
-            | State::ExponentTwo
+            | State::ExponentDigit(_)
             | State::Exponent => true,
         }
     }
@@ -118,12 +116,18 @@ impl State {
 fn exponent_start(b: u8) -> Option<State>
     ensures { result ≡ exponent_start b }
 {
-    match b {
-        b'1' => Some(State::ExponentOne),
-        b'2' => Some(State::ExponentTwo),
-        b'3'..=b'9' => Some(State::Exponent),
-        _ => None,
+    if b'1' <= b && b <= b'9' {
+        Some(State::ExponentDigit(b - b'0'))
+    } else {
+        None
     }
+}
+
+// Whether an exponent with the first digit c goes on with the byte.
+fn goes_on(c: u8, b: u8) -> bool
+    ensures { result ≡ goes_on c b }
+{
+    is_digit(b) && 10 * u32::from(c) + u32::from(b - b'0') <= GREATEST_DEGREE
 }
 
 /// How many bytes go on to a text of the grammar, where the text is none.

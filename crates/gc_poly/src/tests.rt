@@ -1,6 +1,7 @@
 //! Values worked out by hand.
 
 ghost use Rattle.std.specs.Prelude.{◌≡◌, ◌≤◌, [], ◌∷◌, IfOk, length};
+ghost use Rattle.limits.specs.declared.TheConstants.{GREATEST_DEGREE};
 ghost use Rattle.group_table.specs.Prime.{prime_value};
 ghost use Rattle.gc_poly.specs.Polynomials.{IsOverGenerators};
 
@@ -9,6 +10,7 @@ use crate::{
     write_text,
 };
 use group_table::{Memory, Prime};
+use limits::LONGEST_TEXT;
 use std::alloc::Global;
 use std::test::Fail;
 
@@ -25,7 +27,7 @@ fn small_gens(alloc: Global, p: Prime) -> Result<Gens, Memory>
 
 // Monomial i of degree d as a polynomial, or 0 where there are fewer.
 fn monomial(alloc: Global, gens: &Gens, d: u32, i: usize) -> Result<Poly, Memory>
-    requires { d ≤ 24 }
+    requires { d ≤ GREATEST_DEGREE }
     ensures over { IfOk result (IsOverGenerators gens.now) }
     ensures degree { IfOk result (λ f. f.degree ≡ d) }
 {
@@ -148,7 +150,7 @@ fn substitutions(rt: HostRuntime) -> Result<(), Fail> {
 
 // What a text is read as: the polynomial's own text, or the fault.
 fn answer_of(alloc: Global, gens: &Gens, text: &str) -> Result<String, Fail>
-    requires { length text.now ≤ 65536 }
+    requires { length text.now ≤ LONGEST_TEXT }
 {
     match read_poly(alloc, gens, text.as_bytes()) {
         Ok(f) => text_of(alloc, gens, &f),
@@ -162,7 +164,7 @@ fn texts_read(rt: HostRuntime) -> Result<(), Fail> {
         (Prime::P2, "x_1_1+y", "UnknownName(7)"),
         (Prime::P2, "x_1_1+x_2_1", "Mixed(1, 2)"),
         (Prime::P2, "x_1_1+", "Syntax(7)"),
-        (Prime::P2, "x_2_1^24", "TooHigh(48)"),
+        (Prime::P2, "x_2_1^20", "TooHigh(40)"),
         (Prime::P2, "x_2_1^25", "Syntax(8)"),
         (Prime::P2, "x_2_1+x_1_2*x_1_1", "x_1_1*x_1_2+x_2_1"),
         (Prime::P2, "1*x_1_1+x_1_1", "0"),
@@ -183,7 +185,7 @@ fn texts_read(rt: HostRuntime) -> Result<(), Fail> {
     ];
     for (p, text, wanted) in cases {
         let gens = small_gens(rt.alloc(), p)?;
-        assert!(rt; text.len() <= 65536);
+        assert!(rt; text.len() <= LONGEST_TEXT);
         assert_eq!(rt; answer_of(rt.alloc(), &gens, text)?.as_str(), wanted);
     }
     Ok(())

@@ -1,6 +1,7 @@
 //! The sum of terms that are read.
 
 ghost use Rattle.std.specs.Prelude.{◌≡◌, ◌⊎◌, ◌≤◌, ◌<◌, [], ◌∷◌, true, false, length, slice_index, IfOk, All};
+ghost use Rattle.limits.specs.declared.TheConstants.{GREATEST_DEGREE};
 ghost use Rattle.graded_polynomials.specs.Monomials.{is_exterior};
 ghost use Rattle.graded_polynomials.specs.Texts.{power, read_from, read_value};
 ghost use Rattle.polynomial_texts.specs.Readings.{term_degree};
@@ -63,7 +64,7 @@ pub(crate) fn constant(alloc: Global, gens: &Gens, c: u8) -> Result<Poly, Memory
 // The value of a term.
 fn term_value(alloc: Global, gens: &Gens, t: &ReadTerm) -> Result<Poly, Memory>
     requires term { IsTermOf gens.now t.now }
-    requires small { term_degree gens.now.degrees t.now ≤ 24 }
+    requires small { term_degree gens.now.degrees t.now ≤ GREATEST_DEGREE }
     ensures { IfOk result (IsSumOf gens.now (term_degree gens.now.degrees t.now)
         (read_from (greatest gens.now) gens.now.degrees (record { scalar = t.now.numeral; monomial = [] } ∷ []) t.now.factors)) }
 {
@@ -82,7 +83,7 @@ pub(crate) fn value(
     terms: &[ReadTerm],
 ) -> Result<Poly, Memory>
     requires terms { AreTermsOf gens.now terms.now }
-    requires small { degree ≤ 24 }
+    requires small { degree ≤ GREATEST_DEGREE }
     requires degrees { All (λ t. term_degree gens.now.degrees t ≡ degree) terms.now }
     ensures { IfOk result (IsSumOf gens.now degree (read_value (greatest gens.now) gens.now.degrees terms.now)) }
 {
