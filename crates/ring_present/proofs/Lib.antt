@@ -12,6 +12,9 @@ pub mod Counting
 pub mod PivotSearch
 pub mod StandardPlaces
 pub mod CombinationSteps
+pub mod Ranks
+pub mod Places
+pub mod KnownRings
 pub mod RelationSteps
 pub mod RowSteps
 pub mod MultipleSteps

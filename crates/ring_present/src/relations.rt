@@ -3,6 +3,7 @@
 ghost use Rattle.std.specs.Prelude.{◌≡◌, ℕ, suc, ◌+◌, ◌-◌, ◌<◌, ◌≤◌, [], ◌∷◌, ◌++◌, List, length, map, All, IfOk, OnOk};
 ghost use Rattle.linear_algebra.specs.Rows.{IsEchelonOf};
 ghost use Rattle.fp_rows.specs.Refs.{entries_of, modulus_of};
+ghost use Rattle.limits.specs.declared.TheConstants.{GREATEST_DEGREE};
 ghost use Rattle.graded_polynomials.specs.Monomials.{IsMonomials};
 ghost use Rattle.graded_polynomials.specs.Polynomials.{multiple};
 ghost use Rattle.gc_poly.specs.Generators.{greatest};
@@ -60,7 +61,7 @@ fn push_multiple(
 ) -> Result<(), Memory>
     requires relation { IsOverGenerators gens.now relation.now }
     requires within { relation.now.degree ≤ d }
-    requires small { d ≤ 24 }
+    requires small { d ≤ GREATEST_DEGREE }
     requires factor { IsMonomialOf gens.now (d - relation.now.degree) factor.now }
     requires monomials { IsMonomials (greatest gens.now) gens.now.degrees d monomials.now }
     requires prime { rows.old.p ≡ gens.now.prime }
@@ -89,7 +90,7 @@ fn push_multiples(
 ) -> Result<(), Memory>
     requires relation { IsOverGenerators gens.now relation.now }
     requires within { relation.now.degree ≤ d }
-    requires small { d ≤ 24 }
+    requires small { d ≤ GREATEST_DEGREE }
     requires factors { IsMonomials (greatest gens.now) gens.now.degrees (d - relation.now.degree) factors.now }
     requires monomials { IsMonomials (greatest gens.now) gens.now.degrees d monomials.now }
     requires prime { rows.old.p ≡ gens.now.prime }
@@ -115,7 +116,7 @@ fn multiples(
     monomials: &Monos,
 ) -> Result<Echelon, Memory>
     requires degree { d ≡ suc (length degrees.now) }
-    requires small { d ≤ 24 }
+    requires small { d ≤ GREATEST_DEGREE }
     requires relations { All (IsRelationBelow gens.now d) relations.now }
     requires factors { HaveMonomials gens.now degrees.now }
     requires monomials { IsMonomials (greatest gens.now) gens.now.degrees d monomials.now }
@@ -187,7 +188,7 @@ pub(crate) fn relations_of(
     kernel: &Echelon,
 ) -> Result<Vec<Poly>, Memory>
     requires degree { d ≡ suc (length degrees.now) }
-    requires small { d ≤ 24 }
+    requires small { d ≤ GREATEST_DEGREE }
     requires relations { All (IsRelationBelow gens.now d) relations.now }
     requires factors { HaveMonomials gens.now degrees.now }
     requires monomials { IsMonomials (greatest gens.now) gens.now.degrees d monomials.now }
