@@ -93,16 +93,16 @@ impl Gens {
         self.prime
     }
 
-    // Whether generator i has odd degree, for odd p.
-    pub(crate) fn is_exterior(&self, i: usize) -> bool
+    /// Whether generator i has odd degree, for odd p.
+    pub fn is_exterior(&self, i: usize) -> bool
         requires { i < length self.now.degrees }
         ensures { result ≡ is_exterior (greatest self.now) (slice_index self.now.degrees i) }
     {
         self.modulus() != 2 && self.degrees[i] % 2 == 1
     }
 
-    // The number p.
-    pub(crate) fn modulus(&self) -> u8
+    /// The number p.
+    pub fn modulus(&self) -> u8
         ensures value { result ≡ self.now.prime }
         ensures low { 2 ≤ result }
         ensures high { result ≤ 7 }

@@ -9,7 +9,6 @@ ghost use Rattle.gc_poly.specs.Polynomials.{IsOverGenerators, IsMonomialOf, IsSu
 ghost use Rattle.gc_poly.specs.Substitution.{polynomials, standing, substituted, AreImages};
 
 use crate::sums::add_multiple;
-use crate::values::constant;
 use crate::{Gens, Mono, Poly, Polys, mul};
 use group_table::Memory;
 use std::alloc::Global;
@@ -39,7 +38,7 @@ fn image_of(alloc: Global, to: &Gens, m: &Mono, images: &Polys) -> Result<Poly, 
 {
     let p = to.modulus();
     prove!(p > 1);
-    let mut out = constant(alloc, to, 1)?;
+    let mut out = Poly::constant(alloc, to, 1)?;
     for i in 0..m.len() {
         out = times_power(alloc, to, out, images.get(i), m.exponent(i))?;
     }
