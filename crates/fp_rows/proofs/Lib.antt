@@ -6,3 +6,4 @@ pub mod PlaceLemmas
 pub mod BitLemmas
 pub mod SolvingLemmas
 pub mod TableLemmas
+mod PivotSearch

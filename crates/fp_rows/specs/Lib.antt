@@ -7,5 +7,7 @@ pub mod Bits
 pub mod Numbers
 pub mod Cells
 pub mod Stores
+pub mod Iterations
+pub mod Entries
 pub mod Solving
 pub mod Eliminations

@@ -1,7 +1,8 @@
 ghost use Rattle.std.specs.Prelude.{◌≡◌, ◌↔◌, ℕ, ◌<◌, length, IsTrue};
 ghost use Rattle.group_table.specs.Prime.{prime_value};
-ghost use Rattle.linear_algebra.specs.Rows.{entry, row, pivot, IsRow, IsMatrix, IsEchelon, IsInSpan, IsReduced};
+ghost use Rattle.linear_algebra.specs.Rows.{entry, row, pivot, is_pivot, IsRow, IsMatrix, IsEchelon, IsInSpan, IsReduced};
 ghost use Rattle.fp_rows.specs.Refs.{entries_of, modulus_of};
+ghost use Rattle.fp_rows.specs.Iterations.{IsOverRows};
 
 use crate::elimination::reduce_by;
 use crate::membership::is_member;
@@ -9,6 +10,7 @@ use crate::row::Row;
 use crate::row_ref::RowRef;
 use group_table::Prime;
 use std::marker::Model;
+use std::slice;
 
 /// A reduced row echelon list: no row is 0, the pivots ascend, and each pivot's column is 1 in its own row and 0 elsewhere.
 #[derive(Drop)]
@@ -93,5 +95,33 @@ impl Echelon {
         ensures reduced { IsReduced self.now.p self.now.rows v.old.entries v.new.entries }
     {
         reduce_by(&self.rows, &self.pivots, v);
+    }
+
+    /// Whether one of the rows has its first entry that is not 0 at place j.
+    pub fn is_pivot(&self, j: usize) -> bool
+        ensures { result ≡ is_pivot self.now.rows j }
+    {
+        self.pivots.binary_search(&j).is_ok()
+    }
+
+    /// The rows, one after the other.
+    pub fn iter(&self) -> slice::Iter<'_, Row>
+        ensures { IsOverRows self.now result }
+    {
+        self.rows.iter()
+    }
+}
+
+impl<'a> IntoIterator for &'a Echelon {
+    ghost use Rattle.fp_rows.specs.Iterations.{IsOverRows};
+
+    type Item = &'a Row;
+
+    type IntoIter = slice::Iter<'a, Row>;
+
+    ghost into_iter_gives = { λ e it. IsOverRows e.now it };
+
+    fn into_iter(self) -> slice::Iter<'a, Row> {
+        self.iter()
     }
 }

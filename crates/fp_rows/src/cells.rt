@@ -71,9 +71,11 @@ fn add_to_bytes(p: Prime, c: u8, v: &mut [u8], r: Numbers<'_>)
     requires added { IsRow (prime_value p) (length v.old) (numbers_of r) }
     ensures { v.new ≡ add_multiple (prime_value p) c v.old (numbers_of r.entry) }
 {
-    match r {
-        Numbers::Bytes(s) => add_times(p, c, v, s),
-        Numbers::Bits(s) => add_bits_to_bytes(p, c, v, s),
+    if c != 0 {
+        match r {
+            Numbers::Bytes(s) => add_times(p, c, v, s),
+            Numbers::Bits(s) => add_bits_to_bytes(p, c, v, s),
+        }
     }
 }
 

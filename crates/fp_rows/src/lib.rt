@@ -8,6 +8,7 @@ mod bits_ref;
 mod cells;
 mod complement;
 mod elimination;
+mod entries;
 mod kernels;
 mod matrix;
 mod membership;
@@ -23,6 +24,7 @@ mod words;
 
 pub use basis::Echelon;
 pub use complement::greedy;
+pub use entries::Entries;
 pub use kernels::{Solution, kernel, solve};
 pub use matrix::Matrix;
 pub use positions::Positions;

@@ -1,13 +1,15 @@
 ghost use Rattle.std.specs.Prelude.{◌≡◌, ℕ, ◌+◌, ◌<◌, ◌≤◌, ◌++◌, ◌∷◌, [], length, OnOk, OnErr, IfOk, slice_range};
 ghost use Rattle.group_table.specs.Prime.{prime_value};
-ghost use Rattle.linear_algebra.specs.Rows.{row, IsRow, IsMatrix};
+ghost use Rattle.linear_algebra.specs.Rows.{combination_row, entry, row, IsRow, IsMatrix};
 ghost use Rattle.fp_rows.specs.Refs.{entries_of, modulus_of};
+ghost use Rattle.fp_rows.specs.Iterations.{IsOverRows};
 
 use crate::row::Row;
 use crate::row_ref::RowRef;
 use group_table::{Memory, Prime};
 use std::alloc::Global;
 use std::marker::Model;
+use std::slice;
 
 /// A list of rows of one width over one prime.
 #[derive(Drop)]
@@ -96,5 +98,39 @@ impl Matrix {
         ensures modulus { modulus_of result ≡ self.now.p }
     {
         self.row(i).part(from, len)
+    }
+
+    /// Writes into `out`, which has the width, the combination of the rows with the coefficients u, one for each row.
+    pub fn combine(&self, u: RowRef<'_>, out: &mut Row)
+        requires coefficients { length (entries_of u) ≡ length self.now.rows }
+        requires primes { (modulus_of u ≡ self.now.p) × (out.old.p ≡ self.now.p) }
+        requires out_length { length out.old.entries ≡ self.now.width }
+        ensures { out.new ≡ record out.old { entries = combination_row self.now.p self.now.width (entry (entries_of u.entry)) self.now.rows } }
+    {
+        out.clear();
+        for (k, row) in self.rows.iter().enumerate() {
+            out.add_row(u.get(k), row);
+        }
+    }
+
+    /// The rows, one after the other.
+    pub fn iter(&self) -> slice::Iter<'_, Row>
+        ensures { IsOverRows self.now result }
+    {
+        self.rows.iter()
+    }
+}
+
+impl<'a> IntoIterator for &'a Matrix {
+    ghost use Rattle.fp_rows.specs.Iterations.{IsOverRows};
+
+    type Item = &'a Row;
+
+    type IntoIter = slice::Iter<'a, Row>;
+
+    ghost into_iter_gives = { λ m it. IsOverRows m.now it };
+
+    fn into_iter(self) -> slice::Iter<'a, Row> {
+        self.iter()
     }
 }

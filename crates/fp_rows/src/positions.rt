@@ -1,8 +1,11 @@
-ghost use Rattle.std.specs.Prelude.{◌≡◌, ◌<◌, ◌++◌, ◌∷◌, [], length, OnOk, OnErr, slice_index};
+ghost use Rattle.std.specs.Prelude.{◌≡◌, ◌<◌, ◌^◌, ◌++◌, ◌∷◌, [], ℕ, length, OnOk, OnErr, slice_index};
+ghost use Rattle.std.specs.Iterator.Runs.{EveryRun, ItemsMapTo};
+ghost use Rattle.std.specs.Slice.Iter.{iter_rest, iter_steps};
 
 use group_table::Memory;
 use std::alloc::Global;
 use std::marker::Model;
+use std::slice;
 
 /// A list of positions, which count from 0.
 #[derive(Drop)]
@@ -50,5 +53,27 @@ impl Positions {
         ensures { result ≡ slice_index self.now i }
     {
         self.items[i]
+    }
+
+    /// The positions, one after the other.
+    pub fn iter(&self) -> slice::Iter<'_, u32>
+        ensures rest { iter_rest result ≡ self.now }
+        ensures runs { EveryRun (iter_steps {A = ℕ}) (λ p. ItemsMapTo p (λ x. x.now) (iter_rest p.from)) }
+        ensures fits { length (iter_rest result) < 2 ^ 64 }
+    {
+        self.items.iter()
+    }
+}
+
+impl<'a> IntoIterator for &'a Positions {
+    type Item = &'a u32;
+
+    type IntoIter = slice::Iter<'a, u32>;
+
+    ghost into_iter_gives = { λ v it. (iter_rest it ≡ v.now) × (length (iter_rest it) < 2 ^ 64)
+        × EveryRun (iter_steps {A = ℕ}) (λ p. ItemsMapTo p (λ x. x.now) (iter_rest p.from)) };
+
+    fn into_iter(self) -> slice::Iter<'a, u32> {
+        self.iter()
     }
 }

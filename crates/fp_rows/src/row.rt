@@ -1,10 +1,13 @@
 ghost use Rattle.std.specs.Prelude.{◌≡◌, ◌≢◌, ℕ, ◌+◌, ◌-◌, ◌*◌, ◌%◌, ◌<◌, ◌≤◌, length, map, IfOk, replicate, slice_set};
 ghost use Rattle.group_table.specs.Prime.{prime_value};
 ghost use Rattle.linear_algebra.specs.Rows.{entry, add_multiple, pivot, IsRow};
+ghost use Rattle.linear_algebra.specs.Kernels.{unit_row};
 ghost use Rattle.fp_rows.specs.Refs.{entries_of, modulus_of};
+ghost use Rattle.fp_rows.specs.Entries.{entries_left};
 ghost use Rattle.std.specs.Int.{bit_at};
 
 use crate::cells::Cells;
+use crate::entries::Entries;
 use crate::row_ref::RowRef;
 use group_table::{Memory, Prime};
 use std::alloc::Global;
@@ -44,9 +47,9 @@ impl Row {
         ensures { IfOk result (λ v. v ≡ record { p = modulus_of r.entry; entries = entries_of r.entry }) }
     {
         let _len = r.len();
-        let cells = Cells::copy_of(alloc, r.prime, r.numbers)?;
+        let cells = Cells::copy_of(alloc, r.modulus, r.entries)?;
         Ok(Row {
-            prime: r.prime,
+            prime: r.modulus,
             cells,
         })
     }
@@ -91,6 +94,16 @@ impl Row {
         self.cells.clear(self.prime);
     }
 
+    /// Writes 1 at place i, which is below the length, and 0 elsewhere.
+    pub fn set_unit(&mut self, i: usize)
+        requires { i < length self.old.entries }
+        ensures { self.new ≡ record self.old { entries = unit_row (length self.old.entries) i } }
+    {
+        let _prime = self.prime();
+        self.clear();
+        self.set(i, 1);
+    }
+
     /// The row, borrowed.
     pub fn view(&self) -> RowRef<'_>
         ensures entries { entries_of result ≡ self.now.entries }
@@ -106,7 +119,7 @@ impl Row {
         requires same_length { length (entries_of r) ≡ length self.old.entries }
         ensures { self.new ≡ record self.old { entries = add_multiple self.old.p c self.old.entries (entries_of r.entry) } }
     {
-        self.cells.add(self.prime, c, r.numbers);
+        self.cells.add(self.prime, c, r.entries);
     }
 
     /// Adds c times a whole row, whose numbers are below p.
@@ -146,5 +159,27 @@ impl Row {
         ensures after { (j : ℕ) → at + len ≤ j → entry self.new.entries j ≡ entry self.old.entries j }
     {
         self.cells.add_word(at, len, x);
+    }
+
+    /// The numbers, one after the other.
+    pub fn iter(&self) -> Entries<'_>
+        ensures { entries_left result ≡ self.now.entries }
+    {
+        self.view().iter()
+    }
+}
+
+impl<'a> IntoIterator for &'a Row {
+    ghost use Rattle.std.specs.Prelude.{◌≡◌};
+    ghost use Rattle.fp_rows.specs.Entries.{entries_left};
+
+    type Item = u8;
+
+    type IntoIter = Entries<'a>;
+
+    ghost into_iter_gives = { λ r it. entries_left it ≡ r.now.entries };
+
+    fn into_iter(self) -> Entries<'a> {
+        self.iter()
     }
 }

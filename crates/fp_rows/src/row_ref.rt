@@ -3,31 +3,36 @@ ghost use Rattle.group_table.specs.Prime.{prime_value};
 ghost use Rattle.linear_algebra.specs.Rows.{entry};
 ghost use Rattle.fp_rows.specs.Numbers.{numbers_of};
 
+use crate::arithmetic::add_product;
+use crate::entries::Entries;
 use crate::numbers::Numbers;
 use group_table::Prime;
 
 /// A borrowed list of numbers below p. Contracts read the list by `entries_of`, and p by `modulus_of`.
 #[derive(Clone, Copy)]
 pub struct RowRef<'a> {
-    pub(crate) prime: Prime,
-    pub(crate) numbers: Numbers<'a>,
-    pub ghost below: { (j : ℕ) → j < length (numbers_of numbers) → entry (numbers_of numbers) j < prime_value prime },
+    pub(crate) modulus: Prime,
+    pub(crate) entries: Numbers<'a>,
+    pub ghost below: { (j : ℕ) → j < length (numbers_of entries) → entry (numbers_of entries) j < prime_value modulus },
+    pub ghost above_one: { 1 < prime_value modulus },
 }
 
 impl<'a> RowRef<'a> {
-    ghost use Rattle.std.specs.Prelude.{◌≡◌, ℕ, ◌+◌, ◌<◌, ◌≤◌, length, slice_range};
+    ghost use Rattle.std.specs.Prelude.{◌≡◌, ℕ, ◌+◌, ◌%◌, ◌<◌, ◌≤◌, length, slice_range};
     ghost use Rattle.group_table.specs.Prime.{prime_value};
-    ghost use Rattle.linear_algebra.specs.Rows.{entry, IsRow};
+    ghost use Rattle.linear_algebra.specs.Modular.{sum_below};
+    ghost use Rattle.linear_algebra.specs.Rows.{entry, pairing, IsRow};
     ghost use Rattle.fp_rows.specs.Numbers.{numbers_of};
     ghost use Rattle.fp_rows.specs.Refs.{entries_of, modulus_of};
+    ghost use Rattle.fp_rows.specs.Entries.{entries_left};
     ghost use Rattle.std.specs.Int.{bit_at};
 
-    pub(crate) fn over(prime: Prime, numbers: Numbers<'a>) -> RowRef<'a>
-        requires { (j : ℕ) → j < length (numbers_of numbers) → entry (numbers_of numbers) j < prime_value prime }
-        ensures entries { entries_of result ≡ numbers_of numbers.entry }
-        ensures modulus { modulus_of result ≡ prime_value prime }
+    pub(crate) fn over(modulus: Prime, entries: Numbers<'a>) -> RowRef<'a>
+        requires { (j : ℕ) → j < length (numbers_of entries) → entry (numbers_of entries) j < prime_value modulus }
+        ensures entries { entries_of result ≡ numbers_of entries.entry }
+        ensures modulus { modulus_of result ≡ prime_value modulus }
     {
-        RowRef { prime, numbers }
+        RowRef { modulus, entries }
     }
 
     /// How many numbers it has.
@@ -35,7 +40,7 @@ impl<'a> RowRef<'a> {
         ensures count { result ≡ length (entries_of self.now) }
         ensures row { IsRow (modulus_of self.now) (length (entries_of self.now)) (entries_of self.now) }
     {
-        self.numbers.len()
+        self.entries.len()
     }
 
     /// The number at place i, which is below the length.
@@ -44,7 +49,7 @@ impl<'a> RowRef<'a> {
         ensures value { result ≡ entry (entries_of self.now) i }
         ensures below { result < modulus_of self.now }
     {
-        self.numbers.get(i)
+        self.entries.get(i)
     }
 
     /// The `len` numbers from place `from` on, which are a part of the list.
@@ -53,10 +58,10 @@ impl<'a> RowRef<'a> {
         ensures entries { entries_of result ≡ slice_range (entries_of self.now) from (from + len) }
         ensures modulus { modulus_of result ≡ modulus_of self.now }
     {
-        let numbers = self.numbers.part(from, len);
+        let entries = self.entries.part(from, len);
         RowRef {
-            prime: self.prime,
-            numbers,
+            modulus: self.modulus,
+            entries,
         }
     }
 
@@ -68,6 +73,56 @@ impl<'a> RowRef<'a> {
         ensures bits { (b : ℕ) → b < len → bit_at result b ≡ entry (entries_of self.now) (from + b) }
         ensures rest { (b : ℕ) → b < 64 → len ≤ b → bit_at result b ≡ 0 }
     {
-        self.numbers.word(from, len)
+        self.entries.word(from, len)
+    }
+
+    /// The sum of the products of its numbers and the numbers of the other row at their places, modulo p. Numbers of the other row past
+    /// its length don't count.
+    pub fn pairing(&self, other: RowRef<'_>) -> u8
+        requires same_modulus { modulus_of other ≡ modulus_of self.now }
+        requires within { length (entries_of self.now) ≤ length (entries_of other) }
+        ensures value { result ≡ pairing (modulus_of self.now) (entries_of self.now) (entries_of other.entry) }
+        ensures below { result < modulus_of self.now }
+    {
+        let mut sum = 0u8;
+        for i in 0..self.len() {
+            sum = add_product(self.modulus, sum, self.get(i), other.get(i));
+        }
+        sum
+    }
+
+    /// The sum of its numbers, modulo p.
+    pub fn sum(&self) -> u8
+        ensures value { result ≡ sum_below (length (entries_of self.now)) (entry (entries_of self.now)) % modulus_of self.now }
+        ensures below { result < modulus_of self.now }
+    {
+        let mut sum = 0u8;
+        for i in 0..self.len() {
+            sum = add_product(self.modulus, sum, 1, self.get(i));
+        }
+        sum
+    }
+
+    /// The numbers, one after the other.
+    pub fn iter(&self) -> Entries<'a>
+        ensures { entries_left result ≡ entries_of self.now }
+    {
+        Entries::over(*self)
+    }
+}
+
+impl<'a> IntoIterator for RowRef<'a> {
+    ghost use Rattle.std.specs.Prelude.{◌≡◌};
+    ghost use Rattle.fp_rows.specs.Entries.{entries_left};
+    ghost use Rattle.fp_rows.specs.Refs.{entries_of};
+
+    type Item = u8;
+
+    type IntoIter = Entries<'a>;
+
+    ghost into_iter_gives = { λ r it. entries_left it ≡ entries_of r };
+
+    fn into_iter(self) -> Entries<'a> {
+        self.iter()
     }
 }

@@ -3,6 +3,7 @@ pub mod Fields
 pub mod Sums
 pub mod Pivots
 pub mod PivotLemmas
+pub mod PivotTests
 pub mod Dimension
 pub mod Independence
 pub mod Spans

@@ -13,8 +13,8 @@ use Rattle.fp_rows.proofs.row.Row.add.Goals as goal
 pub add-requires-clause-added : goal.add-requires-clause-added
 add-requires-clause-added c =
     let p : ℕ = prime_value c.self.inside.prime in
-    let ys : List ℕ = numbers_of c.args.r.numbers in
-    let primes : prime_value c.args.r.prime ≡ p = c.requires.same_prime ∙ sym (ap (λ (v : RowValue). v.p) c.self.view_is) in
+    let ys : List ℕ = numbers_of c.args.r.entries in
+    let primes : prime_value c.args.r.modulus ≡ p = c.requires.same_prime ∙ sym (ap (λ (v : RowValue). v.p) c.self.view_is) in
     record {
       length_is = c.requires.same_length ∙ sym (ap (λ (v : RowValue). length v.entries) c.self.view_is);
       below = λ j l. subst (λ q. entry ys j < q) primes (c.args.r.below j (rw (c.requires.same_length ∙ sym (ap (λ (v : RowValue). length v.entries) c.self.view_is)) l));
@@ -24,9 +24,9 @@ pub invariant_of-self : goal.invariant_of-self
 invariant_of-self c =
     let p : ℕ = prime_value c.self.inside.prime in
     let xs : List ℕ = cells_of c.self.inside.cells in
-    let ys : List ℕ = numbers_of c.args.r.numbers in
+    let ys : List ℕ = numbers_of c.args.r.entries in
     let positive : 0 < p = (let o = prime_above_one c.self.inside.prime in omega (arith, o)) in
-    let primes : prime_value c.args.r.prime ≡ p = c.requires.same_prime ∙ sym (ap (λ (v : RowValue). v.p) c.self.view_is) in
+    let primes : prime_value c.args.r.modulus ≡ p = c.requires.same_prime ∙ sym (ap (λ (v : RowValue). v.p) c.self.view_is) in
     let same : length ys ≡ length xs = c.requires.same_length ∙ sym (ap (λ (v : RowValue). length v.entries) c.self.view_is) in
     let r : IsRow p (length xs) ys = record {
       length_is = same;
