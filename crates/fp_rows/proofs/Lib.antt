@@ -7,3 +7,4 @@ pub mod BitLemmas
 pub mod SolvingLemmas
 pub mod TableLemmas
 mod PivotSearch
+pub mod Turns

@@ -100,15 +100,17 @@ impl Matrix {
         self.row(i).part(from, len)
     }
 
-    /// Writes into `out`, which has the width, the combination of the rows with the coefficients u, one for each row.
+    /// Writes into `out`, which has the width, the combination of the rows with the coefficients u, one for
+    /// each row.
     pub fn combine(&self, u: RowRef<'_>, out: &mut Row)
         requires coefficients { length (entries_of u) ≡ length self.now.rows }
         requires primes { (modulus_of u ≡ self.now.p) × (out.old.p ≡ self.now.p) }
         requires out_length { length out.old.entries ≡ self.now.width }
-        ensures { out.new ≡ record out.old { entries = combination_row self.now.p self.now.width (entry (entries_of u.entry)) self.now.rows } }
+        ensures { out.new
+            ≡ record out.old { entries = combination_row self.now.p self.now.width (entry (entries_of u.entry)) self.now.rows } }
     {
         out.clear();
-        for (k, row) in self.rows.iter().enumerate() {
+        for (k, row) in self.iter().enumerate() {
             out.add_row(u.get(k), row);
         }
     }

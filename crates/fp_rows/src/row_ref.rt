@@ -13,7 +13,8 @@ use group_table::Prime;
 pub struct RowRef<'a> {
     pub(crate) modulus: Prime,
     pub(crate) entries: Numbers<'a>,
-    pub ghost below: { (j : ℕ) → j < length (numbers_of entries) → entry (numbers_of entries) j < prime_value modulus },
+    pub ghost below: { (j : ℕ) → j < length (numbers_of entries)
+        → entry (numbers_of entries) j < prime_value modulus },
     pub ghost above_one: { 1 < prime_value modulus },
 }
 
@@ -28,7 +29,8 @@ impl<'a> RowRef<'a> {
     ghost use Rattle.std.specs.Int.{bit_at};
 
     pub(crate) fn over(modulus: Prime, entries: Numbers<'a>) -> RowRef<'a>
-        requires { (j : ℕ) → j < length (numbers_of entries) → entry (numbers_of entries) j < prime_value modulus }
+        requires { (j : ℕ) → j < length (numbers_of entries)
+            → entry (numbers_of entries) j < prime_value modulus }
         ensures entries { entries_of result ≡ numbers_of entries.entry }
         ensures modulus { modulus_of result ≡ prime_value modulus }
     {
@@ -76,12 +78,13 @@ impl<'a> RowRef<'a> {
         self.entries.word(from, len)
     }
 
-    /// The sum of the products of its numbers and the numbers of the other row at their places, modulo p. Numbers of the other row past
-    /// its length don't count.
+    /// The sum of the products of its numbers and the numbers of the other row at their places, modulo p.
+    /// Numbers of the other row past its length don't count.
     pub fn pairing(&self, other: RowRef<'_>) -> u8
         requires same_modulus { modulus_of other ≡ modulus_of self.now }
         requires within { length (entries_of self.now) ≤ length (entries_of other) }
-        ensures value { result ≡ pairing (modulus_of self.now) (entries_of self.now) (entries_of other.entry) }
+        ensures value { result
+            ≡ pairing (modulus_of self.now) (entries_of self.now) (entries_of other.entry) }
         ensures below { result < modulus_of self.now }
     {
         let mut sum = 0u8;
@@ -93,7 +96,8 @@ impl<'a> RowRef<'a> {
 
     /// The sum of its numbers, modulo p.
     pub fn sum(&self) -> u8
-        ensures value { result ≡ sum_below (length (entries_of self.now)) (entry (entries_of self.now)) % modulus_of self.now }
+        ensures value { result
+            ≡ sum_below (length (entries_of self.now)) (entry (entries_of self.now)) % modulus_of self.now }
         ensures below { result < modulus_of self.now }
     {
         let mut sum = 0u8;

@@ -54,7 +54,7 @@ fn reduced(rt: &impl Abort, alloc: Global, e: &Echelon, entries: &[u8]) -> Resul
 }
 
 fn shows(r: RowRef<'_>, entries: &[u8]) -> bool {
-    r.len() == entries.len() && (0..r.len()).all(|i| r.get(i) == entries[i])
+    r.len() == entries.len() && r.iter().zip(entries).all(|(x, y)| x == *y)
 }
 
 #[test]
@@ -69,6 +69,23 @@ fn writes_adds_and_clears(rt: HostRuntime) -> Result<(), Fail> {
     assert!(rt; shows(whole.part(1, 2), &[0, 2]));
     row.clear();
     assert!(rt; shows(row.view(), &[0, 0, 0]));
+    row.set_unit(1);
+    assert!(rt; shows(row.view(), &[0, 1, 0]));
+    assert_eq!(rt;
+        (other.view().sum(), other.view().pairing(other.view())),
+        (2, 0)
+    );
+    Ok(())
+}
+
+#[test]
+fn combines_rows(rt: HostRuntime) -> Result<(), Fail> {
+    let m = matrix_of(&rt, rt.alloc(), Prime::P3, 2, &[1, 2, 2, 0])?;
+    let u = row_of(&rt, rt.alloc(), Prime::P3, &[2, 1])?;
+    let mut out = row_of(&rt, rt.alloc(), Prime::P3, &[2, 2])?;
+    assert_eq!(rt; m.rows(), 2);
+    m.combine(u.view(), &mut out);
+    assert!(rt; shows(out.view(), &[1, 1]));
     Ok(())
 }
 
@@ -108,6 +125,7 @@ fn reduces_as(rt: &impl Abort, alloc: Global, case: Case<'_>) -> Result<(), Memo
     assert_eq!(rt; (e.rows(), e.width(), e.prime()), (2, 3, case.p));
     assert!(rt; shows(e.row(0), case.first) && shows(e.row(1), case.second));
     assert_eq!(rt; (e.pivot(0), e.row(1).get(e.pivot(1))), (0, 1));
+    assert!(rt; e.is_pivot(0) && !e.is_pivot(3));
     assert!(rt; contains(rt, alloc, &e, case.member)?);
     assert!(rt; !contains(rt, alloc, &e, case.outside)?);
     assert!(rt; shows(reduced(rt, alloc, &e, case.outside)?.view(), case.rest));

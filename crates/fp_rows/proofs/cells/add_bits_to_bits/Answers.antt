@@ -1,5 +1,4 @@
-use Rattle.std.proofs.Common.{◌≡◌, arith, ap, ◌∙◌, sym}
-use Rattle.linear_algebra.specs.Rows.{add_multiple}
+use Rattle.std.proofs.Common.{◌≡◌, arith}
 use Rattle.fp_rows.proofs.BitLemmas.{nothing_added}
 use Rattle.fp_rows.proofs.cells.add_bits_to_bits.Goals as goal
 

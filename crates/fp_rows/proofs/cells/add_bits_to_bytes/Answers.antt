@@ -1,4 +1,4 @@
-use Rattle.std.proofs.Common.{arith, ap, ◌<◌, length}
+use Rattle.std.proofs.Common.{arith}
 use Rattle.group_table.specs.Prime.{prime_value}
 use Rattle.linear_algebra.proofs.RowLemmas.{is_add_multiple}
 use Rattle.fp_rows.specs.Bits.{bits_of}

@@ -1,4 +1,4 @@
-use Rattle.std.proofs.Common.{arith, ap, ◌<◌, length}
+use Rattle.std.proofs.Common.{arith}
 use Rattle.linear_algebra.proofs.RowLemmas.{is_add_multiple}
 use Rattle.fp_rows.proofs.cells.add_bytes_to_bits.Goals as goal
 

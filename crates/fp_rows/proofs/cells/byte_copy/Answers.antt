@@ -1,13 +1,11 @@
-use Rattle.std.proofs.Common.{◌≡◌, ℕ, ◌<◌, List, length, arith, ap, sym, ◌∙◌}
+use Rattle.std.proofs.Common.{◌≡◌, ℕ, ◌<◌, length, arith, ap, ◌∙◌}
 use Rattle.std.proofs.lemmas.List.{with_items_is}
 use Rattle.std.specs.Vec.{with_items}
-use mathlib.Core.Path.{subst}
 use Rattle.group_table.specs.Prime.{prime_value}
-use Rattle.linear_algebra.specs.Rows.{entry, add_multiple, IsRow}
+use Rattle.linear_algebra.specs.Rows.{entry, IsRow}
 use Rattle.fp_rows.specs.Bits.{bits_of}
 use Rattle.fp_rows.specs.Numbers.{numbers_of}
 use Rattle.fp_rows.proofs.BitLemmas.{added_to_zeros}
-use Rattle.fp_rows.proofs.ListLemmas.{row_at_length}
 use Rattle.fp_rows.proofs.cells.byte_copy.Goals as goal
 
 pub returns-in_ok-v-in-Bits-clause-same : goal.returns-in_ok-v-in-Bits-clause-same

@@ -1,4 +1,4 @@
-use Rattle.std.proofs.Common.{◌≡◌, ◌∙◌}
+use Rattle.std.proofs.Common.{◌∙◌}
 use Rattle.fp_rows.specs.Numbers.{numbers_of}
 use Rattle.fp_rows.proofs.BitLemmas.{added_to_zeros}
 use Rattle.fp_rows.proofs.cells.packed_copy.Goals as goal

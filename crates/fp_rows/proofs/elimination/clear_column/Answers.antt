@@ -1,7 +1,6 @@
-use Rattle.std.proofs.Common.{◌≡◌, ◌-◌, ◌<◌, ◌≤◌, [], length, get_or, arith, ap, sym, ◌∙◌, refl}
+use Rattle.std.proofs.Common.{◌≡◌, ◌<◌, [], length, get_or, arith, ap, sym, ◌∙◌}
 use Rattle.std.proofs.lemmas.List.{get_or-map}
 use Rattle.std.proofs.lemmas.List.Elements.{All-set, All-get_or}
-use Rattle.group_table.specs.Prime.{prime_value}
 use Rattle.linear_algebra.specs.Rows.{entry, row, IsRow}
 use Rattle.fp_rows.specs.Lists.{lists}
 use Rattle.fp_rows.specs.Values.{RowValue}

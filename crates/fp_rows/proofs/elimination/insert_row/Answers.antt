@@ -1,8 +1,7 @@
-use Rattle.std.proofs.Common.{◌≡◌, ℕ, ◌<◌, length, List, map, ◌∷◌, ◌++◌, take, drop, arith, ap, sym, ◌∙◌}
+use Rattle.std.proofs.Common.{◌≡◌, ℕ, ◌<◌, length, List, map, arith, ap, sym, ◌∙◌}
 use Rattle.std.specs.Prelude.{insert}
 use Rattle.linear_algebra.specs.Rows.{pivot}
-use Rattle.fp_rows.specs.Lists.{lists, AreOver}
-use Rattle.fp_rows.specs.Values.{RowValue}
+use Rattle.fp_rows.specs.Lists.{lists}
 use Rattle.linear_algebra.specs.Elimination.{AreCleared}
 use Rattle.linear_algebra.specs.Modular.{IsFieldModulo}
 use Rattle.linear_algebra.proofs.PivotLemmas.{pivot-le-length}

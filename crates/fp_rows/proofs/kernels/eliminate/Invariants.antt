@@ -1,4 +1,4 @@
-use Rattle.std.proofs.Common.{ℕ, length, ◌≤◌}
+use Rattle.std.proofs.Common.{length, ◌≤◌}
 use Rattle.fp_rows.specs.Eliminations.{IsElimination}
 use Rattle.fp_rows.proofs.kernels.eliminate.Given as goal
 

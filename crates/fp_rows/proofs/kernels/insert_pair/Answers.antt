@@ -1,6 +1,6 @@
-use Rattle.std.proofs.Common.{◌≡◌, ℕ, ◌<◌, List, ◌∷◌, ◌++◌, take, drop, length, map, arith, ap, sym, ◌∙◌, refl}
+use Rattle.std.proofs.Common.{◌≡◌, ℕ, ◌<◌, List, length, map, arith, ap, sym, ◌∙◌, refl}
 use Rattle.std.specs.Prelude.{insert}
-use Rattle.linear_algebra.specs.Rows.{entry, row, pivot}
+use Rattle.linear_algebra.specs.Rows.{entry, pivot}
 use Rattle.linear_algebra.specs.Elimination.{IsPlace, IsPrepared}
 use Rattle.linear_algebra.proofs.AddedRow.{place_is, added_pivots}
 use Rattle.linear_algebra.proofs.Spans.{in_span_pushed}

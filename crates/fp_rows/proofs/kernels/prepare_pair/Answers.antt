@@ -1,12 +1,11 @@
-use Rattle.std.proofs.Common.{◌≡◌, ℕ, ◌*◌, ◌%◌, ◌<◌, length, map, arith, ap, sym, ◌∙◌}
-use Rattle.linear_algebra.specs.Rows.{entry, IsRow}
+use Rattle.std.proofs.Common.{◌≡◌, ◌*◌, ◌%◌, ◌<◌, length, map, arith, ap, sym, ◌∙◌}
+use Rattle.linear_algebra.specs.Rows.{entry}
 use Rattle.fp_rows.specs.Lists.{lists}
 use Rattle.fp_rows.specs.Values.{RowValue}
 use Rattle.linear_algebra.proofs.PivotLemmas.{not_zero_at_pivot, pivot-le-length}
 use Rattle.fp_rows.proofs.Primes.{prime_above_one}
 use Rattle.linear_algebra.proofs.AddedRow.{prepared_zero, prepared_scaled, scaled_pivot}
 use Rattle.fp_rows.proofs.SolvingLemmas.{combination_scaled, scaled_row, zero_scaled}
-use Rattle.fp_rows.proofs.TableLemmas.{table_adds, table_grows_low, table_grows_high, table_grows_top}
 use Rattle.fp_rows.proofs.kernels.prepare_pair.Goals as goal
 
 pub inverse-c-requires-clause-not_zero : goal.inverse-c-requires-clause-not_zero

@@ -1,10 +1,10 @@
-use Rattle.std.proofs.Common.{◌≡◌, ℕ, ◌-◌, ◌<◌, List, length, get_or, arith, ap, sym, ◌∙◌, refl}
-use Rattle.linear_algebra.specs.Rows.{entry, row, pivot, IsRow}
+use Rattle.std.proofs.Common.{◌≡◌, ℕ, ◌-◌, ◌<◌, length, get_or, arith, ap, sym, ◌∙◌, refl}
+use Rattle.linear_algebra.specs.Rows.{entry, row, pivot}
 use Rattle.fp_rows.specs.Lists.{lists}
 use Rattle.fp_rows.proofs.ListLemmas.{row_lists, length-lists, kept_pivot}
 use Rattle.fp_rows.proofs.Primes.{prime_above_one}
 use Rattle.linear_algebra.proofs.Reducing.{reduced_start, reduced_skip, reduced_step, add_multiple_is_row}
-use Rattle.fp_rows.proofs.SolvingLemmas.{combination_added, zero_added, solved_kernel, solved_dependent, solved_independent}
+use Rattle.fp_rows.proofs.SolvingLemmas.{combination_added, zero_added}
 use Rattle.fp_rows.proofs.kernels.reduce_pair.Goals as goal
 use Rattle.fp_rows.proofs.kernels.reduce_pair.Goals.{then-c-ne0, else-c-ne0}
 

@@ -1,9 +1,9 @@
-use Rattle.std.proofs.Common.{◌≡◌, ◌<◌, length, arith, ap, sym, ◌∙◌, refl}
+use Rattle.std.proofs.Common.{◌<◌, length, arith, sym, ◌∙◌, refl}
 use Rattle.group_table.specs.Prime.{prime_value}
-use Rattle.linear_algebra.specs.Rows.{entry, IsRow}
+use Rattle.linear_algebra.specs.Rows.{IsRow}
 use Rattle.linear_algebra.proofs.Congruences.{congruent_trans, same_below}
 use Rattle.linear_algebra.proofs.MemberLemmas.{member_by_places, member_at}
-use Rattle.fp_rows.specs.Refs.{entries_of, modulus_of}
+use Rattle.fp_rows.specs.Refs.{entries_of}
 use Rattle.fp_rows.proofs.membership.is_member.Goals as goal
 
 pub returns-then-value_at-get : goal.returns-then-value_at-get

@@ -1,4 +1,4 @@
-use Rattle.std.proofs.Common.{◌≡◌, ℕ, ◌+◌, ◌*◌, ◌<◌, List, length, replicate, add-one, arith, ap, sym, ◌∙◌, refl}
+use Rattle.std.proofs.Common.{◌≡◌, ℕ, ◌*◌, ◌<◌, List, length, add-one, arith, ap, sym, ◌∙◌, refl}
 use Rattle.group_table.specs.Prime.{prime_value}
 use Rattle.linear_algebra.specs.Modular.{sum_below}
 use Rattle.linear_algebra.specs.Rows.{entry, row, pivot, add_multiple, IsRow}

@@ -1,12 +1,9 @@
-use Rattle.std.proofs.Common.{◌≡◌, ℕ, ◌+◌, ◌<◌, List, [], ◌∷◌, ◌++◌, length, take, arith, ap, sym, ◌∙◌}
+use Rattle.std.proofs.Common.{◌≡◌, ℕ, ◌<◌, List, [], length, arith, ap, sym, ◌∙◌}
 use Rattle.std.proofs.lemmas.List.{take_more}
-use Rattle.linear_algebra.specs.Rows.{entry, row, IsRow, IsEchelonOf, IsInSpan}
-use Rattle.linear_algebra.specs.Kernels.{IsKernelOf}
-use Rattle.linear_algebra.specs.Choices.{ArePreimages, IsPreimage}
+use Rattle.linear_algebra.specs.Rows.{row}
+use Rattle.linear_algebra.specs.Choices.{IsPreimage}
 use Rattle.linear_algebra.proofs.Laws.{kernel_is_one}
 use Rattle.linear_algebra.proofs.Preimages.{preimages_push}
-use Rattle.fp_rows.specs.Refs.{entries_of}
-use Rattle.fp_rows.specs.Values.{MatrixValue}
 use Rattle.fp_rows.proofs.Primes.{prime_above_one}
 use Rattle.fp_rows.proofs.solutions.preimages.Goals as goal
 

@@ -1,5 +1,4 @@
-use Rattle.std.proofs.Common.{◌≡◌, ℕ, ◌+◌, ◌-◌, ◌%◌, ◌<◌, ◌≤◌, arith, ap, sym, ◌∙◌}
-use Rattle.std.specs.Int.{bit_at}
+use Rattle.std.proofs.Common.{◌+◌, ◌-◌, ◌%◌, arith, ap, sym, ◌∙◌}
 use Rattle.fp_rows.specs.Places.{place}
 use Rattle.fp_rows.proofs.PlaceLemmas.{nothing_past}
 use Rattle.fp_rows.proofs.words.add_low_bits.Goals as goal

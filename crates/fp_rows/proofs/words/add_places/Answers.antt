@@ -1,4 +1,4 @@
-use Rattle.std.proofs.Common.{◌≡◌, ℕ, ◌+◌, ◌-◌, ◌*◌, ◌<◌, ◌≤◌, arith, ap, ◌∙◌}
+use Rattle.std.proofs.Common.{◌+◌, arith, ap, ◌∙◌}
 use Rattle.fp_rows.specs.Places.{place}
 use Rattle.fp_rows.proofs.PlaceLemmas.{added_more}
 use Rattle.fp_rows.proofs.words.add_places.Goals as goal

@@ -1,4 +1,4 @@
-use Rattle.std.proofs.Common.{◌≡◌, ◌+◌, ◌%◌, bit_xor, get_or, arith, ap, sym, ◌∙◌}
+use Rattle.std.proofs.Common.{◌+◌, ◌%◌, bit_xor, get_or, arith, ap, sym, ◌∙◌}
 use Rattle.std.proofs.lemmas.Nat.Bits.{bit_at_xor}
 use Rattle.std.specs.Int.{bit_at}
 use Rattle.fp_rows.proofs.PlaceLemmas.{place_in, place_set_same, place_set_other}

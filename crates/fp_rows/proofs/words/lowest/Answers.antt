@@ -1,4 +1,3 @@
-use Rattle.std.proofs.Common.{◌≡◌, ◌≤◌, ◌<◌, ◌^◌, arith, refl}
 use Rattle.fp_rows.proofs.PlaceLemmas.{bit_at_low, bit_at_low_zero, low_small, whole_small}
 use Rattle.fp_rows.proofs.words.lowest.Goals as goal
 

@@ -1,6 +1,6 @@
-use Rattle.std.proofs.Common.{◌≡◌, ℕ, ◌<◌, List, length, arith, ap, sym, ◌∙◌}
+use Rattle.std.proofs.Common.{ℕ, ◌<◌, List, length, arith}
 use Rattle.group_table.specs.Prime.{prime_value}
-use Rattle.linear_algebra.specs.Rows.{entry, add_multiple, IsRow}
+use Rattle.linear_algebra.specs.Rows.{add_multiple, IsRow}
 use Rattle.linear_algebra.proofs.Reducing.{add_multiple_is_row}
 use Rattle.fp_rows.specs.Cells.{cells_of}
 use Rattle.fp_rows.proofs.Primes.{prime_above_one}

@@ -1,11 +1,11 @@
-use Rattle.std.proofs.Common.{◌≡◌, ℕ, ◌+◌, ◌-◌, ◌%◌, ◌<◌, ◌≤◌, ◌⊎◌, inl, inr, List, length, arith, ap, sym, ◌∙◌, refl}
+use Rattle.std.proofs.Common.{◌≡◌, ℕ, ◌+◌, ◌-◌, ◌<◌, ◌≤◌, ◌⊎◌, inl, inr, length, arith, ap, ◌∙◌, refl}
 use Rattle.std.proofs.lemmas.Bool.{cases_lt}
 use Rattle.std.proofs.lemmas.Nat.{mod_below}
 use Rattle.std.specs.Int.{bit_at}
 use Rattle.group_table.specs.Prime.{prime_value}
 use Rattle.linear_algebra.specs.Rows.{entry}
 use Rattle.fp_rows.specs.Cells.{cells_of}
-use Rattle.fp_rows.specs.Values.{RowValue, IsStored}
+use Rattle.fp_rows.specs.Values.{RowValue}
 use Rattle.fp_rows.proofs.row.Row.add_word.Goals as goal
 
 pub invariant_of-self : goal.invariant_of-self
