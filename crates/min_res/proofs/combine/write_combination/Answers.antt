@@ -12,12 +12,12 @@ use Rattle.min_res.proofs.combine.write_combination.Goals as goal
 pub loop-k-preserved : goal.loop-k-preserved
 loop-k-preserved c = record {
   prime = ap (λ (x : RowValue). x.p) c.add_term.ensures ∙ c.loop-k.invariant.prime;
-  sum = add-step (entry (entries_of c.args.u)) _ c.loop-k.k _ _ _ _ _ (omega (arith, prime_above_one c.args.u.prime, c.requires.coefficient_prime)) c.rows-k-end.ensures.matrix
+  sum = add-step (entry (entries_of c.args.u)) _ c.loop-k.k _ _ _ _ _ (omega (arith, prime_above_one c.args.u.modulus, c.requires.coefficient_prime)) c.rows-k-end.ensures.matrix
       (omega (arith, c.loop-k-test.true, c.rows-k-end.ensures.count)) c.loop-k.invariant.sum c.loop-k.invariant.prime c.get.ensures.value c.row.ensures.entries
       (ap (λ (x : RowValue). x.entries) c.add_term.ensures);
 }
 
 pub returns-clause-sum : goal.returns-clause-sum
-returns-clause-sum c = partial-end (entry (entries_of c.args.u)) _ _ (omega (arith, prime_above_one c.args.u.prime, c.requires.coefficient_prime)) c.rows-k-end.ensures.matrix
+returns-clause-sum c = partial-end (entry (entries_of c.args.u)) _ _ (omega (arith, prime_above_one c.args.u.modulus, c.requires.coefficient_prime)) c.rows-k-end.ensures.matrix
     (subst (λ k. IsPartialCombination c.args.rows.now.p c.args.rows.now.width (entry (entries_of c.args.u)) c.args.rows.now.rows k c.loop-k.out.entries)
     (let z : c.loop-k.k ≡ length c.args.rows.now.rows = omega (arith, c.loop-k-test.false, c.rows-k-end.ensures.count, c.loop-k.auto.k-end) in z) c.loop-k.invariant.sum)
