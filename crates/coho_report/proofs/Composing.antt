@@ -10,16 +10,12 @@ use Rattle.graded_algebra.specs.Presentations.{IsSpanGenerators}
 use Rattle.graded_algebra.proofs.SpansUnique.{span-generators-unique}
 use Rattle.ring_present.specs.Rings.{cohomology, dual_basis, IsPresentation, IsTooMany}
 use Rattle.ring_present.specs.Values.{GeneratorValue, generators_of}
+use Rattle.ring_present.proofs.RelationsOver.{degrees-are}
 use Rattle.ring_present.specs.Refusals as ring
 use Rattle.ring_present.specs.declared.fault.RingFault.{RingFault}
 use Rattle.ring_present.specs.declared.fault.RingFault.TheVariants as fault
 use Rattle.coho_report.specs.Reports.{HasFewMonomials}
 use Rattle.coho_report.specs.Refusals.{IsRefusal, passed_up}
-
-
-pub degrees_are : (q : ℕ) (gs : List GeneratorValue) → degrees (generators_of q gs) ≡ map (λ g. g.degree) gs
-degrees_are q [] = refl
-degrees_are q (g ∷ gs) = ap (λ ds. g.degree ∷ ds) (degrees_are q gs)
 
 module _ (G : PGroup) where
   split : (d i : ℕ) → d ≤ suc i → (d ≤ i) ⊎ (d ≡ suc i)
@@ -34,7 +30,7 @@ module _ (G : PGroup) where
       let before : suc k - 1 ≡ k = omega arith in
       let same = span-generators-unique (largest_residue G) (cohomology G) (dual_basis G) k t.generators (generators_of (largest_residue G) gs)
       (subst (λ n. IsSpanGenerators (largest_residue G) (cohomology G) (dual_basis G) n t.generators) before t.generators_are) made.generators_are in
-      let bound = counted t.monomials (subst (λ ds. IsMonomials (largest_residue G) ds (suc k) t.monomials) (ap degrees same ∙ degrees_are (largest_residue G) gs) t.monomials_are) in
+      let bound = counted t.monomials (subst (λ ds. IsMonomials (largest_residue G) ds (suc k) t.monomials) (ap degrees same ∙ degrees-are (largest_residue G) gs) t.monomials_are) in
       let is = t.count_is in
       let above = t.above in
       omega (arith, bound, is, above)

@@ -6,7 +6,8 @@ ghost use Rattle.group_table.specs.Prime.{prime_value};
 ghost use Rattle.gc_poly.specs.Polynomials.{IsOverGenerators};
 
 use crate::{
-    Gens, Mono, Poly, Polys, add, count_monomials, monomials, mul, sub, subst, write_text,
+    Gens, Mono, Poly, Polys, add, count_monomials, monomials, mul, power_bytes, sub, subst,
+    write_text,
 };
 use group_table::{Memory, Prime};
 use std::alloc::Global;
@@ -143,6 +144,18 @@ fn substitutions(rt: HostRuntime) -> Result<(), Fail> {
         text_of(rt.alloc(), &to, &image)?.as_str(),
         "x_1_1^2+x_1_2^2"
     );
+    Ok(())
+}
+
+#[test]
+fn generators_and_constants(rt: HostRuntime) -> Result<(), Fail> {
+    let gens = small_gens(rt.alloc(), Prime::P3)?;
+    assert_eq!(rt; (gens.len(), gens.modulus()), (3, 3));
+    assert!(rt; gens.is_exterior(1) && !gens.is_exterior(2));
+    let name = power_bytes(rt.alloc(), &gens, 1, 2)?;
+    assert_eq!(rt; name.as_slice(), b"x_1_2^2".as_slice());
+    let two = Poly::constant(rt.alloc(), &gens, 2)?;
+    assert_eq!(rt; text_of(rt.alloc(), &gens, &two)?.as_str(), "2");
     Ok(())
 }
 

@@ -29,7 +29,8 @@ seen group gens lifts rs Ds = record {
   standard = map (λ d. d.standard.monomials) Ds;
 }
 
-known-store : (group : Option PGroup) (gens : Generators) (lifts : List LiftValue) (rs : List Polynomial) (Ds : List Degree)
+known-store : (group : Option PGroup) (gens : Generators) (lifts : List LiftValue) (rs : List Polynomial)
+    (Ds : List Degree)
     → IsRingStore group gens lifts rs Ds → IsKnown (seen group gens lifts rs Ds)
 known-store None gens lifts rs Ds S = record {
   degree_is = ap (λ (Ds : List Degree). length Ds) S.through.no_degrees;
@@ -44,35 +45,53 @@ known-store (Some G) gens lifts rs Ds S = record {
   standard_count = length-map Ds (λ (d : Degree). d.standard.monomials);
 }
 
-pub known-ring : (R : RingValue) (group : Option PGroup) (gens : Generators) (lifts : List LiftValue) (rs : List Polynomial) (Ds : List Degree)
+pub known-ring : (R : RingValue) (group : Option PGroup) (gens : Generators) (lifts : List LiftValue)
+    (rs : List Polynomial) (Ds : List Degree)
     → IsRingStore group gens lifts rs Ds → seen group gens lifts rs Ds ≡ R → IsKnown R
 known-ring R group gens lifts rs Ds S e = subst IsKnown e (known-store group gens lifts rs Ds S)
 
-over-store : (group : Option PGroup) (gens : Generators) (lifts : List LiftValue) (rs : List Polynomial) (Ds : List Degree) → IsRingStore group gens lifts rs Ds
-    → (i : ℕ) (f : Polynomial) → i < length rs → f ≡ slice_index_or rs i f → IsOverGenerators (record { prime = gens.prime; degrees = map (λ g. g.degree) (lifted lifts) }) f
-over-store None gens lifts rs Ds S i f l e = absurd (let n = ap (λ (rs : List Polynomial). length rs) S.through.no_relations in omega (arith, n, l))
+over-store : (group : Option PGroup) (gens : Generators) (lifts : List LiftValue) (rs : List Polynomial)
+    (Ds : List Degree) → IsRingStore group gens lifts rs Ds
+    → (i : ℕ) (f : Polynomial) → i < length rs → f ≡ slice_index_or rs i f
+        → IsOverGenerators (record { prime = gens.prime; degrees = map (λ g. g.degree) (lifted lifts) }) f
+over-store None gens lifts rs Ds S i f l e = absurd
+    (let n = ap (λ (rs : List Polynomial). length rs) S.through.no_relations in omega (arith, n, l))
 over-store (Some G) gens lifts rs Ds S i f l e =
-    all-at (IsOverGenerators (record { prime = gens.prime; degrees = map (λ g. g.degree) (lifted lifts) })) rs i f
+    all-at (IsOverGenerators
+        (record { prime = gens.prime; degrees = map (λ g. g.degree) (lifted lifts) })) rs i f
     (relations-over G (length Ds) gens.prime (lifted lifts) rs S.through.prime S.through.presentation) l e
 
 -- a relation is a polynomial over the generators
-pub relation-over : (R : RingValue) (group : Option PGroup) (gens : Generators) (lifts : List LiftValue) (rs : List Polynomial) (Ds : List Degree) → IsRingStore group gens lifts rs Ds
-    → seen group gens lifts rs Ds ≡ R → (i : ℕ) (f : Polynomial) → i < length R.relations → f ≡ slice_index_or rs i f
+pub relation-over : (R : RingValue) (group : Option PGroup) (gens : Generators) (lifts : List LiftValue)
+    (rs : List Polynomial) (Ds : List Degree) → IsRingStore group gens lifts rs Ds
+    → seen group gens lifts rs Ds ≡ R → (i : ℕ) (f : Polynomial) → i < length R.relations
+        → f ≡ slice_index_or rs i f
     → IsOverGenerators (record { prime = R.prime; degrees = map (λ g. g.degree) R.generators }) f
 relation-over R group gens lifts rs Ds S e i f l at =
-    subst (λ (R : RingValue). IsOverGenerators (record { prime = R.prime; degrees = map (λ g. g.degree) R.generators }) f) e
-    (over-store group gens lifts rs Ds S i f (let n = ap (λ (R : RingValue). length R.relations) e in omega (arith, n, l)) at)
+    subst (λ (R : RingValue). IsOverGenerators
+        (record { prime = R.prime; degrees = map (λ g. g.degree) R.generators }) f) e
+    (over-store group gens lifts rs Ds S i f
+        (let n = ap (λ (R : RingValue). length R.relations) e in omega (arith, n, l)) at)
 
-lifted-at : (lifts : List LiftValue) (i : ℕ) (L : LiftValue) (g : GeneratorValue) → i < length lifts → L ≡ slice_index_or lifts i L
+lifted-at : (lifts : List LiftValue) (i : ℕ) (L : LiftValue) (g : GeneratorValue) → i < length lifts
+    → L ≡ slice_index_or lifts i L
     → record { degree = L.degree; class = L.class } ≡ slice_index_or (lifted lifts) i g
-lifted-at lifts i L g l e = ap (λ (l : LiftValue). record { degree = l.degree; class = l.class }) e ∙ sym (get_or-map (λ (l : LiftValue). record { degree = l.degree; class = l.class }) lifts i L g l)
+lifted-at lifts i L g l e = ap (λ (l : LiftValue). record { degree = l.degree; class = l.class }) e
+    ∙ sym (get_or-map (λ (l : LiftValue). record { degree = l.degree; class = l.class }) lifts i L g l)
 
 -- the class of a generator has the rank of its degree as its length
-pub class-length : (R : RingValue) (group : Option PGroup) (gens : Generators) (lifts : List LiftValue) (rs : List Polynomial) (Ds : List Degree) → IsRingStore group gens lifts rs Ds
-    → seen group gens lifts rs Ds ≡ R → (i : ℕ) (L : LiftValue) (n : ℕ) → i < length R.generators → L ≡ slice_index_or lifts i L → n ≡ rank_of L.group L.degree
-    → (G : PGroup) → R.group ≡ Some G → (g : GeneratorValue) → n ≡ rank_of G (slice_index_or R.generators i g).degree
+pub class-length : (R : RingValue) (group : Option PGroup) (gens : Generators) (lifts : List LiftValue)
+    (rs : List Polynomial) (Ds : List Degree) → IsRingStore group gens lifts rs Ds
+    → seen group gens lifts rs Ds ≡ R → (i : ℕ) (L : LiftValue) (n : ℕ) → i < length R.generators
+        → L ≡ slice_index_or lifts i L → n ≡ rank_of L.group L.degree
+    → (G : PGroup) → R.group ≡ Some G → (g : GeneratorValue)
+        → n ≡ rank_of G (slice_index_or R.generators i g).degree
 class-length R group gens lifts rs Ds S e i L n l at r G known g =
-    let inside : i < length lifts = (let a = ap (λ (R : RingValue). length R.generators) e in let b : length (lifted lifts) ≡ length lifts = length-map lifts _ in omega (arith, a, b, l)) in
+    let inside : i < length lifts =
+        (let a = ap (λ (R : RingValue). length R.generators) e in let b : length
+            (lifted lifts) ≡ length lifts = length-map lifts _ in omega (arith, a, b, l)) in
     let ring = ring-at group gens lifts rs Ds G S (ap (λ (R : RingValue). R.group) e ∙ known) in
-    r ∙ ap (λ (H : PGroup). rank_of H L.degree) (all-at (IsLiftBelow G (length Ds)) lifts i L ring.lower.lifts_are inside at).group_is
-    ∙ ap (λ (g : GeneratorValue). rank_of G g.degree) (lifted-at lifts i L g inside at ∙ ap (λ (R : RingValue). slice_index_or R.generators i g) e)
+    r ∙ ap (λ (H : PGroup). rank_of H L.degree)
+        (all-at (IsLiftBelow G (length Ds)) lifts i L ring.lower.lifts_are inside at).group_is
+    ∙ ap (λ (g : GeneratorValue). rank_of G g.degree) (lifted-at lifts i L g inside at
+        ∙ ap (λ (R : RingValue). slice_index_or R.generators i g) e)

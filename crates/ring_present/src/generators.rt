@@ -57,8 +57,7 @@ fn unit_rows(alloc: Global, p: Prime, width: usize) -> Result<Matrix, Memory>
     let mut rows = Matrix::new(alloc, p, width);
     let mut unit = Row::zero(alloc, p, width)?;
     for i in 0..width {
-        unit.clear();
-        unit.set(i, 1);
+        unit.set_unit(i);
         rows.push(unit.view())?;
     }
     Ok(rows)

@@ -14,7 +14,6 @@ ghost use Rattle.presentation_rows.specs.Multiples.{AreMultiples};
 ghost use Rattle.ring_present.specs.Multiples.{IsRelationBelow, HaveMonomials, AreNewRelations};
 
 use crate::degree::Degree;
-use crate::standard::has_pivot;
 use fp_rows::{Echelon, Matrix, Row, RowRef, echelon};
 use gc_poly::{Gens, Mono, Monos, Poly, mul};
 use group_table::Memory;
@@ -170,7 +169,7 @@ fn new_relations(
 {
     let mut relations = Vec::new(alloc);
     for i in 0..kernel.rows() {
-        if !has_pivot(multiples, kernel.pivot(i)) {
+        if !multiples.is_pivot(kernel.pivot(i)) {
             relations.push(polynomial_of(alloc, gens, d, monomials, kernel.row(i))?)?;
         }
     }

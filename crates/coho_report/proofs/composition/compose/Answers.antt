@@ -4,7 +4,7 @@ use Rattle.p_groups.specs.PGroups.{PGroup, largest_residue}
 use Rattle.group_table.specs.Tables.{order}
 use Rattle.ring_present.specs.Values.{generators_of}
 use Rattle.coho_report.specs.Reports.{ranks_below}
-use Rattle.coho_report.proofs.Composing.{degrees_are}
+use Rattle.ring_present.proofs.RelationsOver.{degrees-are}
 use Rattle.coho_report.proofs.composition.compose.Goals as goal
 
 pub returns-in_err-ring-clause-refused : goal.returns-in_err-ring-clause-refused
@@ -24,6 +24,6 @@ returns-clause-report c =
       degree = c.in_ok-ring.ensures.degree;
       ranks = c.in_ok-ranks.ensures ∙ ap (ranks_below G) next;
       generators = generators_of q ring.generators;
-      degrees_are = sym (degrees_are q ring.generators);
+      degrees_are = sym (degrees-are q ring.generators);
       presentation = c.in_ok-ring.ensures.presentation;
     }
