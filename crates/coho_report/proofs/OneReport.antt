@@ -1,12 +1,14 @@
--- Generators by spans are one list, and so is a report.
+-- A report is one.
 use Rattle.std.proofs.Common.{◌≡◌, ◌∙◌, inl, inr, ℕ, zero, suc, ◌-◌, ◌<◌, min, List, [], ◌∷◌, ◌++◌, map, length, sym, ap, subst, arith}
+use Rattle.limits.specs.declared.TheConstants.{GREATEST_COUNT}
 use Rattle.p_groups.specs.PGroups.{PGroup, largest_residue}
 use Rattle.graded_polynomials.specs.Monomials.{IsMonomials}
 use Rattle.graded_polynomials.proofs.MonomialLists.{monomials-unique}
 use Rattle.graded_polynomials.specs.Polynomials.{Polynomial}
-use Rattle.graded_algebra.specs.Algebras.{Algebra, Generator, degrees, evaluate}
-use Rattle.graded_algebra.specs.Presentations.{IsChosen, IsSpanGenerators, IsRelations, generators_of}
+use Rattle.graded_algebra.specs.Algebras.{Generator, degrees}
+use Rattle.graded_algebra.specs.Presentations.{IsRelations}
 use Rattle.graded_algebra.specs.Vectors.{Vector}
+use Rattle.graded_algebra.proofs.SpansUnique.{span-generators-unique}
 use Rattle.graded_algebra.proofs.Unique.{relations-unique}
 use Rattle.graded_algebra.proofs.VectorLemmas.{vector-space}
 use Rattle.chain_lift.specs.Products.{multiply}
@@ -42,7 +44,7 @@ module _ (G : PGroup) where
       let same = span-generators-unique (largest_residue G) (cohomology G) (dual_basis G) (d - 1) a.generators b.generators a.generators_are b.generators_are in
       let monomials = monomials-unique (largest_residue G) (degrees b.generators) d a.monomials b.monomials
       (subst (λ gs. IsMonomials (largest_residue G) (degrees gs) d a.monomials) same a.monomials_are) b.monomials_are in
-      a.count_is ∙ ap (λ ms. min (length ms) 18446744073709551615) monomials ∙ sym b.count_is
+      a.count_is ∙ ap (λ ms. min (length ms) GREATEST_COUNT) monomials ∙ sym b.count_is
 
   not_less : (n cap d x e y : ℕ) → IsFirstTooMany G n cap d x → IsFirstTooMany G n cap e y → d < e → ⊥
   not_less n cap d x e y a b less = b.first d a.from less x a.is

@@ -1,6 +1,6 @@
 -- What contracts see of a report.
-use Rattle.std.specs.Prelude.{ℕ, ◌-◌, List, All}
-use Rattle.graded_polynomials.specs.Polynomials.{Polynomial, IsPolynomial}
+use Rattle.std.specs.Prelude.{ℕ, List}
+use Rattle.graded_polynomials.specs.Polynomials.{Polynomial}
 
 -- what the answer tells of a ring
 pub record ReportValue : Type 0 where
@@ -12,7 +12,3 @@ pub record ReportValue : Type 0 where
   -- the degrees of the generators
   pub generators : List ℕ
   pub relations : List Polynomial
-
--- the polynomials are over the generators, for the prime p
-abbrev pub AreOver : ℕ → List ℕ → List Polynomial → Type 0
-AreOver p degrees fs = All (λ f. IsPolynomial (p - 1) degrees f.degree f.terms) fs

@@ -1,6 +1,7 @@
 //! A report, from a resolution.
 
 ghost use Rattle.std.specs.Prelude.{◌≡◌, ◌+◌, ◌≤◌, ◌<◌, ◌^◌, map, suc, IfOk, IfErr};
+ghost use Rattle.limits.specs.declared.TheConstants.{GREATEST_DEGREE};
 ghost use Rattle.p_groups.specs.PGroups.{largest_residue, prime_of};
 ghost use Rattle.min_res.specs.Stages.{rank_of};
 ghost use Rattle.ring_present.specs.Rings.{IsPresentation};
@@ -16,7 +17,7 @@ use std::alloc::{AllocError, Global};
 // The ring through degree n.
 fn ring_through(alloc: Global, res: &Resolution, n: u32, cap: u64) -> Result<Ring, RingFault>
     requires to { n ≤ res.now.last }
-    requires high { n ≤ 24 }
+    requires high { n ≤ GREATEST_DEGREE }
     ensures prime { IfOk result (λ ring. ring.prime ≡ prime_of res.now.group) }
     ensures degree { IfOk result (λ ring. ring.degree ≡ n) }
     ensures presentation { IfOk result (λ ring. IsPresentation res.now.group n
@@ -36,10 +37,7 @@ fn rank_at(res: &Resolution, d: u32) -> usize
     requires { d ≤ res.now.last }
     ensures { result ≡ rank_of res.now.group d }
 {
-    match res.stage(d) {
-        Some(stage) => stage.rank(),
-        None => unreachable!(),
-    }
+    res.stage_at(d).rank()
 }
 
 // The ranks of the degrees below c.
@@ -65,7 +63,7 @@ pub fn compose(
 ) -> Result<Report, ReportFault>
     requires from { 1 ≤ n }
     requires to { n ≤ res.now.last }
-    requires high { n ≤ 24 }
+    requires high { n ≤ GREATEST_DEGREE }
     requires limit { _limit ≤ 2 ^ 28 }
     ensures report { IfOk result (λ report. IsReport res.now.group n report) }
     ensures few { IfOk result (λ report. HasFewMonomials res.now.group n cap) }

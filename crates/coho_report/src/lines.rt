@@ -4,7 +4,6 @@ ghost use Rattle.std.specs.Prelude.{◌≡◌, ◌<◌, ◌++◌, ◌∷◌, [],
 ghost use Rattle.std.specs.List.{concat};
 ghost use Rattle.graded_polynomials.specs.Texts.{name, polynomial_text};
 ghost use Rattle.gc_poly.specs.Polynomials.{IsOverGenerators};
-ghost use Rattle.coho_report.specs.Values.{AreOver};
 ghost use Rattle.coho_report.specs.Lines.{ended, numbered, ranks_line, generator_lines, relation_lines, head_lines, report_lines, report_text};
 
 use crate::Report;
@@ -76,13 +75,13 @@ fn relation_line(alloc: Global, gens: &Gens, f: &Poly) -> Result<Vec<u8>, Memory
 }
 
 // The texts of the relations.
-fn relation_lines(alloc: Global, gens: &Gens, ring: &Ring) -> Result<Vec<Vec<u8>>, Memory>
-    requires { AreOver gens.now.prime gens.now.degrees ring.now.relations }
-    ensures { IfOk result (λ lines. map (λ l. l.items) lines.items ≡ relation_lines gens.now.degrees ring.now.relations) }
+fn relation_lines(alloc: Global, ring: &Ring) -> Result<Vec<Vec<u8>>, Memory>
+    ensures { IfOk result (λ lines. map (λ l. l.items) lines.items
+        ≡ relation_lines (map (λ g. g.degree) ring.now.generators) ring.now.relations) }
 {
     let mut lines = Vec::new(alloc);
     for i in 0..ring.relations() {
-        lines.push(relation_line(alloc, gens, ring.relation(i))?)?;
+        lines.push(relation_line(alloc, ring.gens(), ring.relation(i))?)?;
     }
     Ok(lines)
 }
@@ -97,7 +96,7 @@ pub fn report_lines(alloc: Global, report: &Report) -> Result<Vec<Vec<u8>>, Memo
     lines.push(format!(in alloc; "generators {generators}\n")?.into_bytes())?;
     lines.append(&mut generator_lines(alloc, report.ring.gens())?)?;
     lines.push(format!(in alloc; "relations {relations}\n")?.into_bytes())?;
-    lines.append(&mut relation_lines(alloc, report.ring.gens(), &report.ring)?)?;
+    lines.append(&mut relation_lines(alloc, &report.ring)?)?;
     Ok(lines)
 }
 

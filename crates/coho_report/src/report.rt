@@ -16,7 +16,7 @@ pub struct Report {
 
 impl Model for Report {
     ghost use Rattle.std.specs.Prelude.{map};
-    ghost use Rattle.coho_report.specs.Values.{ReportValue, AreOver};
+    ghost use Rattle.coho_report.specs.Values.{ReportValue};
 
     ghost Value = { ReportValue };
 
@@ -28,8 +28,6 @@ impl Model for Report {
       generators = map (λ g. g.degree) r.ring.generators;
       relations = r.ring.relations;
     } };
-
-    ghost invariant = { λ r. AreOver r.ring.prime (map (λ g. g.degree) r.ring.generators) r.ring.relations };
 }
 
 impl Report {

@@ -6,6 +6,7 @@ use Rattle.std.proofs.lemmas.Bool.{cases_lt}
 use Rattle.std.proofs.lemmas.Bool.Decides.{nat_tests}
 use Rattle.std.proofs.lemmas.List.{length-map}
 use Rattle.std.proofs.lemmas.List.Elements.{recursion_from_All}
+use Rattle.limits.specs.declared.TheConstants.{GREATEST_COUNT, GREATEST_DEGREE}
 use Rattle.graded_polynomials.specs.Monomials.{is_exterior, IsMonomials}
 use Rattle.graded_polynomials.proofs.Terms.{each-map}
 use Rattle.graded_polynomials.proofs.MonomialLists.{monomials-unique}
@@ -131,7 +132,7 @@ counts-powers q ds old new i j g s l e p x n h same more k b = rw (drop-at ds i 
             ∙ ap (λ n. min n (2 ^ 64 - 1)) (sym (number-powers q g rest p k (rw e x) c))
 
 pub positive : (ds : List ℕ) → AreOrdered ds → Each (λ d. 0 < d) ds
-positive ds o = each-map (λ d. (1 ≤ d) × (d ≤ 24)) (λ d. 0 < d) ds (λ d h. h.0) (recursion_from_All (λ d. (1 ≤ d) × (d ≤ 24)) ds o.range)
+positive ds o = each-map (λ d. (1 ≤ d) × (d ≤ GREATEST_DEGREE)) (λ d. 0 < d) ds (λ d h. h.0) (recursion_from_All (λ d. (1 ≤ d) × (d ≤ GREATEST_DEGREE)) ds o.range)
 
-pub number-of : (q : ℕ) (ds : List ℕ) (d n : ℕ) → AreOrdered ds → n ≡ min (number q ds d) (2 ^ 64 - 1) → (ms : List (List ℕ)) → IsMonomials q ds d ms → n ≡ min (length ms) 18446744073709551615
-number-of q ds d n o e ms M = e ∙ ap (λ ms. min (length ms) 18446744073709551615) (monomials-unique q ds d (all_monomials q ds d) ms (all-monomials q ds (positive ds o) d) M)
+pub number-of : (q : ℕ) (ds : List ℕ) (d n : ℕ) → AreOrdered ds → n ≡ min (number q ds d) (2 ^ 64 - 1) → (ms : List (List ℕ)) → IsMonomials q ds d ms → n ≡ min (length ms) GREATEST_COUNT
+number-of q ds d n o e ms M = e ∙ ap (λ ms. min (length ms) GREATEST_COUNT) (monomials-unique q ds d (all_monomials q ds d) ms (all-monomials q ds (positive ds o) d) M)

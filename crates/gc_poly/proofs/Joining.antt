@@ -3,6 +3,7 @@ use Rattle.std.proofs.Common.{◌≡◌, ◌≢◌, ℕ, zero, suc, ◌+◌, ◌
 use Rattle.std.proofs.Math.Nat.{mul-le-mul_left}
 use Rattle.std.proofs.lemmas.Bool.{false≢true}
 use Rattle.std.proofs.lemmas.Bool.Decides.{nat_tests}
+use Rattle.limits.specs.declared.TheConstants.{GREATEST_DEGREE}
 use Rattle.linear_algebra.specs.Modular.{IsCongruent}
 use Rattle.linear_algebra.proofs.Congruences.{congruent_add, congruent_mul_right, congruent_mod, congruent_eq}
 use Rattle.graded_polynomials.specs.Monomials.{exponent, degree, fits, is_exterior, joined, swaps}
@@ -66,10 +67,10 @@ parity-of-swaps ds a b i s t d y l e f g h =
     congruent_add (rw e (congruent_mod (swaps (drop (suc i) ds) (drop (suc i) a) (drop (suc i) b)))) (congruent_mul_right (d * y) (rw f (congruent_mod (degree (drop (suc i) ds) (drop (suc i) a))))) in
     ap (λ n. n % 2) (let z : s + t * d * y ≡ s + t * (d * y) = omega arith in z) ∙ k.same_remainder ∙ ap (λ n. n % 2) (rw (g, h) (omega (arith, swaps-step ds a b i l)))
 
-pub small-products : (t d y : ℕ) → t < 2 → d ≤ 24 → y < 256 → (t * d ≤ 24) × (t * d * y ≤ 6144) × (d * y ≤ 6144)
+pub small-products : (t d y : ℕ) → t < 2 → d ≤ GREATEST_DEGREE → y < 256 → (t * d ≤ GREATEST_DEGREE) × (t * d * y ≤ 6144) × (d * y ≤ 6144)
 small-products zero d y h k l = (omega arith, omega arith, bound d y k l)
   where
-    bound : (d y : ℕ) → d ≤ 24 → y < 256 → d * y ≤ 6144
+    bound : (d y : ℕ) → d ≤ GREATEST_DEGREE → y < 256 → d * y ≤ 6144
     bound d y k l = let m : y ≤ 256 = omega arith in omega (arith, mul-le-mul_left d m)
 small-products (suc zero) d y h k l = let m : y ≤ 256 = omega arith in (omega arith, omega (arith, mul-le-mul_left d m), omega (arith, mul-le-mul_left d m))
 small-products (suc (suc t)) d y h k l = absurd (omega arith)

@@ -12,11 +12,3 @@ pub mod SumLemmas
 pub mod Terms
 pub mod Trimming
 pub mod Writing
-pub mod Running
-pub mod Accepting
-pub mod Stopping
-pub mod Cutting
-pub mod DegreeLemmas
-pub mod ValueLemmas
-pub mod ReaderLemmas
-pub mod AnswerLemmas

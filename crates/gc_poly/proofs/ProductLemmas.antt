@@ -5,6 +5,7 @@ use Rattle.std.proofs.Math.Nat.{mul-le-mul_right}
 use Rattle.std.proofs.lemmas.Bool.{cases_Bool}
 use Rattle.std.proofs.lemmas.List.{append-nil}
 use Rattle.std.proofs.lemmas.List.Elements.{All-head, All-tail}
+use Rattle.limits.specs.declared.TheConstants.{GREATEST_DEGREE}
 use Rattle.graded_polynomials.specs.Monomials.{IsWithin, exponent, degree, joined, fits, swaps, sign}
 use Rattle.graded_polynomials.specs.Polynomials.{Term, Polynomial, multiple, product}
 use Rattle.graded_polynomials.proofs.Terms.{same-refl, same-append}
@@ -13,14 +14,14 @@ use Rattle.gc_poly.specs.Generators.{Generators, greatest, AreOrdered}
 use Rattle.gc_poly.specs.Polynomials.{IsOverGenerators, IsMonomialOf, AreFactors, IsSumOf}
 use Rattle.gc_poly.proofs.SumLemmas.{more-sum, equal-sum, same-remainder, take-term, own-sum}
 
-exponent-bound : (ds m : List ℕ) → All (λ d. (1 ≤ d) × (d ≤ 24)) ds → IsWithin ds m → (i : ℕ) → exponent m i ≤ degree ds m
+exponent-bound : (ds m : List ℕ) → All (λ d. (1 ≤ d) × (d ≤ GREATEST_DEGREE)) ds → IsWithin ds m → (i : ℕ) → exponent m i ≤ degree ds m
 exponent-bound ds [] h w i = omega arith
 exponent-bound [] (x ∷ m) h w i = absurd w
-exponent-bound (d ∷ ds) (x ∷ m) h w zero = let l = (All-head (λ d. (1 ≤ d) × (d ≤ 24)) d ds h).0 in omega (arith, mul-le-mul_right x l)
-exponent-bound (d ∷ ds) (x ∷ m) h w (suc i) = omega (arith, exponent-bound ds m (All-tail (λ d. (1 ≤ d) × (d ≤ 24)) d ds h) w i)
+exponent-bound (d ∷ ds) (x ∷ m) h w zero = let l = (All-head (λ d. (1 ≤ d) × (d ≤ GREATEST_DEGREE)) d ds h).0 in omega (arith, mul-le-mul_right x l)
+exponent-bound (d ∷ ds) (x ∷ m) h w (suc i) = omega (arith, exponent-bound ds m (All-tail (λ d. (1 ≤ d) × (d ≤ GREATEST_DEGREE)) d ds h) w i)
 
--- the exponents of a product of degree at most 24
-pub exponents-small : (g : Generators) (d : ℕ) (m n : List ℕ) → AreOrdered g.degrees → d ≤ 24 → AreFactors g d m n → (i : ℕ) → exponent m i + exponent n i ≤ 24
+-- the exponents of a product of degree at most the greatest
+pub exponents-small : (g : Generators) (d : ℕ) (m n : List ℕ) → AreOrdered g.degrees → d ≤ GREATEST_DEGREE → AreFactors g d m n → (i : ℕ) → exponent m i + exponent n i ≤ GREATEST_DEGREE
 exponents-small g d m n o l h i =
     omega (arith, exponent-bound g.degrees m o.range h.left_is.within i, exponent-bound g.degrees n o.range h.right_is.within i, h.left_is.degree_is, h.right_is.degree_is, h.sum)
 

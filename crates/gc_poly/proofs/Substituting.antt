@@ -1,5 +1,6 @@
 -- A product depends on the coefficients of its left factor alone, and sums of products a term at a time.
 use Rattle.std.proofs.Common.{◌≡◌, ℕ, zero, suc, ◌+◌, ◌*◌, ◌<◌, ◌≤◌, List, [], ◌∷◌, ◌++◌, length, take, map, All, add-one, append_assoc, arith, ap, sym, subst, ◌∙◌, refl, length-take}
+use Rattle.limits.specs.declared.TheConstants.{GREATEST_DEGREE}
 use Rattle.linear_algebra.specs.Modular.{IsCongruent}
 use Rattle.linear_algebra.proofs.Congruences.{congruent_eq, congruent_trans, congruent_sym, congruent_add, congruent_mul_left, congruent_mod, congruent_refl}
 use Rattle.graded_polynomials.specs.Polynomials.{Term, Polynomial, coefficient, multiple, product, IsSame, scaled}
@@ -126,8 +127,8 @@ degree-front (d ∷ ds) [] (suc i) = omega arith
 degree-front (d ∷ ds) (x ∷ m) zero = omega arith
 degree-front (d ∷ ds) (x ∷ m) (suc i) = omega (arith, degree-front ds m i)
 
-pub room : (fs : List Polynomial) (m : List ℕ) (i e : ℕ) (f : Polynomial) → i < length m → slice_get fs i ≡ Some f → e ≡ exponent m i → degree (map (λ f. f.degree) fs) m ≤ 24
-    → degree (map (λ f. f.degree) fs) (take i m) + f.degree * e ≤ 24
+pub room : (fs : List Polynomial) (m : List ℕ) (i e : ℕ) (f : Polynomial) → i < length m → slice_get fs i ≡ Some f → e ≡ exponent m i → degree (map (λ f. f.degree) fs) m ≤ GREATEST_DEGREE
+    → degree (map (λ f. f.degree) fs) (take i m) + f.degree * e ≤ GREATEST_DEGREE
 room fs m i e f l h k b = omega (arith, degree-front (map (λ f. f.degree) fs) m (i + 1), ap (degree (map (λ f. f.degree) fs)) more ∙ degree-more fs (take i m) e f here)
   where
     more : take (i + 1) m ≡ take i m ++ e ∷ []

@@ -1,13 +1,18 @@
 //! The monomials of a degree: their number and their list.
 
 ghost use Rattle.std.specs.Prelude.{◌≡◌, ℕ, ◌+◌, ◌-◌, ◌^◌, ◌<◌, ◌≤◌, min, List, ◌++◌, map, drop, length, slice_index, IfOk, OnOk, if◌then◌else◌, nat_le};
+ghost use Rattle.limits.specs.declared.TheConstants.{GREATEST_COUNT};
 ghost use Rattle.graded_polynomials.specs.Monomials.{is_exterior, IsTrimmed, IsMonomials};
 ghost use Rattle.graded_polynomials.specs.AllMonomials.{all_monomials};
 ghost use Rattle.gc_poly.specs.Generators.{greatest, AreOrdered};
 
 use crate::{Gens, Mono, Monos};
 use group_table::Memory;
+use limits::GREATEST_DEGREE;
 use std::alloc::Global;
+
+// The number of degrees, 0 among them.
+const DEGREES: usize = GREATEST_DEGREE as usize + 1;
 
 // Counts with a further generator of this degree and all its powers.
 fn count_powers(counts: &mut [u64], degree: usize)
@@ -33,13 +38,13 @@ fn count_once(counts: &mut [u64], degree: usize)
     }
 }
 
-/// The number of monomials of degree d ≤ 24, or 18446744073709551615 where it is more.
+/// The number of monomials of degree d ≤ `GREATEST_DEGREE`, or `GREATEST_COUNT` where it is more.
 pub fn count_monomials(gens: &Gens, d: u32) -> u64
-    requires { d ≤ 24 }
+    requires { d ≤ GREATEST_DEGREE }
     ensures { (ms : List (List ℕ)) → IsMonomials (greatest gens.now) gens.now.degrees d ms
-        → result ≡ min (length ms) 18446744073709551615 }
+        → result ≡ min (length ms) GREATEST_COUNT }
 {
-    let mut counts = [0; 25];
+    let mut counts = [0; DEGREES];
     counts[0] = 1;
     for i in (0..gens.len()).rev() {
         let degree = gens.degree(i) as usize;
@@ -62,7 +67,7 @@ fn find_monomials(
     found: &mut Vec<Mono>,
 ) -> Result<(), Memory>
     requires within { i ≤ length gens.now.degrees }
-    requires small { rest ≤ 24 }
+    requires small { rest ≤ GREATEST_DEGREE }
     requires trimmed { rest ≡ 0 → IsTrimmed chosen.old.items }
     ensures found { OnOk result (found.new.items
         ≡ found.old.items ++ map (λ m. chosen.old.items ++ m) (all_monomials (greatest gens.now) (drop i gens.now.degrees) rest)) }
@@ -89,9 +94,9 @@ fn find_monomials(
     Ok(())
 }
 
-/// All monomials of degree d ≤ 24, in descending order.
+/// All monomials of degree d ≤ `GREATEST_DEGREE`, in descending order.
 pub fn monomials(alloc: Global, gens: &Gens, d: u32) -> Result<Monos, Memory>
-    requires { d ≤ 24 }
+    requires { d ≤ GREATEST_DEGREE }
     ensures { IfOk result (IsMonomials (greatest gens.now) gens.now.degrees d) }
 {
     let mut found = Vec::new(alloc);

@@ -1,6 +1,7 @@
 //! Generators by their degrees.
 
 ghost use Rattle.std.specs.Prelude.{◌≡◌, ◌+◌, ◌∷◌, ◌++◌, ◌<◌, ◌≤◌, [], length, ◌==◌, slice_index, All, OnOk, OnErr};
+ghost use Rattle.limits.specs.declared.TheConstants.{GREATEST_DEGREE};
 ghost use Rattle.group_table.specs.Prime.{prime_value};
 ghost use Rattle.graded_polynomials.specs.Texts.{ordinal};
 ghost use Rattle.linear_algebra.specs.Modular.{IsSmallPrime};
@@ -9,7 +10,7 @@ use group_table::{Memory, Prime};
 use std::alloc::Global;
 use std::marker::Model;
 
-/// A prime p, and generators of degrees from 1 to 24 that do not descend. Contracts see p and the list of degrees.
+/// A prime p, and generators of degrees from 1 to `GREATEST_DEGREE` that do not descend. Contracts see p and the list of degrees.
 #[derive(Debug, Drop)]
 pub struct Gens {
     prime: Prime,
@@ -44,11 +45,11 @@ impl Gens {
         }
     }
 
-    /// Adds a generator of a degree from 1 to 24, not below that of the last.
+    /// Adds a generator of a degree from 1 to `GREATEST_DEGREE`, not below that of the last.
     pub fn push(&mut self, degree: u32) -> Result<(), Memory>
         requires few { length self.old.degrees < 4294967295 }
         requires low { 1 ≤ degree }
-        requires high { degree ≤ 24 }
+        requires high { degree ≤ GREATEST_DEGREE }
         requires order { All (λ d. d ≤ degree) self.old.degrees }
         ensures ok { OnOk result (self.new ≡ record self.old { degrees = self.old.degrees ++ degree ∷ [] }) }
         ensures err { OnErr result (self.new ≡ self.old) }
@@ -60,6 +61,7 @@ impl Gens {
     /// The number of generators.
     pub fn len(&self) -> usize
         ensures value { result ≡ length self.now.degrees }
+        ensures few { result ≤ 4294967295 }
         ensures valid { AreOrdered self.now.degrees }
     {
         self.degrees.len()
@@ -77,7 +79,7 @@ impl Gens {
         requires { i < length self.now.degrees }
         ensures value { result ≡ slice_index self.now.degrees i }
         ensures low { 1 ≤ result }
-        ensures high { result ≤ 24 }
+        ensures high { result ≤ GREATEST_DEGREE }
         ensures valid { AreOrdered self.now.degrees }
     {
         self.degrees[i]
@@ -91,16 +93,16 @@ impl Gens {
         self.prime
     }
 
-    // Whether generator i has odd degree, for odd p.
-    pub(crate) fn is_exterior(&self, i: usize) -> bool
+    /// Whether generator i has odd degree, for odd p.
+    pub fn is_exterior(&self, i: usize) -> bool
         requires { i < length self.now.degrees }
         ensures { result ≡ is_exterior (greatest self.now) (slice_index self.now.degrees i) }
     {
         self.modulus() != 2 && self.degrees[i] % 2 == 1
     }
 
-    // The number p.
-    pub(crate) fn modulus(&self) -> u8
+    /// The number p.
+    pub fn modulus(&self) -> u8
         ensures value { result ≡ self.now.prime }
         ensures low { 2 ≤ result }
         ensures high { result ≤ 7 }

@@ -1,6 +1,6 @@
 //! Polynomials, made a term at a time.
 
-ghost use Rattle.std.specs.Prelude.{◌≡◌, ◌+◌, ◌<◌, ◌≤◌, [], ◌∷◌, ◌++◌, length, All, OnOk, OnErr, IfSome, IsNone, ◌↔◌, ◌==◌, slice_get, Some, option_map};
+ghost use Rattle.std.specs.Prelude.{◌≡◌, ◌+◌, ◌<◌, ◌≤◌, [], ◌∷◌, ◌++◌, length, All, IfOk, OnOk, OnErr, IfSome, IsNone, ◌↔◌, ◌==◌, slice_get, Some, option_map};
 
 use crate::sums::{add_at, find};
 use crate::term::Term;
@@ -39,6 +39,16 @@ impl Poly {
             degree,
             terms: Vec::new(alloc),
         }
+    }
+
+    /// A number below p, as a polynomial of degree 0.
+    pub fn constant(alloc: Global, gens: &Gens, c: u8) -> Result<Poly, Memory>
+        requires { c < gens.now.prime }
+        ensures { IfOk result (IsSumOf gens.now 0 (record { scalar = c; monomial = [] } ∷ [])) }
+    {
+        let mut out = Poly::zero(alloc, 0);
+        out.add_term(gens, c, &Mono::of(alloc, &[])?)?;
+        Ok(out)
     }
 
     /// The degree.

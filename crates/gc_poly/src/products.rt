@@ -1,6 +1,7 @@
 //! Products of polynomials.
 
 ghost use Rattle.std.specs.Prelude.{◌≡◌, ℕ, ◌+◌, ◌*◌, ◌%◌, ◌<◌, ◌≤◌, [], ◌∷◌, ◌++◌, IfOk, OnOk};
+ghost use Rattle.limits.specs.declared.TheConstants.{GREATEST_DEGREE};
 ghost use Rattle.graded_polynomials.specs.Monomials.{exponent, degree, fits, joined, swaps, sign};
 ghost use Rattle.graded_polynomials.specs.Polynomials.{multiple, product};
 ghost use Rattle.gc_poly.specs.Generators.{greatest};
@@ -12,7 +13,7 @@ use std::alloc::Global;
 
 // Whether the product of two monomials is not 0: for odd p no generator of odd degree comes twice.
 fn is_product(gens: &Gens, a: &Mono, b: &Mono) -> bool
-    requires { (i : ℕ) → exponent a.now i + exponent b.now i ≤ 24 }
+    requires { (i : ℕ) → exponent a.now i + exponent b.now i ≤ GREATEST_DEGREE }
     ensures { result ≡ fits (greatest gens.now) gens.now.degrees (joined a.now b.now) }
 {
     if gens.modulus() == 2 {
@@ -63,7 +64,7 @@ fn add_product(
     n: &Mono,
 ) -> Result<(), Memory>
     requires over { IsOverGenerators gens.now out.old }
-    requires degree { out.old.degree ≤ 24 }
+    requires degree { out.old.degree ≤ GREATEST_DEGREE }
     requires monomials { AreFactors gens.now out.old.degree m.now n.now }
     requires below { (c < gens.now.prime) × (x < gens.now.prime) }
     ensures { OnOk result (IsSumOf gens.now out.old.degree
@@ -90,7 +91,7 @@ fn add_monomial_multiple(
 ) -> Result<(), Memory>
     requires out_over { IsOverGenerators gens.now out.old }
     requires over { IsOverGenerators gens.now f.now }
-    requires degree { out.old.degree ≤ 24 }
+    requires degree { out.old.degree ≤ GREATEST_DEGREE }
     requires monomial { (d : ℕ) × IsMonomialOf gens.now d m.now × (d + f.now.degree ≡ out.old.degree) }
     requires below { c < gens.now.prime }
     ensures { OnOk result (IsSumOf gens.now out.old.degree
@@ -102,11 +103,11 @@ fn add_monomial_multiple(
     Ok(())
 }
 
-/// The product of two polynomials whose degrees add to at most 24.
+/// The product of two polynomials whose degrees add to at most `GREATEST_DEGREE`.
 pub fn mul(alloc: Global, gens: &Gens, a: &Poly, b: &Poly) -> Result<Poly, Memory>
     requires left { IsOverGenerators gens.now a.now }
     requires right { IsOverGenerators gens.now b.now }
-    requires degrees { a.now.degree + b.now.degree ≤ 24 }
+    requires degrees { a.now.degree + b.now.degree ≤ GREATEST_DEGREE }
     ensures { IfOk result (IsSumOf gens.now (a.now.degree + b.now.degree)
         (product (greatest gens.now) gens.now.degrees a.now.terms b.now.terms)) }
 {

@@ -1,11 +1,12 @@
 //! Values worked out by hand.
 
-ghost use Rattle.std.specs.Prelude.{◌≡◌, ◌≤◌, [], ◌∷◌, IfOk, length};
+ghost use Rattle.std.specs.Prelude.{◌≡◌, ◌≤◌, [], ◌∷◌, IfOk};
+ghost use Rattle.limits.specs.declared.TheConstants.{GREATEST_DEGREE};
 ghost use Rattle.group_table.specs.Prime.{prime_value};
 ghost use Rattle.gc_poly.specs.Polynomials.{IsOverGenerators};
 
 use crate::{
-    Gens, Mono, Poly, Polys, add, count_monomials, monomials, mul, read_poly, sub, subst,
+    Gens, Mono, Poly, Polys, add, count_monomials, monomials, mul, power_bytes, sub, subst,
     write_text,
 };
 use group_table::{Memory, Prime};
@@ -25,7 +26,7 @@ fn small_gens(alloc: Global, p: Prime) -> Result<Gens, Memory>
 
 // Monomial i of degree d as a polynomial, or 0 where there are fewer.
 fn monomial(alloc: Global, gens: &Gens, d: u32, i: usize) -> Result<Poly, Memory>
-    requires { d ≤ 24 }
+    requires { d ≤ GREATEST_DEGREE }
     ensures over { IfOk result (IsOverGenerators gens.now) }
     ensures degree { IfOk result (λ f. f.degree ≡ d) }
 {
@@ -146,53 +147,24 @@ fn substitutions(rt: HostRuntime) -> Result<(), Fail> {
     Ok(())
 }
 
-// What a text is read as: the polynomial's own text, or the fault.
-fn answer_of(alloc: Global, gens: &Gens, text: &str) -> Result<String, Fail>
-    requires { length text.now ≤ 65536 }
-{
-    match read_poly(alloc, gens, text.as_bytes()) {
-        Ok(f) => text_of(alloc, gens, &f),
-        Err(fault) => Ok(format!(in alloc; "{fault:?}")?),
-    }
-}
-
 #[test]
-fn texts_read(rt: HostRuntime) -> Result<(), Fail> {
-    let cases = [
-        (Prime::P2, "x_1_1+y", "UnknownName(7)"),
-        (Prime::P2, "x_1_1+x_2_1", "Mixed(1, 2)"),
-        (Prime::P2, "x_1_1+", "Syntax(7)"),
-        (Prime::P2, "x_2_1^24", "TooHigh(48)"),
-        (Prime::P2, "x_2_1^25", "Syntax(8)"),
-        (Prime::P2, "x_2_1+x_1_2*x_1_1", "x_1_1*x_1_2+x_2_1"),
-        (Prime::P2, "1*x_1_1+x_1_1", "0"),
-        (Prime::P2, "2*x_1_1", "Syntax(1)"),
-        (Prime::P3, "x_1_2*x_1_1", "2*x_1_1*x_1_2"),
-        (Prime::P3, "2*x_1_2*x_1_1^1+x_2_1", "x_1_1*x_1_2+x_2_1"),
-        (Prime::P3, "2*x_1_1*x_1_2+x_2_1", "2*x_1_1*x_1_2+x_2_1"),
-        (Prime::P3, "x_1_1^2", "0"),
-        (Prime::P3, "3*x_1_1", "Syntax(1)"),
-        (Prime::P3, "2*x_1_1^02", "Syntax(9)"),
-        (Prime::P3, "0", "0"),
-        (Prime::P3, "1", "1"),
-        (Prime::P3, "", "Syntax(1)"),
-        (Prime::P3, "0*x_1_1", "Syntax(2)"),
-        (Prime::P3, "1+x_1_1", "Syntax(2)"),
-        (Prime::P3, "x_1_1+x_2_1+y", "UnknownName(13)"),
-        (Prime::P3, "x_1_1+x_2_1^12*x_1_1", "TooHigh(25)"),
-    ];
-    for (p, text, wanted) in cases {
-        let gens = small_gens(rt.alloc(), p)?;
-        assert!(rt; text.len() <= 65536);
-        assert_eq!(rt; answer_of(rt.alloc(), &gens, text)?.as_str(), wanted);
-    }
+fn generators_and_constants(rt: HostRuntime) -> Result<(), Fail> {
+    let gens = small_gens(rt.alloc(), Prime::P3)?;
+    assert_eq!(rt; (gens.len(), gens.modulus()), (3, 3));
+    assert!(rt; gens.is_exterior(1) && !gens.is_exterior(2));
+    let name = power_bytes(rt.alloc(), &gens, 1, 2)?;
+    assert_eq!(rt; name.as_slice(), b"x_1_2^2".as_slice());
+    let two = Poly::constant(rt.alloc(), &gens, 2)?;
+    assert_eq!(rt; text_of(rt.alloc(), &gens, &two)?.as_str(), "2");
     Ok(())
 }
 
 #[test]
 fn terms_of_a_polynomial(rt: HostRuntime) -> Result<(), Fail> {
     let gens = small_gens(rt.alloc(), Prime::P3)?;
-    let f = read_poly(rt.alloc(), &gens, b"x_2_1+2*x_1_1*x_1_2")?;
+    let first = monomial(rt.alloc(), &gens, 2, 0)?;
+    let second = monomial(rt.alloc(), &gens, 2, 1)?;
+    let f = sub(rt.alloc(), &gens, &second, &first)?;
     assert_eq!(rt; f.terms(), 2);
     assert_eq!(rt; f.coefficient(0), 2);
     let product = Mono::of(rt.alloc(), &[1, 1])?;
@@ -202,7 +174,7 @@ fn terms_of_a_polynomial(rt: HostRuntime) -> Result<(), Fail> {
     assert!(rt; !f.mono(1).is_greater(&product));
     match f.leading() {
         Some(m) => assert!(rt; *m == product),
-        None => assert!(rt; false, "0 was read"),
+        None => assert!(rt; false, "0"),
     }
     Ok(())
 }

@@ -10,13 +10,8 @@ use crate::{Gens, Mono, Poly};
 use group_table::Memory;
 use std::alloc::Global;
 
-// The name of generator i, alone or with an exponent other than 1.
-pub(crate) fn power_bytes(
-    alloc: Global,
-    gens: &Gens,
-    i: usize,
-    exponent: u8,
-) -> Result<Vec<u8>, Memory>
+/// The name of generator i, alone or with an exponent other than 1.
+pub fn power_bytes(alloc: Global, gens: &Gens, i: usize, exponent: u8) -> Result<Vec<u8>, Memory>
     requires { i < length gens.now.degrees }
     ensures { IfOk result (λ bytes. bytes.items ≡ power_text gens.now.degrees i exponent) }
 {

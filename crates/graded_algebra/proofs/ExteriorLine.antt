@@ -1,4 +1,5 @@
--- The exterior algebra of one generator of degree 1 over F_3 meets the laws, and is presented by that generator and no relation.
+-- The exterior algebra of one generator of degree 1 over F_3 meets the laws, and is presented by that
+-- generator and no relation.
 use Rattle.std.proofs.Common.{◌≡◌, ℕ, zero, suc, ◌+◌, ◌*◌, ◌%◌, ◌≤◌, Bool, true, false, cond, leb, List, [], ◌∷◌, inl, inr, arith, ap, ap₂, sym, ◌∙◌, refl}
 use Rattle.std.specs.Prelude.{◌<◌, slice_index_or}
 use Rattle.linear_algebra.specs.Modular.{IsCongruent, IsFieldModulo}
@@ -68,14 +69,19 @@ only m h = let o = monomials.all m h in go o.0 o.1 o.2
     go (suc i) l e = absurd (omega arith)
 
 -- the value of a polynomial of degree 1 is its coefficient at x, times the class
-value-at : (f : List Term) → IsOver 2 (degrees gens) 1 f → (value (algebra 2 exterior-line) gens f 0) ≡ residue 2 (coefficient f x)
+value-at : (f : List Term) → IsOver 2 (degrees gens) 1 f
+    → (value (algebra 2 exterior-line) gens f 0) ≡ residue 2 (coefficient f x)
 value-at [] o = refl
 value-at (t ∷ f) o =
-    rw (only t.monomial o.0) (ap₂ (λ (a b : Below 3). residue 2 (a.0 + b.0)) (times-at 2 exterior-line.mul t.scalar (evaluate (algebra 2 exterior-line) gens x) 0) (value-at f o.1)
+    rw (only t.monomial o.0)
+        (ap₂ (λ (a b : Below 3). residue 2 (a.0 + b.0))
+            (times-at 2 exterior-line.mul t.scalar (evaluate (algebra 2 exterior-line) gens x) 0)
+                (value-at f o.1)
     ∙ plus-residue 2 (t.scalar * 1) (coefficient f x) ∙ ap (residue 2) (omega arith))
 
 standard : IsStandard 2 (algebra 2 exterior-line) gens 1 x
-standard h = h.here (ap (λ (b : Below 3). b.0) (sym (value-at h.member h.is_member.over) ∙ ap (λ (v : V). v 0) h.is_member.vanishes))
+standard h = h.here (ap (λ (b : Below 3). b.0) (sym (value-at h.member h.is_member.over)
+    ∙ ap (λ (v : V). v 0) h.is_member.vanishes))
 
 relations : IsRelations 2 (algebra 2 exterior-line) gens 1 []
 relations = ([], [], x ∷ [], refl, monomials, inl (standard, refl), refl)

@@ -1,4 +1,5 @@
--- Examples: the multiples of one vector in each degree where `on` holds, and 0 in the other degrees. The polynomials in one variable of degree 1 over F_2
+-- Examples: the multiples of one vector in each degree where `on` holds, and 0 in the other degrees. The
+-- polynomials in one variable of degree 1 over F_2
 -- and the exterior algebra of one generator of degree 1 over F_3 are such, and meet the laws.
 use Rattle.std.proofs.Common.{◌≡◌, ℕ, zero, suc, ◌+◌, ◌*◌, ◌%◌, ◌≤◌, Bool, true, false, cond, eqb, leb, ◌⊎◌, inl, inr, arith, ap, sym, ◌∙◌, refl}
 use Rattle.std.proofs.Math.Path.{fun_ext}
@@ -34,20 +35,27 @@ module _ (q : ℕ) where
   sum a b = residue q (a.0 + b.0)
 
   by-left : (a b c : Below (suc q)) → by (sum a b) c ≡ sum (by a c) (by b c)
-  by-left a b c = residue-path (congruent_trans (congruent_mul_right c.0 (congruent_mod (a.0 + b.0))) (congruent_eq (omega arith))) ∙ sym (plus-residue q (a.0 * c.0) (b.0 * c.0))
+  by-left a b c = residue-path
+      (congruent_trans (congruent_mul_right c.0 (congruent_mod (a.0 + b.0))) (congruent_eq (omega arith)))
+          ∙ sym (plus-residue q (a.0 * c.0) (b.0 * c.0))
 
   by-comm : (a b : Below (suc q)) → by a b ≡ by b a
   by-comm a b = ap (residue q) (let k : a.0 * b.0 ≡ b.0 * a.0 = omega arith in k)
 
   by-right : (a b c : Below (suc q)) → by a (sum b c) ≡ sum (by a b) (by a c)
-  by-right a b c = residue-path (congruent_trans (congruent_mul_left a.0 (congruent_mod (b.0 + c.0))) (congruent_eq (omega arith))) ∙ sym (plus-residue q (a.0 * b.0) (a.0 * c.0))
+  by-right a b c = residue-path
+      (congruent_trans (congruent_mul_left a.0 (congruent_mod (b.0 + c.0))) (congruent_eq (omega arith)))
+          ∙ sym (plus-residue q (a.0 * b.0) (a.0 * c.0))
 
   by-assoc : (a b c : Below (suc q)) → by (by a b) c ≡ by a (by b c)
   by-assoc a b c = residue-path (congruent_trans (congruent_mul_right c.0 (congruent_mod (a.0 * b.0)))
-      (congruent_trans (congruent_eq (omega arith)) (congruent_sym (congruent_mul_left a.0 (congruent_mod (b.0 * c.0))))))
+      (congruent_trans (congruent_eq (omega arith))
+          (congruent_sym (congruent_mul_left a.0 (congruent_mod (b.0 * c.0))))))
 
   by-one : (a : Below (suc q)) → by a (residue q 1) ≡ a
-  by-one a = residue-path (congruent_trans (congruent_mul_left a.0 (congruent_mod 1)) (congruent_eq (omega arith))) ∙ residue-self q a
+  by-one a = residue-path
+      (congruent_trans (congruent_mul_left a.0 (congruent_mod 1)) (congruent_eq (omega arith)))
+          ∙ residue-self q a
 
   at-zero-sum : (a b : Below (suc q)) → at-zero (sum a b) ≡ (λ i. sum (at-zero a i) (at-zero b i))
   at-zero-sum a b = fun_ext (λ i. go (eqb i 0))
@@ -81,23 +89,30 @@ module _ (q : ℕ) where
     abbrev pub A : Algebra (Vector q)
     A = vectors q line-mul
 
-    left : (o : Bool) (x y z : Vector q) → cond o (at-zero (by (A.add x y 0) (z 0))) Zero ≡ A.add (cond o (at-zero (by (x 0) (z 0))) Zero) (cond o (at-zero (by (y 0) (z 0))) Zero)
+    left : (o : Bool) (x y z : Vector q)
+        → cond o (at-zero (by (A.add x y 0) (z 0))) Zero ≡ A.add (cond o (at-zero (by (x 0) (z 0))) Zero)
+            (cond o (at-zero (by (y 0) (z 0))) Zero)
     left true x y z = ap at-zero (by-left (x 0) (y 0) (z 0)) ∙ at-zero-sum (by (x 0) (z 0)) (by (y 0) (z 0))
     left false x y z = fun_ext (λ i. zero-sum)
 
-    right : (o : Bool) (x y z : Vector q) → cond o (at-zero (by (x 0) (A.add y z 0))) Zero ≡ A.add (cond o (at-zero (by (x 0) (y 0))) Zero) (cond o (at-zero (by (x 0) (z 0))) Zero)
+    right : (o : Bool) (x y z : Vector q)
+        → cond o (at-zero (by (x 0) (A.add y z 0))) Zero ≡ A.add (cond o (at-zero (by (x 0) (y 0))) Zero)
+            (cond o (at-zero (by (x 0) (z 0))) Zero)
     right true x y z = ap at-zero (by-right (x 0) (y 0) (z 0)) ∙ at-zero-sum (by (x 0) (y 0)) (by (x 0) (z 0))
     right false x y z = fun_ext (λ i. zero-sum)
 
     module _ (zero-on : on 0 ≡ true) (down : (d e : ℕ) → on (d + e) ≡ true → (on d ≡ true) × (on e ≡ true))
-        (signs : (d e : ℕ) → on (d + e) ≡ true → sign q (d * e) ≡ 1) (squares : (d : ℕ) → is_exterior q d ≡ true → on (d + d) ≡ false) where
-      assoc : (d e f : ℕ) (x y z : Vector q) → line-mul (d + e) f (line-mul d e x y) z ≡ line-mul d (e + f) x (line-mul e f y z)
+        (signs : (d e : ℕ) → on (d + e) ≡ true → sign q (d * e) ≡ 1) (squares : (d : ℕ)
+            → is_exterior q d ≡ true → on (d + d) ≡ false) where
+      assoc : (d e f : ℕ) (x y z : Vector q)
+          → line-mul (d + e) f (line-mul d e x y) z ≡ line-mul d (e + f) x (line-mul e f y z)
       assoc d e f x y z = go (cases_Bool (on (d + (e + f))))
         where
           same : (d + e) + f ≡ d + (e + f)
           same = omega arith
 
-          go : (on (d + (e + f)) ≡ true) ⊎ (on (d + (e + f)) ≡ false) → line-mul (d + e) f (line-mul d e x y) z ≡ line-mul d (e + f) x (line-mul e f y z)
+          go : (on (d + (e + f)) ≡ true) ⊎ (on (d + (e + f)) ≡ false)
+              → line-mul (d + e) f (line-mul d e x y) z ≡ line-mul d (e + f) x (line-mul e f y z)
           go (inl h) =
               let l = (down (d + e) f (ap on same ∙ h)).0 in
               let r = (down d (e + f) h).1 in
@@ -110,9 +125,12 @@ module _ (q : ℕ) where
           turn : e + d ≡ d + e
           turn = omega arith
 
-          go : (on (d + e) ≡ true) ⊎ (on (d + e) ≡ false) → line-mul d e x y ≡ times A (sign q (d * e)) (line-mul e d y x)
-          go (inl h) = rw (turn, h, signs d e h) (ap at-zero (by-comm (x 0) (y 0)) ∙ sym (vector-zero q line-mul (at-zero (by (y 0) (x 0)))))
-          go (inr h) = rw (turn, h) (sym (times-zero q (Vector q) A (vector-space q line-mul) (sign q (d * e))))
+          go : (on (d + e) ≡ true) ⊎ (on (d + e) ≡ false)
+              → line-mul d e x y ≡ times A (sign q (d * e)) (line-mul e d y x)
+          go (inl h) = rw (turn, h, signs d e h) (ap at-zero (by-comm (x 0) (y 0))
+              ∙ sym (vector-zero q line-mul (at-zero (by (y 0) (x 0)))))
+          go (inr h) = rw (turn, h)
+              (sym (times-zero q (Vector q) A (vector-space q line-mul) (sign q (d * e))))
 
       by-one-right : (d n : ℕ) (x : Vector q) → n ≡ d → In d x → product n x (unit q 0) ≡ x
       by-one-right d n x s h = go (cases_Bool (on d))
@@ -153,7 +171,8 @@ module _ (q : ℕ) where
 
 -- the polynomials in one variable of degree 1 over F_2
 pub polynomials : GradedAlgebra 1
-polynomials = line 1 (λ n. true) refl (λ d e h. (refl, refl)) (λ d e h. one (eqb ((d * e) % 2) 0)) (λ d h. absurd (false≢true h))
+polynomials = line 1 (λ n. true) refl (λ d e h. (refl, refl)) (λ d e h. one (eqb ((d * e) % 2) 0))
+    (λ d h. absurd (false≢true h))
   where
     one : (b : Bool) → (let s : ℕ = cond b 1 1 in s ≡ 1)
     one true = refl

@@ -25,7 +25,8 @@ degree-more (d ∷ ds) es [] h = refl
 degree-more (d ∷ ds) es (x ∷ m) h = omega (arith, degree-more ds es m h)
 
 -- a monomial stays one
-pub monomial-more : (q : ℕ) (ds es : List ℕ) (d : ℕ) (m : List ℕ) → IsMonomial q ds d m → IsMonomial q (ds ++ es) d m
+pub monomial-more : (q : ℕ) (ds es : List ℕ) (d : ℕ) (m : List ℕ) → IsMonomial q ds d m
+    → IsMonomial q (ds ++ es) d m
 monomial-more q ds es d m h = record {
   within = within-more ds es m h.within;
   trimmed = h.trimmed;
@@ -34,8 +35,10 @@ monomial-more q ds es d m h = record {
 }
 
 pub terms-more : (q : ℕ) (ds es : List ℕ) (d : ℕ) (f : List Term) → IsOver q ds d f → IsOver q (ds ++ es) d f
-terms-more q ds es d f h = each-map (λ t. IsMonomial q ds d t.monomial) (λ t. IsMonomial q (ds ++ es) d t.monomial) f (λ t k. monomial-more q ds es d t.monomial k) h
+terms-more q ds es d f h = each-map (λ t. IsMonomial q ds d t.monomial)
+    (λ t. IsMonomial q (ds ++ es) d t.monomial) f (λ t k. monomial-more q ds es d t.monomial k) h
 
 -- a stored polynomial stays one
-pub polynomial-more : (q : ℕ) (ds es : List ℕ) (d : ℕ) (f : List Term) → IsPolynomial q ds d f → IsPolynomial q (ds ++ es) d f
+pub polynomial-more : (q : ℕ) (ds es : List ℕ) (d : ℕ) (f : List Term) → IsPolynomial q ds d f
+    → IsPolynomial q (ds ++ es) d f
 polynomial-more q ds es d f h = record { over = terms-more q ds es d f h.over; coefficients = h.coefficients; descending = h.descending }

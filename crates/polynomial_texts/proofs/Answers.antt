@@ -3,6 +3,7 @@ use Rattle.std.proofs.Common.{◌≡◌, ◌≢◌, ℕ, ◌+◌, ◌<◌, ◌�
 use Rattle.std.specs.List.{AllByRecursion as Each}
 use Rattle.std.proofs.lemmas.Bool.{cases_order}
 use Rattle.std.proofs.lemmas.List.{take-append-drop, take-take}
+use Rattle.limits.specs.declared.TheConstants.{GREATEST_DEGREE}
 use Rattle.linear_algebra.proofs.Congruences.{congruent_trans, congruent_sym, congruent_eq}
 use Rattle.graded_polynomials.specs.Polynomials.{Term, Polynomial, coefficient}
 use Rattle.graded_polynomials.specs.Texts.{Factor, ReadTerm, read_value}
@@ -109,9 +110,9 @@ module _ (q : ℕ) (ds text : List ℕ) (l : q ≤ 6) (g : AreDegrees ds) where
       e = same-terms F.sum H.sum F.terms H.terms F.stands_for H.stands_for
 
   read-low : (f : Polynomial) (d : ℕ) → IsReading q ds text f → IsTooHigh q ds text d → ⊥
-  read-low f d F H = none-first (λ e. 24 < e) d (map (term_degree ds) F.terms)
-      (each-mapped (term_degree ds) (λ r. term_degree ds r ≡ f.degree) (λ e. 24 < e → ⊥) F.terms (λ r k l. omega (arith, k, F.small)) F.degrees)
-      (subst (λ rs. IsFirst (λ e. 24 < e) d (map (term_degree ds) rs)) (same-terms H.sum F.sum H.terms F.terms H.stands_for F.stands_for) H.first)
+  read-low f d F H = none-first (λ e. GREATEST_DEGREE < e) d (map (term_degree ds) F.terms)
+      (each-mapped (term_degree ds) (λ r. term_degree ds r ≡ f.degree) (λ e. GREATEST_DEGREE < e → ⊥) F.terms (λ r k l. omega (arith, k, F.small)) F.degrees)
+      (subst (λ rs. IsFirst (λ e. GREATEST_DEGREE < e) d (map (term_degree ds) rs)) (same-terms H.sum F.sum H.terms F.terms H.stands_for F.stands_for) H.first)
 
   mixed-not : (d e c : ℕ) (rs others : List ReadTerm) (leading : ReadTerm) → leading ∷ others ≡ rs → Each (λ r. term_degree ds r ≡ c) rs
       → term_degree ds leading ≡ d → IsFirst (λ k. k ≢ d) e (map (term_degree ds) others) → ⊥
@@ -127,14 +128,14 @@ module _ (q : ℕ) (ds text : List ℕ) (l : q ≤ 6) (g : AreDegrees ds) where
       (same-terms M.sum F.sum (M.leading ∷ M.others) F.terms M.stands_for F.stands_for) F.degrees M.degree_is M.first
 
   high-one : (d e : ℕ) → IsTooHigh q ds text d → IsTooHigh q ds text e → d ≡ e
-  high-one d e H K = first-unique (λ e. 24 < e) d e (map (term_degree ds) K.terms)
-      (subst (λ rs. IsFirst (λ e. 24 < e) d (map (term_degree ds) rs)) (same-terms H.sum K.sum H.terms K.terms H.stands_for K.stands_for)
+  high-one d e H K = first-unique (λ e. GREATEST_DEGREE < e) d e (map (term_degree ds) K.terms)
+      (subst (λ rs. IsFirst (λ e. GREATEST_DEGREE < e) d (map (term_degree ds) rs)) (same-terms H.sum K.sum H.terms K.terms H.stands_for K.stands_for)
       H.first) K.first
 
   high-mixed : (c d e : ℕ) → IsTooHigh q ds text c → IsMixed q ds text d e → ⊥
-  high-mixed c d e H M = none-first (λ e. 24 < e) c (map (term_degree ds) (M.leading ∷ M.others))
-      (each-mapped (term_degree ds) (λ r. term_degree ds r ≤ 24) (λ e. 24 < e → ⊥) (M.leading ∷ M.others) (λ r k l. omega arith) M.small)
-      (subst (λ rs. IsFirst (λ e. 24 < e) c (map (term_degree ds) rs))
+  high-mixed c d e H M = none-first (λ e. GREATEST_DEGREE < e) c (map (term_degree ds) (M.leading ∷ M.others))
+      (each-mapped (term_degree ds) (λ r. term_degree ds r ≤ GREATEST_DEGREE) (λ e. GREATEST_DEGREE < e → ⊥) (M.leading ∷ M.others) (λ r k l. omega arith) M.small)
+      (subst (λ rs. IsFirst (λ e. GREATEST_DEGREE < e) c (map (term_degree ds) rs))
       (same-terms H.sum M.sum H.terms (M.leading ∷ M.others) H.stands_for M.stands_for) H.first)
 
   mixed-one : (d e c b : ℕ) → IsMixed q ds text d e → IsMixed q ds text c b → mixed d e ≡ mixed c b

@@ -5,6 +5,7 @@ use Rattle.std.specs.List.{AllByRecursion as Each}
 use Rattle.std.proofs.lemmas.Bool.{false≢true}
 use Rattle.std.proofs.lemmas.Bool.Decides.{nat_tests}
 use Rattle.std.proofs.lemmas.Fmt.{decimal_by_steps}
+use Rattle.limits.specs.declared.TheConstants.{GREATEST_DEGREE}
 use Rattle.graded_polynomials.specs.Texts.{joined_by, star, plus_sign}
 use Rattle.polynomial_texts.specs.Grammar.{NamedFactor, NamedTerm, IsName, IsFactor, IsTerm, is_letter, is_digit, is_name_byte, caret, exponent_text, factor_text, numeral_pieces, term_bytes}
 
@@ -80,7 +81,7 @@ joined-without s t [] n h = tt
 joined-without s t (p ∷ []) n h = h.0
 joined-without s t (p ∷ r ∷ ps) n h = each-append (λ b. b ≢ s) p (t ∷ joined_by t (r ∷ ps)) h.0 (n, joined-without s t (r ∷ ps) n h.1)
 
-pub exponent-small : (e : ℕ) → e ≤ 24 → e < 2 ^ 64
+pub exponent-small : (e : ℕ) → e ≤ GREATEST_DEGREE → e < 2 ^ 64
 exponent-small e l = omega arith
 
 -- the bytes of a factor are those of names, and ^
@@ -88,7 +89,7 @@ pub factor-without : (s : ℕ) (f : NamedFactor) → is_name_byte s ≡ false �
 factor-without s f n d c h = each-append (λ b. b ≢ s) f.name (exponent_text f.exponent)
     (name-bytes-without s f.name n (name-bytes f.name h.name)) (exponent f.exponent h.exponent)
   where
-    exponent : (e : Option ℕ) → Rattle.std.specs.Prelude.IfSome e (λ e. (1 ≤ e) × (e ≤ 24)) → Without s (exponent_text e)
+    exponent : (e : Option ℕ) → Rattle.std.specs.Prelude.IfSome e (λ e. (1 ≤ e) × (e ≤ GREATEST_DEGREE)) → Without s (exponent_text e)
     exponent None k = tt
     exponent (Some e) k = (c, digits-without s (decimal e) d (decimal-digits e (exponent-small e k.1)))
 

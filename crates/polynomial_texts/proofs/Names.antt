@@ -7,6 +7,7 @@ use Rattle.std.proofs.lemmas.Fmt.{decimal_injective}
 use Rattle.std.proofs.lemmas.List.Sums.{count_by-le-length, sum_by-cons}
 use Rattle.std.proofs.lemmas.List.Elements.{recursion_from_All}
 use Rattle.std.proofs.Common.{length-take}
+use Rattle.limits.specs.declared.TheConstants.{GREATEST_DEGREE}
 use Rattle.graded_polynomials.specs.Texts.{Factor, ReadTerm, joined_by, name, ordinal}
 use Rattle.graded_polynomials.proofs.Terms.{eqb-self}
 use Rattle.graded_polynomials.proofs.TextLemmas.{joined-unique}
@@ -14,13 +15,13 @@ use Rattle.polynomial_texts.specs.Grammar.{NamedFactor, NamedTerm, Sum, zero_tex
 use Rattle.polynomial_texts.specs.Readings.{AreDegrees, NamesEach, NamesTerms, NamesSum}
 use Rattle.polynomial_texts.proofs.Bytes.{Without, each-append, digits-name-bytes, decimal-digits, digits-without}
 
-degree-small : (ds : List ℕ) (i : ℕ) → Each (λ d. (1 ≤ d) × (d ≤ 24)) ds → get_or ds i 0 < 2 ^ 64
+degree-small : (ds : List ℕ) (i : ℕ) → Each (λ d. (1 ≤ d) × (d ≤ GREATEST_DEGREE)) ds → get_or ds i 0 < 2 ^ 64
 degree-small [] i h = omega arith
-degree-small (d ∷ ds) zero h = let l : d ≤ 24 = h.0.1 in omega arith
+degree-small (d ∷ ds) zero h = let l : d ≤ GREATEST_DEGREE = h.0.1 in omega arith
 degree-small (d ∷ ds) (suc i) h = degree-small ds i h.1
 
-pub degrees-each : (ds : List ℕ) → AreDegrees ds → Each (λ d. (1 ≤ d) × (d ≤ 24)) ds
-degrees-each ds h = recursion_from_All (λ (d : ℕ). (1 ≤ d) × (d ≤ 24)) ds h.range
+pub degrees-each : (ds : List ℕ) → AreDegrees ds → Each (λ d. (1 ≤ d) × (d ≤ GREATEST_DEGREE)) ds
+degrees-each ds h = recursion_from_All (λ (d : ℕ). (1 ≤ d) × (d ≤ GREATEST_DEGREE)) ds h.range
 
 pub degree-fits : (ds : List ℕ) (i : ℕ) → AreDegrees ds → get_or ds i 0 < 2 ^ 64
 degree-fits ds i h = degree-small ds i (degrees-each ds h)

@@ -4,13 +4,14 @@ use Rattle.std.specs.Prelude.{decimal, IfSome}
 use Rattle.std.specs.List.{AllByRecursion as Each}
 use Rattle.std.proofs.lemmas.List.{append-nil}
 use Rattle.std.proofs.lemmas.Fmt.{decimal_injective}
+use Rattle.limits.specs.declared.TheConstants.{GREATEST_DEGREE}
 use Rattle.graded_polynomials.specs.Texts.{joined_by, star, plus_sign}
 use Rattle.graded_polynomials.proofs.TextLemmas.{joined-unique}
 use Rattle.polynomial_texts.specs.Grammar.{NamedFactor, NamedTerm, Sum, zero_text, one_text, terms, IsName, IsFactor, IsTerm, IsSum, IsTextOf, is_digit, caret, exponent_text, factor_text, numeral_pieces, term_bytes, sum_bytes}
 use Rattle.polynomial_texts.proofs.Bytes.{each-mapped, AreDigits, Without, decimal-digits, digits-without, name-bytes-without, name-bytes, letter-no-digit, exponent-small, term_pieces, pieces-without, term-without}
 
 abbrev pub IsExponent : Option ℕ → Type 0
-IsExponent e = IfSome e (λ e. (1 ≤ e) × (e ≤ 24))
+IsExponent e = IfSome e (λ e. (1 ≤ e) × (e ≤ GREATEST_DEGREE))
 
 abbrev IsNumeral : ℕ → Option ℕ → Type 0
 IsNumeral q c = IfSome c (λ c. (1 ≤ c) × (c ≤ q))

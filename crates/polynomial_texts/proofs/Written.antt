@@ -5,6 +5,7 @@ use Rattle.std.specs.List.{AllByRecursion as Each}
 use Rattle.std.proofs.lemmas.List.{append-nil}
 use Rattle.std.proofs.Math.Seq.{drop-cons}
 use Rattle.std.proofs.lemmas.Bool.{cases_Bool}
+use Rattle.limits.specs.declared.TheConstants.{GREATEST_DEGREE}
 use Rattle.graded_polynomials.proofs.Terms.{eqb-true}
 use Rattle.linear_algebra.proofs.Congruences.{congruent_eq}
 use Rattle.graded_polynomials.specs.Monomials.{degree, IsTrimmed, IsWithin, IsMonomial}
@@ -78,7 +79,7 @@ text-written q ds d [] l n h = absurd (n refl)
 text-written q ds d (t ∷ f) l n h = ap (joined_by plus_sign) (terms-written q ds d (t ∷ f) l h)
 
 -- exponents are at most the degree
-exponents-small : (ds m : List ℕ) → Each (λ d. (1 ≤ d) × (d ≤ 24)) ds → IsWithin ds m → degree ds m ≤ 24 → Each (λ e. e ≤ 24) m
+exponents-small : (ds m : List ℕ) → Each (λ d. (1 ≤ d) × (d ≤ GREATEST_DEGREE)) ds → IsWithin ds m → degree ds m ≤ GREATEST_DEGREE → Each (λ e. e ≤ GREATEST_DEGREE) m
 exponents-small ds [] h w l = tt
 exponents-small [] (e ∷ m) h w l = absurd w
 exponents-small (d ∷ ds) (e ∷ m) h w l = (omega (arith, at-most), exponents-small ds m h.1 w (omega arith))
@@ -86,7 +87,7 @@ exponents-small (d ∷ ds) (e ∷ m) h w l = (omega (arith, at-most), exponents-
     at-most : e ≤ d * e
     at-most = grind (arith, h.0.0)
 
-unless-one-small : (e : ℕ) (b : Bool) → 1 ≤ e → e ≤ 24 → IfSome (cond b None (Some e)) (λ e. (1 ≤ e) × (e ≤ 24))
+unless-one-small : (e : ℕ) (b : Bool) → 1 ≤ e → e ≤ GREATEST_DEGREE → IfSome (cond b None (Some e)) (λ e. (1 ≤ e) × (e ≤ GREATEST_DEGREE))
 unless-one-small e true a b = tt
 unless-one-small e false a b = (a, b)
 
@@ -94,7 +95,7 @@ unless-one-below : (q e : ℕ) (b : Bool) → 1 ≤ e → e ≤ q → IfSome (co
 unless-one-below q e true a b = tt
 unless-one-below q e false a b = (a, b)
 
-factors-formed : (ds : List ℕ) (i : ℕ) (m : List ℕ) → AreDegrees ds → Each (λ e. e ≤ 24) m → Each IsFactor (named_factors ds i m)
+factors-formed : (ds : List ℕ) (i : ℕ) (m : List ℕ) → AreDegrees ds → Each (λ e. e ≤ GREATEST_DEGREE) m → Each IsFactor (named_factors ds i m)
 factors-formed ds i [] g h = tt
 factors-formed ds i (zero ∷ m) g h = factors-formed ds (suc i) m g h.1
 factors-formed ds i (suc e ∷ m) g h =
@@ -104,7 +105,7 @@ factors-formed ds i (suc e ∷ m) g h =
 named-some : (ds : List ℕ) (i : ℕ) (m : List ℕ) → factor_texts ds i m ≢ [] → named_factors ds i m ≢ []
 named-some ds i m n e = n (sym (factors-written ds i m) ∙ ap (map factor_text) e)
 
-term-formed : (q : ℕ) (ds : List ℕ) (d : ℕ) (t : Term) → AreDegrees ds → 1 ≤ d → d ≤ 24 → (0 < t.scalar) × (t.scalar ≤ q)
+term-formed : (q : ℕ) (ds : List ℕ) (d : ℕ) (t : Term) → AreDegrees ds → 1 ≤ d → d ≤ GREATEST_DEGREE → (0 < t.scalar) × (t.scalar ≤ q)
     → IsMonomial q ds d t.monomial → IsTerm q (named_term ds t)
 term-formed q ds d t g l k c h = record {
   numeral = unless-one-below q t.scalar (eqb t.scalar 1) (omega (arith, c.0)) c.1;
@@ -112,7 +113,7 @@ term-formed q ds d t g l k c h = record {
   each = factors-formed ds 0 t.monomial g (exponents-small ds t.monomial (degrees-each ds g) h.within (omega (arith, h.degree_is)));
 }
 
-terms-formed : (q : ℕ) (ds : List ℕ) (d : ℕ) (f : List Term) → AreDegrees ds → 1 ≤ d → d ≤ 24
+terms-formed : (q : ℕ) (ds : List ℕ) (d : ℕ) (f : List Term) → AreDegrees ds → 1 ≤ d → d ≤ GREATEST_DEGREE
     → Each (λ t. (0 < t.scalar) × (t.scalar ≤ q)) f → IsOver q ds d f → Each (IsTerm q) (map (named_term ds) f)
 terms-formed q ds d [] g l k c h = tt
 terms-formed q ds d (t ∷ f) g l k c h = (term-formed q ds d t g l k c.0 h.0, terms-formed q ds d f g l k c.1 h.1)
@@ -174,7 +175,7 @@ written-some : (f : List Term) → f ≢ [] → written f ≢ []
 written-some [] n = absurd (n refl)
 written-some (t ∷ f) n = λ e. cc
 
-pub text-reads-back : (q : ℕ) (ds : List ℕ) (f : Polynomial) → AreDegrees ds → f.terms ≢ [] → 1 ≤ f.degree → f.degree ≤ 24
+pub text-reads-back : (q : ℕ) (ds : List ℕ) (f : Polynomial) → AreDegrees ds → f.terms ≢ [] → 1 ≤ f.degree → f.degree ≤ GREATEST_DEGREE
     → IsPolynomial q ds f.degree f.terms → IsReading q ds (polynomial_text ds f.terms) f
 text-reads-back q ds f g n l k h = record {
   sum = terms (map (named_term ds) f.terms);

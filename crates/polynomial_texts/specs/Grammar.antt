@@ -1,6 +1,7 @@
 -- The texts of polynomials for the prime p = q + 1: a text is 0, 1, or terms joined by +.
 use Rattle.std.specs.Prelude.{◌≡◌, ◌≢◌, ℕ, ◌+◌, ◌≤◌, ◌<◌, Bool, true, ◌&&◌, ◌||◌, eqb, leb, List, [], ◌∷◌, ◌++◌, map, length, take, Option, None, Some, IfSome, decimal, codes}
 use Rattle.std.specs.List.{AllByRecursion as Each}
+use Rattle.limits.specs.declared.TheConstants.{GREATEST_DEGREE}
 use Rattle.graded_polynomials.specs.Texts.{joined_by, star, plus_sign}
 
 -- a factor as it stands: a name, and the exponent where one is written
@@ -33,10 +34,10 @@ abbrev pub IsName : List ℕ → Type 0
 IsName [] = ⊥
 IsName (b ∷ bs) = (is_letter b ≡ true) × Each (λ c. is_name_byte c ≡ true) bs
 
--- the exponent is from 1 to 24
+-- the exponent is from 1 to the greatest degree
 pub record IsFactor (f : NamedFactor) : Type 0 where
   pub name : IsName f.name
-  pub exponent : IfSome f.exponent (λ e. (1 ≤ e) × (e ≤ 24))
+  pub exponent : IfSome f.exponent (λ e. (1 ≤ e) × (e ≤ GREATEST_DEGREE))
 
 -- the numeral is from 1 to p - 1, and there is a factor
 pub record IsTerm (q : ℕ) (t : NamedTerm) : Type 0 where

@@ -1,13 +1,14 @@
 -- What a text is read as, for the prime p = q + 1 and generators with the degrees ds: a polynomial, or its first fault.
 use Rattle.std.specs.Prelude.{◌≡◌, ◌≢◌, ℕ, ◌+◌, ◌*◌, ◌≤◌, ◌<◌, ◌⊎◌, List, [], ◌∷◌, map, length, get_or, All, Option, None, Some}
 use Rattle.std.specs.List.{AllByRecursion as Each, AllZip}
+use Rattle.limits.specs.declared.TheConstants.{GREATEST_DEGREE}
 use Rattle.graded_polynomials.specs.Polynomials.{Polynomial, IsPolynomial, IsSame}
 use Rattle.graded_polynomials.specs.Texts.{Factor, ReadTerm, name, read_value}
 use Rattle.polynomial_texts.specs.Grammar.{NamedFactor, NamedTerm, Sum, zero_text, one_text, terms, IsTextOf, Stops, placed_names}
 
--- degrees of generators, from 1 to 24
+-- degrees of generators, from 1 to the greatest
 pub record AreDegrees (ds : List ℕ) : Type 0 where
-  pub range : All (λ d. (1 ≤ d) × (d ≤ 24)) ds
+  pub range : All (λ d. (1 ≤ d) × (d ≤ GREATEST_DEGREE)) ds
   pub few : length ds ≤ 4294967295
 
 -- no generator has this name
@@ -60,13 +61,13 @@ pub record StandsFor (q : ℕ) (ds text : List ℕ) (s : Sum) (rs : List ReadTer
   pub text_of : IsTextOf q s text
   pub names : NamesSum ds s rs
 
--- the text is read as f: its terms have the degree of f, at most 24, and f is their sum
+-- the text is read as f: its terms have the degree of f, at most the greatest, and f is their sum
 pub record IsReading (q : ℕ) (ds text : List ℕ) (f : Polynomial) : Type 0 where
   pub sum : Sum
   pub terms : List ReadTerm
   pub stands_for : StandsFor q ds text sum terms
   pub degrees : Each (λ r. term_degree ds r ≡ f.degree) terms
-  pub small : f.degree ≤ 24
+  pub small : f.degree ≤ GREATEST_DEGREE
   pub zero_degree : terms ≡ [] → f.degree ≡ 0
   pub polynomial : IsPolynomial q ds f.degree f.terms
   pub value : IsSame q f.terms (read_value q ds terms)
@@ -78,12 +79,12 @@ pub record HasUnknownName (q : ℕ) (ds text : List ℕ) (column : ℕ) : Type 0
   pub name : List ℕ
   pub first : IsFirst (λ n. IsUnknown ds n.name) (record { column = column; name = name }) (placed_names sum)
 
--- the first term of a degree above 24 has degree d
+-- the first term of a degree above the greatest has degree d
 pub record IsTooHigh (q : ℕ) (ds text : List ℕ) (d : ℕ) : Type 0 where
   pub sum : Sum
   pub terms : List ReadTerm
   pub stands_for : StandsFor q ds text sum terms
-  pub first : IsFirst (λ e. 24 < e) d (map (term_degree ds) terms)
+  pub first : IsFirst (λ e. GREATEST_DEGREE < e) d (map (term_degree ds) terms)
 
 -- the first term has degree d, and the first degree that differs from it is e
 pub record IsMixed (q : ℕ) (ds text : List ℕ) (d e : ℕ) : Type 0 where
@@ -91,7 +92,7 @@ pub record IsMixed (q : ℕ) (ds text : List ℕ) (d e : ℕ) : Type 0 where
   pub leading : ReadTerm
   pub others : List ReadTerm
   pub stands_for : StandsFor q ds text sum (leading ∷ others)
-  pub small : Each (λ r. term_degree ds r ≤ 24) (leading ∷ others)
+  pub small : Each (λ r. term_degree ds r ≤ GREATEST_DEGREE) (leading ∷ others)
   pub degree_is : term_degree ds leading ≡ d
   pub first : IsFirst (λ k. k ≢ d) e (map (term_degree ds) others)
 

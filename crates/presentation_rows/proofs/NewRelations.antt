@@ -17,7 +17,8 @@ use Rattle.presentation_rows.specs.Values.{AreValues}
 use Rattle.presentation_rows.specs.Pivots.{new_relations}
 use Rattle.presentation_rows.proofs.RowTerms.{monomials-apart, coefficient-at, polynomial-of-row, over-row}
 use Rattle.presentation_rows.proofs.KernelLeads.{row-relation, relation-pivots, standard-pivots}
-use Rattle.presentation_rows.proofs.PivotTests.{pivot-if-found, none-if-not-found}
+use Rattle.linear_algebra.proofs.PivotTests.{pivot-if-found}
+use Rattle.presentation_rows.proofs.PivotTests.{none-if-not-found}
 
 module _ (q d : ℕ) (mul : ℕ → ℕ → Vector q → Vector q → Vector q) (gs : List (Generator (Vector q))) (rs : List Polynomial)
     (ms values kernel multiples : List (List ℕ))

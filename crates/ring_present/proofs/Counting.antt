@@ -2,6 +2,7 @@
 use Rattle.std.proofs.Common.{◌≡◌, ℕ, suc, ◌-◌, ◌<◌, List, length, arith, sym}
 use Rattle.std.specs.Prelude.{min, All}
 use mathlib.Core.Path.{subst}
+use Rattle.limits.specs.declared.TheConstants.{GREATEST_COUNT}
 use Rattle.p_groups.specs.PGroups.{PGroup, largest_residue}
 use Rattle.graded_polynomials.specs.Monomials.{IsMonomials}
 use Rattle.graded_algebra.specs.Algebras.{degrees}
@@ -17,7 +18,7 @@ use Rattle.ring_present.proofs.Nexts.{monomials-of-gens}
 
 -- what a count of the monomials of degree d says
 abbrev pub IsCount : Generators → ℕ → ℕ → Type 0
-IsCount gens d count = (ms : List (List ℕ)) → IsMonomials (greatest gens) gens.degrees d ms → count ≡ min (length ms) 18446744073709551615
+IsCount gens d count = (ms : List (List ℕ)) → IsMonomials (greatest gens) gens.degrees d ms → count ≡ min (length ms) GREATEST_COUNT
 
 pub too-many : (G : PGroup) (n m d cap count : ℕ) (lifts : List LiftValue) (gens : Generators) → d ≡ suc n → IsSpanGenerators (largest_residue G) (cohomology G) (dual_basis G) n (classes G lifts)
     → All (IsLiftBelow G m) lifts → gens ≡ record { prime = G.table.p; degrees = degrees_of lifts } → IsCount gens d count → cap < count → IsTooMany G (suc n) cap count

@@ -9,9 +9,10 @@ pub mod Stores
 pub mod StandardMonomials
 pub mod Shown
 pub mod Counting
-pub mod PivotSearch
 pub mod StandardPlaces
-pub mod CombinationSteps
+pub mod Ranks
+pub mod Places
+pub mod KnownRings
 pub mod RelationSteps
 pub mod RowSteps
 pub mod MultipleSteps

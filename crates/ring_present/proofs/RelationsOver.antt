@@ -11,7 +11,7 @@ use Rattle.ring_present.specs.Rings.{cohomology, IsPresentation}
 use Rattle.ring_present.specs.Values.{GeneratorValue, generators_of}
 use Rattle.ring_present.proofs.Kept.{relations-stored}
 
-degrees-are : (q : ℕ) (gs : List GeneratorValue) → degrees (generators_of q gs) ≡ map (λ g. g.degree) gs
+pub degrees-are : (q : ℕ) (gs : List GeneratorValue) → degrees (generators_of q gs) ≡ map (λ g. g.degree) gs
 degrees-are q [] = refl
 degrees-are q (g ∷ gs) = ap (λ ds. g.degree ∷ ds) (degrees-are q gs)
 

@@ -4,7 +4,9 @@ use Rattle.std.specs.Prelude.{slice_index_or, Option, Some, None}
 use mathlib.Core.Path.{subst}
 use Rattle.p_groups.specs.PGroups.{PGroup, largest_residue}
 use Rattle.p_groups.proofs.Fields.{field, residues}
-use Rattle.linear_algebra.specs.Rows.{entry, row, IsRow, IsCombination}
+use Rattle.linear_algebra.specs.Rows.{entry, row, combination_row, IsRow, IsMatrix, IsCombination}
+use Rattle.linear_algebra.proofs.CombinationRows.{combination_row-is_row, combination_row-each}
+use Rattle.linear_algebra.proofs.Congruences.{congruent_sym}
 use Rattle.graded_polynomials.specs.Monomials.{IsMonomials}
 use Rattle.graded_polynomials.specs.Polynomials.{Polynomial}
 use Rattle.graded_algebra.specs.Algebras.{degrees, evaluate}
@@ -130,8 +132,24 @@ module _ (R : RingValue) (group : Option PGroup) (gens : Generators) (lifts : Li
     pub targets-seen : length at.preimages.rows ≡ rank_of G d
     targets-seen = degree.preimages.count ∙ degree.basis_is.count ∙ ap (rank_of G) (sym step)
 
-    pub width-of-forms : at.preimages.width ≡ length at.all.monomials
-    width-of-forms = degree.preimages_width
+    forms-matrix : IsMatrix at.preimages.p at.preimages.width at.preimages.rows
+    forms-matrix i l =
+        subst (λ p. IsRow p at.preimages.width (row at.preimages.rows i)) (sym degree.preimages_prime)
+        (subst (λ n. IsRow (suc q) n (row at.preimages.rows i)) (degree.all.values.count ∙ sym degree.preimages_width)
+        (degree.preimages.each i (let n = degree.preimages.count in omega (arith, n, l))).is_row)
+
+    some-prime : 0 < at.preimages.p
+    some-prime = let e = degree.preimages_prime in omega (arith, e)
+
+    -- a combination of the rows of normal forms
+    abbrev combined : List ℕ → List ℕ
+    combined w = combination_row at.preimages.p at.preimages.width (entry w) at.preimages.rows
+
+    combined-row : (w : List ℕ) → IsRow at.preimages.p at.preimages.width (combined w)
+    combined-row w = combination_row-is_row at.preimages.p at.preimages.width some-prime (entry w) at.preimages.rows forms-matrix
+
+    pub width-of-forms : (w u : List ℕ) → u ≡ combined w → length u ≡ length at.all.monomials
+    width-of-forms w u e = ap length e ∙ (combined-row w).length_is ∙ degree.preimages_width
 
     pub monomials-seen : IsMonomials (greatest gens) gens.degrees d at.all.monomials
     monomials-seen =
@@ -139,10 +157,12 @@ module _ (R : RingValue) (group : Option PGroup) (gens : Generators) (lifts : Li
         (subst (λ ds. IsMonomials q ds d at.all.monomials) (degrees-are G lifts ∙ sym S.degrees_of_gens)
         (subst (λ k. IsMonomials q (degrees (classes G lifts)) k at.all.monomials) (sym step) degree.all.monomials))
 
-    pub form-seen : (w u : List ℕ) → IsRow at.preimages.p (rank_of G d) w → IsRow at.preimages.p at.preimages.width u
-        → IsCombination at.preimages.p (entry w) at.preimages.rows (entry u)
+    pub form-seen : (w u : List ℕ) → IsRow at.preimages.p (rank_of G d) w → u ≡ combined w
         → IsNormalForm q (cohomology G) (generators_of q R.generators) d (vector q w) (polynomial_of at.all.monomials u)
-    form-seen w u W U C =
+    form-seen w u W e =
+        let U : IsRow at.preimages.p at.preimages.width u = subst (IsRow at.preimages.p at.preimages.width) (sym e) (combined-row w) in
+        let C : IsCombination at.preimages.p (entry w) at.preimages.rows (entry u) = subst (λ u. IsCombination at.preimages.p (entry w) at.preimages.rows (entry u)) (sym e)
+        (record { each = λ j. congruent_sym (combination_row-each at.preimages.p at.preimages.width some-prime (entry w) at.preimages.rows forms-matrix j) }) in
         subst (λ k. IsNormalForm q (cohomology G) (generators_of q R.generators) k (vector q w) (polynomial_of at.all.monomials u)) (sym step)
         (subst (λ gs. IsNormalForm q (cohomology G) gs (suc (d - 1)) (vector q w) (polynomial_of at.all.monomials u)) classes-are
         (normal-form-of q (suc (d - 1)) (multiply G) (classes G lifts) at.all.monomials at.all.values.rows degree.kernel (field G).above_one degree.all.monomials degree.all.values degree.kernel_is w u

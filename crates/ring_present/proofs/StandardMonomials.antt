@@ -10,7 +10,8 @@ use Rattle.graded_algebra.specs.Presentations.{IsStandard}
 use Rattle.graded_algebra.specs.Vectors.{Vector, vectors}
 use Rattle.presentation_rows.specs.Values.{vector, AreValues}
 use Rattle.linear_algebra.specs.Rows.{IsPivot, is_pivot}
-use Rattle.presentation_rows.proofs.PivotTests.{none-if-not-found, pivot-if-found}
+use Rattle.linear_algebra.proofs.PivotTests.{pivot-if-found}
+use Rattle.presentation_rows.proofs.PivotTests.{none-if-not-found}
 use Rattle.presentation_rows.proofs.KernelLeads.{standard-pivots}
 use Rattle.ring_present.specs.Standard.{AreStandard, without_pivots}
 

@@ -1,10 +1,11 @@
 -- What is kept of a ring depends on the lifts but for their heights, and grows by a degree.
-use Rattle.std.proofs.Common.{◌≡◌, ℕ, suc, ◌<◌, ◌≤◌, ◌⊎◌, inl, inr, List, [], ◌∷◌, ◌++◌, length, map, arith, ap, sym, ◌∙◌, refl}
+use Rattle.std.proofs.Common.{◌≡◌, ℕ, suc, ◌*◌, ◌^◌, ◌<◌, ◌≤◌, ◌⊎◌, inl, inr, List, [], ◌∷◌, ◌++◌, length, length-append, map, arith, ap, sym, ◌∙◌, refl}
 use Rattle.std.specs.Prelude.{slice_index_or, Option, Some, None, IfSome, Result, Ok, Err, OnOk, OnErr}
 use Rattle.std.proofs.lemmas.Bool.{cases_lt}
 use Rattle.std.proofs.lemmas.List.{get_or_append_left, get_or_push, length_push}
 use Rattle.std.proofs.lemmas.List.Elements.{All-append, All-weaker}
 use mathlib.Core.Path.{subst}
+use Rattle.limits.specs.declared.TheConstants.{GREATEST_DEGREE}
 use Rattle.p_groups.specs.PGroups.{PGroup, largest_residue}
 use Rattle.graded_polynomials.specs.Monomials.{IsMonomials}
 use Rattle.graded_polynomials.specs.Polynomials.{Polynomial}
@@ -75,6 +76,7 @@ below-kept G n x y e b = record {
 
 pub lower-kept : (G : PGroup) (xs ys : List LiftValue) (Ds : List Degree) → map kept xs ≡ map kept ys → IsLower G ys Ds → IsLower G xs Ds
 lower-kept G xs ys Ds e L = record {
+  few = (let n = length-kept xs ys e in let f = L.few in omega (arith, n, f));
   lifts_are = λ k d l. below-kept G (length Ds) (slice_index_or xs k d) (slice_index_or ys k d) (kept-at xs ys e k d d l)
       (L.lifts_are k d (let n = length-kept xs ys e in omega (arith, n, l)));
   degrees_are = record {
@@ -118,6 +120,7 @@ before-of None gens lifts rs Ds H s S =
     (subst (λ rs. IsBefore H [] rs Ds) (sym S.through.no_relations)
     (subst (λ Ds. IsBefore H [] [] Ds) (sym S.through.no_degrees) (record {
       lower = record {
+        few = omega arith;
         lifts_are = λ k d l. absurd (omega (arith, l));
         degrees_are = record { count = refl; each = λ j D l. absurd (omega (arith, l)) };
       };
@@ -126,7 +129,7 @@ before-of None gens lifts rs Ds H s S =
 before-of (Some G) gens lifts rs Ds H s S = subst (λ K. IsBefore K lifts rs Ds) s (record { lower = S.through.lower; presentation = S.through.presentation })
 
 -- the ring with the next degree
-pub ring-next : (G : PGroup) (gens : Generators) (lifts all : List LiftValue) (rs total : List Polynomial) (Ds grown : List Degree) (x : Next) → IsBefore G lifts rs Ds → length Ds < 24
+pub ring-next : (G : PGroup) (gens : Generators) (lifts all : List LiftValue) (rs total : List Polynomial) (Ds grown : List Degree) (x : Next) → IsBefore G lifts rs Ds → length Ds < GREATEST_DEGREE
     → IsNext G lifts rs (length Ds) x → gens ≡ x.gens → all ≡ lifts ++ x.lifts.items → total ≡ rs ++ x.relations.items → grown ≡ Ds ++ x.degree ∷ [] → IsRingOf G gens all total grown
 ring-next G gens lifts all rs total Ds grown x B s N eg el er ed =
     subst (λ gs. IsRingOf G gs all total grown) (sym eg)
@@ -158,6 +161,7 @@ ring-next G gens lifts all rs total Ds grown x B s N eg el er ed =
       prime = ap (λ (g : Generators). g.prime) N.gens_are;
       presentation = subst (λ n. IsPresentation G n (classes G (lifts ++ x.lifts.items)) (rs ++ x.relations.items)) (sym count) N.presentation;
       lower = record {
+        few = (let a = length-append lifts x.lifts.items in let b = B.lower.few in let n = N.few in omega (arith, a, b, n, count));
         lifts_are = All-append (IsLiftBelow G (length (Ds ++ x.degree ∷ []))) lifts x.lifts.items
             (All-weaker (IsLiftBelow G (length Ds)) (IsLiftBelow G (length (Ds ++ x.degree ∷ []))) old-lift lifts B.lower.lifts_are)
             (All-weaker (IsLiftOf G (suc (length Ds))) (IsLiftBelow G (length (Ds ++ x.degree ∷ []))) new-lift x.lifts.items N.lifts_are);

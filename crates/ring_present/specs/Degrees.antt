@@ -1,5 +1,5 @@
 -- What a ring keeps of its generators and of each degree.
-use Rattle.std.specs.Prelude.{◌≡◌, ℕ, suc, ◌<◌, ◌≤◌, List, All, map, length, slice_index_or}
+use Rattle.std.specs.Prelude.{◌≡◌, ℕ, suc, ◌*◌, ◌^◌, ◌<◌, ◌≤◌, List, All, map, length, slice_index_or}
 use Rattle.linear_algebra.specs.Kernels.{IsKernelOf}
 use Rattle.linear_algebra.specs.Choices.{ArePreimages}
 use Rattle.p_groups.specs.PGroups.{PGroup, largest_residue}
@@ -68,7 +68,8 @@ module _ (G : PGroup) where
     pub count : length Ds ≡ n
     pub each : (e : ℕ) (D : Degree) → e < n → IsDegree (suc e) lifts (slice_index_or Ds e D)
 
--- the lifts of the generators of degrees 1 to n, and these degrees, where n is their number
+-- the lifts of the generators of degrees 1 to n, and these degrees, where n is their number; a degree has at most 2^27 generators
 pub record IsLower (G : PGroup) (lifts : List LiftValue) (Ds : List Degree) : Type 0 where
+  pub few : length lifts ≤ length Ds * 2 ^ 27
   pub lifts_are : All (IsLiftBelow G (length Ds)) lifts
   pub degrees_are : AreDegrees G (length Ds) lifts Ds

@@ -7,3 +7,4 @@ pub mod Degrees
 pub mod Multiples
 pub mod Nexts
 pub mod Stores
+pub mod Known

@@ -1,5 +1,5 @@
 -- What the next degree adds to a ring.
-use Rattle.std.specs.Prelude.{◌≡◌, ℕ, suc, List, ◌++◌, All}
+use Rattle.std.specs.Prelude.{◌≡◌, ℕ, suc, ◌^◌, ◌≤◌, List, ◌++◌, length, All}
 use Rattle.p_groups.specs.PGroups.{PGroup, prime_of}
 use Rattle.graded_polynomials.specs.Polynomials.{Polynomial}
 use Rattle.chain_lift.specs.Values.{LiftValue}
@@ -16,5 +16,6 @@ pub record IsLiftOf (G : PGroup) (d : ℕ) (l : LiftValue) : Type 0 where
 pub record IsNext (G : PGroup) (lifts : List LiftValue) (relations : List Polynomial) (n : ℕ) (x : Next) : Type 0 where
   pub gens_are : x.gens ≡ record { prime = prime_of G; degrees = degrees_of (lifts ++ x.lifts.items) }
   pub lifts_are : All (IsLiftOf G (suc n)) x.lifts.items
+  pub few : length x.lifts.items ≤ 2 ^ 27
   pub presentation : IsPresentation G (suc n) (classes G (lifts ++ x.lifts.items)) (relations ++ x.relations.items)
   pub degree_is : IsDegree G (suc n) (lifts ++ x.lifts.items) x.degree

@@ -1,5 +1,6 @@
 -- What a ring keeps.
 use Rattle.std.specs.Prelude.{◌≡◌, ◌≤◌, List, [], length, Option, MatchOption}
+use Rattle.limits.specs.declared.TheConstants.{GREATEST_DEGREE}
 use Rattle.p_groups.specs.PGroups.{PGroup, prime_of}
 use Rattle.graded_polynomials.specs.Polynomials.{Polynomial}
 use Rattle.gc_poly.specs.Generators.{Generators}
@@ -10,7 +11,7 @@ use Rattle.ring_present.specs.declared.degree.Degree.{Degree}
 
 -- generators, relations and degrees of the ring of G
 pub record IsRingOf (G : PGroup) (gens : Generators) (lifts : List LiftValue) (relations : List Polynomial) (Ds : List Degree) : Type 0 where
-  pub high : length Ds ≤ 24
+  pub high : length Ds ≤ GREATEST_DEGREE
   pub prime : gens.prime ≡ prime_of G
   pub presentation : IsPresentation G (length Ds) (classes G lifts) relations
   pub lower : IsLower G lifts Ds

@@ -14,7 +14,7 @@ pub enum RingFault {
     TooManyMonomials {
         /// The degree.
         degree: u32,
-        /// The number of the monomials, or 18446744073709551615 where there are more.
+        /// The number of the monomials, or `GREATEST_COUNT` where there are more.
         count: u64,
     },
     /// Want of memory.

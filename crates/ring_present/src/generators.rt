@@ -1,6 +1,6 @@
 //! The new generators of a degree.
 
-ghost use Rattle.std.specs.Prelude.{◌≡◌, ℕ, suc, ◌+◌, ◌<◌, ◌≤◌, [], ◌∷◌, ◌++◌, List, length, map, replicate, All, IfOk, OnOk};
+ghost use Rattle.std.specs.Prelude.{◌≡◌, ℕ, suc, ◌+◌, ◌^◌, ◌<◌, ◌≤◌, [], ◌∷◌, ◌++◌, List, length, map, replicate, All, IfOk, OnOk};
 ghost use Rattle.linear_algebra.specs.Rows.{IsEchelonOf, row};
 ghost use Rattle.linear_algebra.specs.Choices.{IsGreedy, rows_at};
 ghost use Rattle.group_table.specs.Prime.{prime_value};
@@ -10,6 +10,7 @@ ghost use Rattle.graded_polynomials.specs.Texts.{power};
 ghost use Rattle.presentation_rows.specs.Values.{AreUnitRows};
 ghost use Rattle.min_res.specs.Stages.{rank_of};
 ghost use Rattle.ring_present.specs.Degrees.{AreAll, IsLower, degrees_of, new_lift, kept};
+ghost use Rattle.limits.specs.declared.TheConstants.{GREATEST_DEGREE};
 ghost use Rattle.p_groups.specs.PGroups.{prime_of};
 
 use crate::degree::Valued;
@@ -26,9 +27,6 @@ pub(crate) fn gens_over(alloc: Global, p: Prime, gens: &Gens) -> Result<Gens, Me
     ensures { IfOk result (λ copy. copy ≡ record { prime = prime_value p; degrees = gens.now.degrees }) }
 {
     let count = gens.len();
-    if count > u32::MAX as usize {
-        return Err(Memory);
-    }
     let mut copy = Gens::new(alloc, p);
     for i in 0..count {
         copy.push(gens.degree(i))?;
@@ -59,8 +57,7 @@ fn unit_rows(alloc: Global, p: Prime, width: usize) -> Result<Matrix, Memory>
     let mut rows = Matrix::new(alloc, p, width);
     let mut unit = Row::zero(alloc, p, width)?;
     for i in 0..width {
-        unit.clear();
-        unit.set(i, 1);
+        unit.set_unit(i);
         rows.push(unit.view())?;
     }
     Ok(rows)
@@ -78,7 +75,6 @@ pub(crate) fn dual_basis(alloc: Global, p: Prime, rank: usize) -> Result<Echelon
 }
 
 /// The places in the dual basis of the new generators: no class is taken that is in the span of the values and of those taken before.
-/// There are no places of 2^32 and more.
 pub(crate) fn new_places(
     alloc: Global,
     basis: &Echelon,
@@ -86,13 +82,12 @@ pub(crate) fn new_places(
 ) -> Result<Positions, Memory>
     requires same_prime { basis.now.p ≡ values.now.p }
     requires same_width { basis.now.width ≡ values.now.width }
+    requires few { length basis.now.rows ≤ 2 ^ 27 }
     ensures greedy { IfOk result (λ places. (span : List (List ℕ)) × IsEchelonOf values.now.p values.now.width values.now.rows span
         × IsGreedy values.now.p basis.now.rows span places) }
     ensures inside { IfOk result (λ places. All (λ k. k < length basis.now.rows) places) }
+    ensures few { IfOk result (λ places. length places ≤ length basis.now.rows) }
 {
-    if basis.rows() > u32::MAX as usize {
-        return Err(Memory);
-    }
     let span = echelon(alloc, values)?;
     let places = greedy(alloc, basis, &span)?;
     Ok(places)
@@ -116,7 +111,7 @@ fn generator_monomial(alloc: Global, i: usize) -> Result<Mono, Memory>
     Ok(monomial)
 }
 
-// Adds a generator of degree d with this class, and its monomial to those of degree d. There are fewer than 2^32 generators.
+// Adds a generator of degree d with this class, and its monomial to those of degree d.
 fn add_generator(
     alloc: Global,
     res: &Resolution,
@@ -128,7 +123,8 @@ fn add_generator(
 ) -> Result<(), Memory>
     requires within { d ≤ res.now.last }
     requires low { 1 ≤ d }
-    requires high { d ≤ 24 }
+    requires high { d ≤ GREATEST_DEGREE }
+    requires few { length gens.old.degrees < 4294967295 }
     requires prime { modulus_of class ≡ prime_of res.now.group }
     requires length { length (entries_of class) ≡ rank_of res.now.group d }
     requires order { All (λ e. e ≤ d) gens.old.degrees }
@@ -140,9 +136,6 @@ fn add_generator(
     ensures monomials { OnOk result (all.new.monomials ≡ all.old.monomials ++ power (length gens.old.degrees) 1 ∷ []) }
     ensures values { OnOk result (all.new.values ≡ record all.old.values { rows = all.old.values.rows ++ entries_of class.entry ∷ [] }) }
 {
-    if gens.len() >= u32::MAX as usize {
-        return Err(Memory);
-    }
     let lift = Lift::new(alloc, res, d, class)?;
     all.monomials.push(generator_monomial(alloc, gens.len())?)?;
     all.values.push(class)?;
@@ -166,11 +159,12 @@ impl<'a> Lower<'a> {
         requires group { self.now.group.now ≡ res.now.group }
         requires lower { IsLower self.now.group.now self.now.lifts.now self.now.degrees.now }
         requires within { suc (length self.now.degrees.now) ≤ res.now.last }
-        requires high { length self.now.degrees.now < 24 }
+        requires high { length self.now.degrees.now < GREATEST_DEGREE }
         requires basis_prime { basis.now.p ≡ prime_of res.now.group }
         requires basis { AreUnitRows (rank_of res.now.group (suc (length self.now.degrees.now))) basis.now.rows }
         requires basis_width { basis.now.width ≡ rank_of res.now.group (suc (length self.now.degrees.now)) }
         requires places { All (λ k. k < length basis.now.rows) places.now }
+        requires few { length places.now ≤ 2 ^ 27 }
         requires gens { gens.old ≡ record { prime = prime_of res.now.group; degrees = degrees_of self.now.lifts.now } }
         requires all { AreAll res.now.group (suc (length self.now.degrees.now)) self.now.lifts.now all.old }
         ensures lifts { IfOk result (λ lifts. lifts.items

@@ -1,9 +1,10 @@
 //! From the degrees 1 to d - 1 of a ring to degree d.
 
-ghost use Rattle.std.specs.Prelude.{◌≡◌, suc, ◌+◌, ◌<◌, ◌≤◌, ◌++◌, length, All, IfOk};
+ghost use Rattle.std.specs.Prelude.{◌≡◌, suc, ◌+◌, ◌^◌, ◌<◌, ◌≤◌, ◌++◌, length, All, IfOk};
 ghost use Rattle.linear_algebra.specs.Rows.{AreInSpan};
 ghost use Rattle.linear_algebra.specs.Kernels.{IsKernelOf};
 ghost use Rattle.linear_algebra.specs.Choices.{ArePreimages};
+ghost use Rattle.limits.specs.declared.TheConstants.{GREATEST_DEGREE};
 ghost use Rattle.p_groups.specs.PGroups.{largest_residue, prime_of};
 ghost use Rattle.graded_algebra.specs.Presentations.{IsSpanGenerators};
 ghost use Rattle.presentation_rows.specs.Values.{AreUnitRows};
@@ -34,15 +35,14 @@ pub(crate) struct Next {
     pub(crate) degree: Degree,
 }
 
-// The rank of the stage of degree d.
+// The rank of the stage of degree d, which is not 0.
 fn rank(res: &Resolution, d: u32) -> usize
-    requires { d ≤ res.now.last }
-    ensures { result ≡ rank_of res.now.group d }
+    requires low { 1 ≤ d }
+    requires within { d ≤ res.now.last }
+    ensures value { result ≡ rank_of res.now.group d }
+    ensures few { result ≤ 2 ^ 27 }
 {
-    match res.stage(d) {
-        Some(stage) => stage.rank(),
-        None => unreachable!(),
-    }
+    res.stage_at(d).rank()
 }
 
 // What is kept of a degree: its standard monomials by the kernel of its values, and the preimages of its dual basis.
@@ -75,7 +75,7 @@ impl<'a> Lower<'a> {
         requires lower { IsLower self.now.group.now self.now.lifts.now self.now.degrees.now }
         requires heights { All (λ l. suc (length self.now.degrees.now) ≤ l.degree + l.height) self.now.lifts.now }
         requires within { suc (length self.now.degrees.now) ≤ res.now.last }
-        requires high { length self.now.degrees.now < 24 }
+        requires high { length self.now.degrees.now < GREATEST_DEGREE }
         requires gens { gens.now ≡ record { prime = prime_of res.now.group; degrees = degrees_of self.now.lifts.now } }
         ensures { IfOk result (λ all. AreAll res.now.group (suc (length self.now.degrees.now)) self.now.lifts.now all) }
     {
@@ -100,13 +100,15 @@ impl<'a> Lower<'a> {
         requires presentation { IsSpanGenerators (largest_residue res.now.group) (cohomology res.now.group) (dual_basis res.now.group)
             (length self.now.degrees.now) (classes res.now.group self.now.lifts.now) }
         requires within { suc (length self.now.degrees.now) ≤ res.now.last }
-        requires high { length self.now.degrees.now < 24 }
+        requires high { length self.now.degrees.now < GREATEST_DEGREE }
         requires basis_prime { basis.now.p ≡ prime_of res.now.group }
         requires basis { AreUnitRows (rank_of res.now.group (suc (length self.now.degrees.now))) basis.now.rows }
         requires basis_width { basis.now.width ≡ rank_of res.now.group (suc (length self.now.degrees.now)) }
+        requires few { length basis.now.rows ≤ 2 ^ 27 }
         requires gens { gens.old ≡ record { prime = prime_of res.now.group; degrees = degrees_of self.now.lifts.now } }
         requires all { AreAll res.now.group (suc (length self.now.degrees.now)) self.now.lifts.now all.old }
         ensures lifts { IfOk result (λ lifts. All (IsLiftOf res.now.group (suc (length self.now.degrees.now))) lifts.items) }
+        ensures few { IfOk result (λ lifts. length lifts.items ≤ 2 ^ 27) }
         ensures gens { IfOk result (λ lifts. gens.new
             ≡ record { prime = prime_of res.now.group; degrees = degrees_of (self.now.lifts.now ++ lifts.items) }) }
         ensures all { IfOk result (λ lifts. AreAll res.now.group (suc (length self.now.degrees.now)) (self.now.lifts.now ++ lifts.items) all.new) }
@@ -132,7 +134,7 @@ impl<'a> Lower<'a> {
         requires presentation { IsPresentation res.now.group (length self.now.degrees.now) (classes res.now.group self.now.lifts.now) relations.now }
         requires heights { All (λ l. suc (length self.now.degrees.now) ≤ l.degree + l.height) self.now.lifts.now }
         requires within { suc (length self.now.degrees.now) ≤ res.now.last }
-        requires high { length self.now.degrees.now < 24 }
+        requires high { length self.now.degrees.now < GREATEST_DEGREE }
         requires gens { gens ≡ record { prime = prime_of res.now.group; degrees = degrees_of self.now.lifts.now } }
         ensures { IfOk result (IsNext res.now.group self.now.lifts.now relations.now (length self.now.degrees.now)) }
     {

@@ -1,7 +1,7 @@
 //! Combinations of rows.
 
 ghost use Rattle.std.specs.Prelude.{◌≡◌, length, IfOk};
-ghost use Rattle.linear_algebra.specs.Rows.{entry, IsRow, IsCombination};
+ghost use Rattle.linear_algebra.specs.Rows.{entry, combination_row};
 ghost use Rattle.fp_rows.specs.Refs.{entries_of, modulus_of};
 
 use fp_rows::{Matrix, Row, RowRef};
@@ -17,12 +17,10 @@ pub(crate) fn combination(
     requires prime { modulus_of coefficients ≡ rows.now.p }
     requires length { length (entries_of coefficients) ≡ length rows.now.rows }
     ensures prime { IfOk result (λ r. r.p ≡ rows.now.p) }
-    ensures row { IfOk result (λ r. IsRow rows.now.p rows.now.width r.entries) }
-    ensures combination { IfOk result (λ r. IsCombination rows.now.p (entry (entries_of coefficients.entry)) rows.now.rows (entry r.entries)) }
+    ensures row { IfOk result (λ r. r.entries
+        ≡ combination_row rows.now.p rows.now.width (entry (entries_of coefficients.entry)) rows.now.rows) }
 {
     let mut sum = Row::zero(alloc, rows.prime(), rows.width())?;
-    for i in 0..rows.rows() {
-        sum.add(coefficients.get(i), rows.row(i));
-    }
+    rows.combine(coefficients, &mut sum);
     Ok(sum)
 }

@@ -2,6 +2,7 @@
 
 ghost use Rattle.std.specs.Prelude.{◌≡◌, ℕ, suc, ◌-◌, ◌<◌, ◌≤◌, [], ◌∷◌, ◌++◌, List, length, map, min};
 ghost use Rattle.std.specs.Prelude.{OnOk, OnErr, IfErr, IfSome, Some};
+ghost use Rattle.limits.specs.declared.TheConstants.{GREATEST_COUNT, GREATEST_DEGREE};
 ghost use Rattle.graded_polynomials.specs.Monomials.{IsMonomials};
 ghost use Rattle.ring_present.specs.Degrees.{degrees_of, kept, lifted};
 ghost use Rattle.ring_present.specs.Prefixes.{IsPrefix};
@@ -65,7 +66,7 @@ impl Presentation {
     ) -> Result<(), RingFault>
         requires store { IsRingStore self.old.group self.old.gens self.old.lifts.items self.old.relations.items self.old.degrees.items }
         requires within { suc (length self.old.degrees.items) ≤ res.now.last }
-        requires high { length self.old.degrees.items < 24 }
+        requires high { length self.old.degrees.items < GREATEST_DEGREE }
         requires same_group { IfSome self.old.group (λ G. G ≡ res.now.group) }
         ensures group { OnOk result (self.new.group ≡ Some res.now.group) }
         ensures degrees_of_gens { OnOk result (self.new.gens.degrees ≡ degrees_of self.new.lifts.items) }
@@ -76,7 +77,7 @@ impl Presentation {
         ensures degrees_grown { OnOk result (IsPrefix self.old.degrees.items self.new.degrees.items) }
         ensures counted { OnOk result ((ms : List (List ℕ))
             → IsMonomials ((prime_of res.now.group) - 1) self.old.gens.degrees (suc (length self.old.degrees.items)) ms
-            → min (length ms) 18446744073709551615 ≤ cap) }
+            → min (length ms) GREATEST_COUNT ≤ cap) }
         ensures refused { IfErr result (λ e. IsRefusal res.now.group (suc (length self.old.degrees.items)) cap e) }
         ensures group_kept { OnErr result (self.new.group ≡ self.old.group) }
         ensures gens_kept { OnErr result (self.new.gens ≡ self.old.gens) }

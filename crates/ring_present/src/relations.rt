@@ -3,6 +3,7 @@
 ghost use Rattle.std.specs.Prelude.{◌≡◌, ℕ, suc, ◌+◌, ◌-◌, ◌<◌, ◌≤◌, [], ◌∷◌, ◌++◌, List, length, map, All, IfOk, OnOk};
 ghost use Rattle.linear_algebra.specs.Rows.{IsEchelonOf};
 ghost use Rattle.fp_rows.specs.Refs.{entries_of, modulus_of};
+ghost use Rattle.limits.specs.declared.TheConstants.{GREATEST_DEGREE};
 ghost use Rattle.graded_polynomials.specs.Monomials.{IsMonomials};
 ghost use Rattle.graded_polynomials.specs.Polynomials.{multiple};
 ghost use Rattle.gc_poly.specs.Generators.{greatest};
@@ -13,7 +14,6 @@ ghost use Rattle.presentation_rows.specs.Multiples.{AreMultiples};
 ghost use Rattle.ring_present.specs.Multiples.{IsRelationBelow, HaveMonomials, AreNewRelations};
 
 use crate::degree::Degree;
-use crate::standard::has_pivot;
 use fp_rows::{Echelon, Matrix, Row, RowRef, echelon};
 use gc_poly::{Gens, Mono, Monos, Poly, mul};
 use group_table::Memory;
@@ -60,7 +60,7 @@ fn push_multiple(
 ) -> Result<(), Memory>
     requires relation { IsOverGenerators gens.now relation.now }
     requires within { relation.now.degree ≤ d }
-    requires small { d ≤ 24 }
+    requires small { d ≤ GREATEST_DEGREE }
     requires factor { IsMonomialOf gens.now (d - relation.now.degree) factor.now }
     requires monomials { IsMonomials (greatest gens.now) gens.now.degrees d monomials.now }
     requires prime { rows.old.p ≡ gens.now.prime }
@@ -89,7 +89,7 @@ fn push_multiples(
 ) -> Result<(), Memory>
     requires relation { IsOverGenerators gens.now relation.now }
     requires within { relation.now.degree ≤ d }
-    requires small { d ≤ 24 }
+    requires small { d ≤ GREATEST_DEGREE }
     requires factors { IsMonomials (greatest gens.now) gens.now.degrees (d - relation.now.degree) factors.now }
     requires monomials { IsMonomials (greatest gens.now) gens.now.degrees d monomials.now }
     requires prime { rows.old.p ≡ gens.now.prime }
@@ -115,7 +115,7 @@ fn multiples(
     monomials: &Monos,
 ) -> Result<Echelon, Memory>
     requires degree { d ≡ suc (length degrees.now) }
-    requires small { d ≤ 24 }
+    requires small { d ≤ GREATEST_DEGREE }
     requires relations { All (IsRelationBelow gens.now d) relations.now }
     requires factors { HaveMonomials gens.now degrees.now }
     requires monomials { IsMonomials (greatest gens.now) gens.now.degrees d monomials.now }
@@ -169,7 +169,7 @@ fn new_relations(
 {
     let mut relations = Vec::new(alloc);
     for i in 0..kernel.rows() {
-        if !has_pivot(multiples, kernel.pivot(i)) {
+        if !multiples.is_pivot(kernel.pivot(i)) {
             relations.push(polynomial_of(alloc, gens, d, monomials, kernel.row(i))?)?;
         }
     }
@@ -187,7 +187,7 @@ pub(crate) fn relations_of(
     kernel: &Echelon,
 ) -> Result<Vec<Poly>, Memory>
     requires degree { d ≡ suc (length degrees.now) }
-    requires small { d ≤ 24 }
+    requires small { d ≤ GREATEST_DEGREE }
     requires relations { All (IsRelationBelow gens.now d) relations.now }
     requires factors { HaveMonomials gens.now degrees.now }
     requires monomials { IsMonomials (greatest gens.now) gens.now.degrees d monomials.now }

@@ -2,17 +2,20 @@
 
 ghost use Rattle.std.specs.Prelude.{◌≡◌, ℕ, suc, ◌<◌, ◌≤◌, [], List, length, map, min, slice_get, slice_index_or};
 ghost use Rattle.std.specs.Prelude.{OnOk, OnErr, IfOk, IfErr, IfSome, Some, None};
+ghost use Rattle.limits.specs.declared.TheConstants.{GREATEST_COUNT, GREATEST_DEGREE};
 ghost use Rattle.group_table.specs.Prime.{prime_value};
 ghost use Rattle.p_groups.specs.PGroups.{PGroup, largest_residue, prime_of};
 ghost use Rattle.graded_polynomials.specs.Monomials.{IsMonomials};
 ghost use Rattle.graded_algebra.specs.Algebras.{evaluate};
 ghost use Rattle.graded_algebra.specs.Presentations.{IsNormalForm};
+ghost use Rattle.gc_poly.specs.Polynomials.{IsOverGenerators};
 ghost use Rattle.presentation_rows.specs.Values.{vector};
 ghost use Rattle.fp_rows.specs.Refs.{entries_of, modulus_of};
 ghost use Rattle.min_res.specs.Stages.{rank_of};
 ghost use Rattle.ring_present.specs.Rings.{cohomology, IsPresentation};
 ghost use Rattle.ring_present.specs.Values.{GeneratorValue, generators_of, standard_of};
 ghost use Rattle.ring_present.specs.Standard.{AreStandard};
+ghost use Rattle.ring_present.specs.Known.{IsKnown};
 ghost use Rattle.ring_present.specs.Refusals.{IsRefusal};
 ghost use Rattle.ring_present.specs.Prefixes.{IsPrefix};
 
@@ -85,7 +88,7 @@ impl Ring {
     /// monomials in the generators of lower degree. After an error the ring is as before.
     pub fn add_degree(&mut self, res: &Resolution, cap: u64) -> Result<(), RingFault>
         requires within { suc self.old.degree ≤ res.now.last }
-        requires high { self.old.degree < 24 }
+        requires high { self.old.degree < GREATEST_DEGREE }
         requires same_group { IfSome self.old.group (λ G. G ≡ res.now.group) }
         ensures group { OnOk result (self.new.group ≡ Some res.now.group) }
         ensures prime { OnOk result (self.new.prime ≡ prime_of res.now.group) }
@@ -97,16 +100,18 @@ impl Ring {
         ensures standard_kept { OnOk result (IsPrefix self.old.standard self.new.standard) }
         ensures counted { OnOk result ((ms : List (List ℕ))
             → IsMonomials (largest_residue res.now.group) (map (λ g. g.degree) self.old.generators) (suc self.old.degree) ms
-            → min (length ms) 18446744073709551615 ≤ cap) }
+            → min (length ms) GREATEST_COUNT ≤ cap) }
         ensures refused { IfErr result (λ e. IsRefusal res.now.group (suc self.old.degree) cap e) }
         ensures kept { OnErr result (self.new ≡ self.old) }
     {
         self.known.add_degree(self.alloc, res, cap)
     }
 
-    /// The degree through which the ring is known.
+    /// The degree through which the ring is known: 0 for that of no group, and else it has the generators and relations of its group through
+    /// this degree.
     pub fn degree(&self) -> u32
-        ensures { result ≡ self.now.degree }
+        ensures value { result ≡ self.now.degree }
+        ensures known { IsKnown self.now }
     {
         self.known.degrees.len() as u32
     }
@@ -118,10 +123,12 @@ impl Ring {
         &self.known.gens
     }
 
-    /// The class of generator i, counted from 0.
+    /// The class of generator i, counted from 0, as a row over the dual basis of its degree.
     pub fn class_of(&self, i: usize) -> RowRef<'_>
         requires { i < length self.now.generators }
         ensures entries { (g : GeneratorValue) → entries_of result ≡ (slice_index_or self.now.generators i g).class }
+        ensures length { (G : PGroup) → self.now.group ≡ Some G → (g : GeneratorValue)
+            → length (entries_of result) ≡ rank_of G (slice_index_or self.now.generators i g).degree }
         ensures modulus { modulus_of result ≡ self.now.prime }
     {
         self.known.lifts[i].class()
@@ -134,10 +141,11 @@ impl Ring {
         self.known.relations.len()
     }
 
-    /// Relation i, counted from 0.
+    /// Relation i, counted from 0, a polynomial over the generators.
     pub fn relation(&self, i: usize) -> &Poly
         requires { i < length self.now.relations }
-        ensures { slice_get self.now.relations i ≡ Some result.now }
+        ensures value { slice_get self.now.relations i ≡ Some result.now }
+        ensures over { IsOverGenerators (record { prime = self.now.prime; degrees = map (λ g. g.degree) self.now.generators }) result.now }
     {
         &self.known.relations[i]
     }

@@ -1,7 +1,6 @@
 //! Standard monomials.
 
-ghost use Rattle.std.specs.Prelude.{◌≡◌, ◌<◌, length, IfOk};
-ghost use Rattle.linear_algebra.specs.Rows.{is_pivot};
+ghost use Rattle.std.specs.Prelude.{◌≡◌, length, IfOk};
 ghost use Rattle.ring_present.specs.Standard.{without_pivots};
 
 use crate::degree::Valued;
@@ -9,18 +8,6 @@ use fp_rows::{Echelon, Matrix};
 use gc_poly::Monos;
 use group_table::Memory;
 use std::alloc::Global;
-
-/// Whether k is the pivot of one of the rows.
-pub(crate) fn has_pivot(rows: &Echelon, k: usize) -> bool
-    ensures { result ≡ is_pivot rows.now.rows k }
-{
-    for i in 0..rows.rows() {
-        if rows.pivot(i) == k {
-            return true;
-        }
-    }
-    false
-}
 
 /// The monomials whose places are no pivots of the kernel of the values, with their values.
 pub(crate) fn standard(alloc: Global, all: &Valued, kernel: &Echelon) -> Result<Valued, Memory>
@@ -31,7 +18,7 @@ pub(crate) fn standard(alloc: Global, all: &Valued, kernel: &Echelon) -> Result<
     let mut monomials = Monos::new(alloc);
     let mut values = Matrix::new(alloc, all.values.prime(), all.values.width());
     for i in 0..all.monomials.len() {
-        if !has_pivot(kernel, i) {
+        if !kernel.is_pivot(i) {
             monomials.push(all.monomials.get(i).try_clone(alloc)?)?;
             values.push(all.values.row(i))?;
         }

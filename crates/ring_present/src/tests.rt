@@ -1,86 +1,29 @@
 //! Rings worked out by hand.
 
-ghost use Rattle.std.specs.Prelude.{◌≡◌, ◌*◌, ◌<◌, All, IfOk, IfSome, map, vec_len};
-ghost use Rattle.gc_poly.specs.Polynomials.{IsOverGenerators};
+ghost use Rattle.std.specs.Prelude.{◌≡◌, IfOk, IfSome};
 
 use crate::{Ring, RingFault};
 use fp_rows::RowRef;
 use gc_poly::write_text;
 use group_algebra::Algebra;
-use group_table::{Group, Prime};
+use limits::{GREATEST_DEGREE, GREATEST_DIMENSION};
 use min_res::Resolution;
-use std::alloc::{AllocError, Global};
+use small_groups::SmallGroup;
+use std::alloc::Global;
 use std::process::Abort;
 use std::test::Fail;
 
-#[derive(Clone, Copy)]
-enum Kind {
-    Three,
-    Klein,
-    Quaternion,
-}
-
-impl Kind {
-    fn order(self) -> u16 {
-        match self {
-            Kind::Three => 3,
-            Kind::Klein => 4,
-            Kind::Quaternion => 8,
-        }
-    }
-
-    // In the quaternion group the words 1, i, j, ij, -1, -i, -j, -ij.
-    fn product(self, a: u16, b: u16) -> u16 {
-        let commutator = (a >> 1) & b & 1;
-        let squares = (a & b & 1) ^ ((a & b) >> 1 & 1);
-        match self {
-            Kind::Three => (a % 3 + b % 3) % 3,
-            Kind::Klein => a ^ b,
-            Kind::Quaternion => a ^ b ^ ((commutator ^ squares) << 2),
-        }
-    }
-}
-
-fn entries(alloc: Global, kind: Kind) -> Result<Vec<u16>, AllocError> {
-    let mut entries = Vec::new(alloc);
-    for a in 0..kind.order() {
-        for b in 0..kind.order() {
-            entries.push(kind.product(a, b))?;
-        }
-    }
-    Ok(entries)
-}
-
-fn table(
+fn resolved(
     rt: &impl Abort,
     alloc: Global,
-    order: u16,
-    entries: &[u16],
-) -> Result<Vec<u16>, AllocError>
-    ensures { IfOk result (λ table. (vec_len table ≡ order * order) × All (λ e. e < order) table.items) }
-{
-    assert_eq!(rt; entries.len(), order as usize * order as usize);
-    assert!(rt; entries.iter().all(|e| *e < order));
-    Vec::from_slice(alloc, entries)
-}
-
-fn group_of(rt: &impl Abort, alloc: Global, kind: Kind) -> Result<Group, Fail> {
-    let entries = entries(alloc, kind)?;
-    match kind {
-        Kind::Three => Ok(Group::from_table(alloc, Prime::P3, 1, table(rt, alloc, 3, &entries)?)?),
-        Kind::Klein => Ok(Group::from_table(alloc, Prime::P2, 2, table(rt, alloc, 4, &entries)?)?),
-        Kind::Quaternion => {
-            Ok(Group::from_table(alloc, Prime::P2, 3, table(rt, alloc, 8, &entries)?)?)
-        }
-    }
-}
-
-fn resolved(rt: &impl Abort, alloc: Global, kind: Kind, degree: u32) -> Result<Resolution, Fail> {
-    let group = group_of(rt, alloc, kind)?;
+    kind: SmallGroup,
+    degree: u32,
+) -> Result<Resolution, Fail> {
+    let group = kind.group(alloc)?;
     let mut resolution = Resolution::start(alloc, Algebra::build(alloc, &group)?)?;
     for _d in 0..degree {
-        assert!(rt; resolution.last() < 24);
-        resolution.extend(4096)?;
+        assert!(rt; resolution.last() < GREATEST_DEGREE);
+        resolution.extend(GREATEST_DIMENSION)?;
     }
     Ok(resolution)
 }
@@ -93,12 +36,11 @@ fn presented(
     degree: u32,
     cap: u64,
 ) -> Result<Ring, Fail>
-    ensures group { IfOk result (λ ring. IfSome ring.group (λ G. G ≡ resolution.now.group)) }
-    ensures over { IfOk result (λ ring. All (IsOverGenerators (record { prime = ring.prime; degrees = map (λ g. g.degree) ring.generators })) ring.relations) }
+    ensures { IfOk result (λ ring. IfSome ring.group (λ G. G ≡ resolution.now.group)) }
 {
     let mut ring = Ring::start(alloc, resolution.algebra().group().prime());
     for _d in 0..degree {
-        assert!(rt; ring.degree() < 24 && ring.degree() < resolution.last());
+        assert!(rt; ring.degree() < GREATEST_DEGREE && ring.degree() < resolution.last());
         ring.add_degree(resolution, cap)?;
     }
     Ok(ring)
@@ -109,9 +51,7 @@ fn has_generators(ring: &Ring, degrees: &[u32]) -> bool {
     gens.len() == degrees.len() && (0..gens.len()).all(|i| gens.degree(i) == degrees[i])
 }
 
-fn has_relations(alloc: Global, ring: &Ring, texts: &[&str]) -> Result<bool, Fail>
-    requires { All (IsOverGenerators (record { prime = ring.now.prime; degrees = map (λ g. g.degree) ring.now.generators })) ring.now.relations }
-{
+fn has_relations(alloc: Global, ring: &Ring, texts: &[&str]) -> Result<bool, Fail> {
     for i in 0..ring.relations() {
         let mut text = Vec::new(alloc);
         write_text(ring.gens(), ring.relation(i), &mut text)?;
@@ -152,7 +92,7 @@ fn has_standard(
 
 #[test]
 fn presents_the_quaternion_group(rt: HostRuntime) -> Result<(), Fail> {
-    let resolution = resolved(&rt, rt.alloc(), Kind::Quaternion, 4)?;
+    let resolution = resolved(&rt, rt.alloc(), SmallGroup::Quaternion, 4)?;
     let ring = presented(&rt, rt.alloc(), &resolution, 4, 5)?;
     assert!(rt; has_generators(&ring, &[1, 1, 4]));
     assert!(rt;
@@ -170,7 +110,7 @@ fn presents_the_quaternion_group(rt: HostRuntime) -> Result<(), Fail> {
 
 #[test]
 fn presents_the_group_of_three_elements(rt: HostRuntime) -> Result<(), Fail> {
-    let resolution = resolved(&rt, rt.alloc(), Kind::Three, 2)?;
+    let resolution = resolved(&rt, rt.alloc(), SmallGroup::Three, 2)?;
     let ring = presented(&rt, rt.alloc(), &resolution, 2, 0)?;
     assert!(rt; has_generators(&ring, &[1, 2]));
     assert!(rt; has_relations(rt.alloc(), &ring, &[])?);
@@ -183,7 +123,7 @@ fn presents_the_group_of_three_elements(rt: HostRuntime) -> Result<(), Fail> {
 
 #[test]
 fn counts_the_monomials(rt: HostRuntime) -> Result<(), Fail> {
-    let resolution = resolved(&rt, rt.alloc(), Kind::Klein, 3)?;
+    let resolution = resolved(&rt, rt.alloc(), SmallGroup::Klein, 3)?;
     let mut ring = presented(&rt, rt.alloc(), &resolution, 2, 3)?;
     assert_eq!(rt; (ring.degree(), resolution.last()), (2, 3));
     let refused = ring.add_degree(&resolution, 3).err();

@@ -4,18 +4,13 @@ use Rattle.p_groups.specs.PGroups.{PGroup, largest_residue}
 use Rattle.group_table.specs.Tables.{order}
 use Rattle.ring_present.specs.Values.{generators_of}
 use Rattle.coho_report.specs.Reports.{ranks_below}
-use Rattle.coho_report.proofs.Composing.{degrees_are, relations_over}
+use Rattle.ring_present.proofs.RelationsOver.{degrees-are}
 use Rattle.coho_report.proofs.composition.compose.Goals as goal
 
 pub returns-in_err-ring-clause-refused : goal.returns-in_err-ring-clause-refused
 returns-in_err-ring-clause-refused c =
     let p = err_from_is_err_and c.from_residual.result c.from_residual.ensures.1 in
     rw (p.1, p.2) c.in_err-ring.ensures.refused
-
-pub invariant_of-result : goal.invariant_of-result
-invariant_of-result c =
-    let ring = c.in_ok-ring.ring in
-    relations_over c.args.res.now.group c.args.n ring.prime ring.generators ring.relations c.in_ok-ring.ensures.prime c.in_ok-ring.ensures.presentation
 
 pub returns-clause-report : goal.returns-clause-report
 returns-clause-report c =
@@ -29,6 +24,6 @@ returns-clause-report c =
       degree = c.in_ok-ring.ensures.degree;
       ranks = c.in_ok-ranks.ensures ∙ ap (ranks_below G) next;
       generators = generators_of q ring.generators;
-      degrees_are = sym (degrees_are q ring.generators);
+      degrees_are = sym (degrees-are q ring.generators);
       presentation = c.in_ok-ring.ensures.presentation;
     }

@@ -22,4 +22,4 @@ returns c =
     (ap bytes c.into_bytes.ensures.value ∙ c.in_ok-format.ensures.ok ∙ ap (numbered (codes "generators ")) (c.generators-generators.ensures ∙ ap (λ (r : ReportValue). length r.generators) (sym same)))
     (c.in_ok-generator_lines.ensures ∙ ap (λ (g : Generators). generator_lines g.degrees) c.gens.ensures)
     (ap bytes c.into_bytes-2.ensures.value ∙ c.in_ok-format-2.ensures.ok ∙ ap (numbered (codes "relations ")) (c.relations-relations.ensures ∙ ap (λ (r : ReportValue). length r.relations) (sym same)))
-    (c.in_ok-relation_lines.ensures ∙ ap (λ (g : Generators). relation_lines g.degrees rs) c.gens-2.ensures))
+    c.in_ok-relation_lines.ensures)

@@ -16,7 +16,7 @@ loop-i-preserved c = term-added c.args.gens.now c.args.d c.loop-i.i c.get.result
 
 pub returns : goal.returns
 returns c =
-    let p : modulus_of c.args.row ≡ suc (c.args.gens.now.prime - 1) = omega (arith, prime_above_one c.args.row.prime, c.requires.prime) in
+    let p : modulus_of c.args.row ≡ suc (c.args.gens.now.prime - 1) = omega (arith, prime_above_one c.args.row.modulus, c.requires.prime) in
     let r : IsRow (suc (c.args.gens.now.prime - 1)) (length c.args.monomials.now) (entries_of c.args.row) = rw (← p, ← c.requires.length)
     (ref_is_row c.args.row) in
     polynomial-is c.args.gens.now c.args.d c.loop-i.i c.args.monomials.now (entries_of c.args.row) c.loop-i.f c.requires.monomials r (omega arith)

@@ -1,8 +1,10 @@
 use Rattle.std.proofs.Common.{◌≡◌, length, arith, ap, sym, ◌∙◌}
 use Rattle.std.proofs.lemmas.List.{length-map}
+use Rattle.fp_rows.specs.Refs.{entries_of}
 use Rattle.chain_lift.specs.Values.{LiftValue}
 use Rattle.ring_present.specs.Values.{RingValue}
 use Rattle.ring_present.proofs.Shown.{lift-prime}
+use Rattle.ring_present.proofs.KnownRings.{class-length}
 use Rattle.ring_present.proofs.ring.Ring.class_of.Goals as goal
 
 pub returns-clause-modulus : goal.returns-clause-modulus
@@ -12,3 +14,9 @@ returns-clause-modulus c =
     c.class.ensures.modulus
     ∙ lift-prime k.group k.gens k.lifts.items k.relations.items k.degrees.items c.self.invariant c.args.i c.index.result.now (omega (arith, n, c.requires)) c.index.ensures
     ∙ ap (λ (r : RingValue). r.prime) c.self.view_is
+
+pub returns-clause-length : goal.returns-clause-length
+returns-clause-length c G known g =
+    let k = c.self.inside.known in
+    class-length c.args.self.now k.group k.gens k.lifts.items k.relations.items k.degrees.items c.self.invariant c.self.view_is c.args.i c.index.result.now
+    (length (entries_of c.class.result)) c.requires c.index.ensures c.class.ensures.length G known g

@@ -1,7 +1,6 @@
 use Rattle.std.proofs.Common.{◌≡◌, ◌<◌, List, length, arith, ap, sym, ◌∙◌}
 use mathlib.Core.Path.{subst}
 use Rattle.p_groups.specs.PGroups.{largest_residue}
-use Rattle.linear_algebra.specs.Rows.{entry, IsRow, IsCombination}
 use Rattle.fp_rows.specs.Refs.{entries_of}
 use Rattle.graded_polynomials.specs.Polynomials.{Polynomial, Term}
 use Rattle.graded_algebra.specs.Presentations.{IsNormalForm}
@@ -52,8 +51,8 @@ polynomial_of-requires-clause-length c =
     let seen = seen-of c.args.self.now k.group k.gens k.lifts.items k.relations.items k.degrees.items c.self.view_is in
     let some : 0 < length k.degrees.items = (let e = seen.degree_is in omega (arith, e, c.requires.from, c.requires.to)) in
     let g = some-group k.group k.gens k.lifts.items k.relations.items k.degrees.items c.self.invariant some in
-    ap length c.view.ensures.entries ∙ c.in_ok-row.ensures.row.length_is
-    ∙ width-of-forms c.args.self.now k.group k.gens k.lifts.items k.relations.items k.degrees.items seen c.self.invariant c.args.d c.index-degree.result.now c.index-degree.ensures c.requires.from c.requires.to g.0 (seen.group_is ∙ g.1)
+    width-of-forms c.args.self.now k.group k.gens k.lifts.items k.relations.items k.degrees.items seen c.self.invariant c.args.d c.index-degree.result.now c.index-degree.ensures c.requires.from c.requires.to g.0 (seen.group_is ∙ g.1)
+    (entries_of c.args.class) (entries_of c.view.result) (c.view.ensures.entries ∙ c.in_ok-row.ensures.row)
 
 pub returns-clause-form : goal.returns-clause-form
 returns-clause-form c G known =
@@ -66,5 +65,4 @@ returns-clause-form c G known =
     (form-seen c.args.self.now k.group k.gens k.lifts.items k.relations.items k.degrees.items seen c.self.invariant c.args.d c.index-degree.result.now c.index-degree.ensures c.requires.from c.requires.to G known
     (entries_of c.args.class) (entries_of c.view.result)
     (record { length_is = c.requires.length G known; below = λ j l. (let n = c.requires.length G known in let b = c.args.class.below j (omega (arith, l, n)) in omega (arith, b, p)) })
-    (subst (IsRow c.index-degree.result.now.preimages.p c.index-degree.result.now.preimages.width) (sym c.view.ensures.entries) c.in_ok-row.ensures.row)
-    (subst (λ r. IsCombination c.index-degree.result.now.preimages.p (entry (entries_of c.args.class)) c.index-degree.result.now.preimages.rows (entry r)) (sym c.view.ensures.entries) c.in_ok-row.ensures.combination))
+    (c.view.ensures.entries ∙ c.in_ok-row.ensures.row))

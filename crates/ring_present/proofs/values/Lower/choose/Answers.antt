@@ -1,10 +1,12 @@
-use Rattle.std.proofs.Common.{ℕ, suc, length, sym, ◌∙◌}
+use Rattle.std.proofs.Common.{ℕ, suc, length, arith, ap, sym, ◌∙◌}
+use Rattle.std.proofs.lemmas.List.{length-map}
 use mathlib.Core.Path.{subst}
 use Rattle.p_groups.specs.PGroups.{PGroup}
 use Rattle.p_groups.proofs.Fields.{residues}
-use Rattle.linear_algebra.specs.Rows.{IsEchelonOf, AreInSpan}
+use Rattle.linear_algebra.specs.Rows.{row, IsEchelonOf, AreInSpan}
 use Rattle.linear_algebra.specs.Choices.{IsGreedy}
 use Rattle.min_res.specs.Stages.{rank_of}
+use Rattle.ring_present.specs.Degrees.{new_lift}
 use Rattle.ring_present.proofs.Nexts.{chosen-generators, new-lifts-are, basis-in-span}
 use Rattle.ring_present.proofs.values.Lower.choose.Goals as goal
 
@@ -19,6 +21,16 @@ new_places-requires-clause-same_width c =
 pub returns-clause-lifts : goal.returns-clause-lifts
 returns-clause-lifts c =
     new-lifts-are c.args.res.now.group (length c.args.self.now.degrees.now) c.args.basis.now.rows c.in_ok-places.places c.in_ok-lifts.lifts.items c.in_ok-lifts.ensures.lifts
+
+pub new_generators-requires-clause-few : goal.new_generators-requires-clause-few
+new_generators-requires-clause-few c = let l = c.in_ok-places.ensures.few in omega (arith, l, c.requires.few)
+
+pub returns-clause-few : goal.returns-clause-few
+returns-clause-few c =
+    let e = ap length c.in_ok-lifts.ensures.lifts in
+    let m = length-map c.in_ok-places.places (λ k. new_lift c.args.res.now.group (suc (length c.args.self.now.degrees.now)) (row c.args.basis.now.rows k)) in
+    let l = c.in_ok-places.ensures.few in
+    omega (arith, e, m, l, c.requires.few)
 
 pub returns-clause-generators : goal.returns-clause-generators
 returns-clause-generators c =

@@ -11,6 +11,7 @@ use Rattle.graded_polynomials.specs.Texts.{power}
 use Rattle.gc_poly.specs.Generators.{Generators}
 use Rattle.ring_present.specs.Degrees.{AreAll, degrees_of, new_lift, IsLiftBelow}
 use Rattle.ring_present.proofs.Lists.{map-more, index-at}
+use Rattle.ring_present.proofs.Places.{generators-few}
 use Rattle.ring_present.proofs.Factors.{positive-degrees}
 use Rattle.ring_present.proofs.Growing.{greater-than-new, lifts-below, degrees-bounded, all-added, gens-added}
 use Rattle.ring_present.proofs.values.Lower.new_generators.Goals as goal
@@ -24,6 +25,12 @@ loop-i-init c =
       all = subst (λ ls. AreAll c.args.res.now.group (suc (length c.args.self.now.degrees.now)) ls c.args.all.now) e c.requires.all;
       rows = sym (append-nil c.args.all.now.values.rows);
     }
+
+pub add_generator-requires-clause-few : goal.add_generator-requires-clause-few
+add_generator-requires-clause-few c =
+    let n : ℕ = length c.args.self.now.degrees.now in
+    generators-few c.args.self.now.lifts.now c.loop-i.lifts.items (λ k. new_lift c.args.res.now.group (suc n) (row c.args.basis.now.rows k)) c.args.places.now c.loop-i.gens
+    c.args.res.now.group.table.p c.loop-i.i n c.requires.lower.few c.requires.high (omega arith) c.requires.few c.loop-i.invariant.lifts c.loop-i.invariant.gens
 
 pub add_generator-requires-clause-order : goal.add_generator-requires-clause-order
 add_generator-requires-clause-order c =

@@ -1,4 +1,4 @@
-use Rattle.std.proofs.Common.{ℕ, suc, List, ◌++◌, length, ap, sym, ◌∙◌, refl, add-one}
+use Rattle.std.proofs.Common.{ℕ, suc, List, ◌++◌, length, arith, ap, sym, ◌∙◌, refl, add-one}
 use Rattle.std.specs.Prelude.{All}
 use mathlib.Core.Path.{subst}
 use Rattle.p_groups.specs.PGroups.{PGroup}
@@ -22,10 +22,13 @@ choose-requires-clause-basis_prime c = c.in_ok-basis.ensures.prime ∙ c.prime.e
 
 pub choose-requires-clause-basis : goal.choose-requires-clause-basis
 choose-requires-clause-basis c =
-    subst (λ r. AreUnitRows r c.in_ok-basis.basis.rows) (c.rank.ensures ∙ ap (rank_of c.args.res.now.group) (add-one (length c.args.self.now.degrees.now))) c.in_ok-basis.ensures.rows
+    subst (λ r. AreUnitRows r c.in_ok-basis.basis.rows) (c.rank.ensures.value ∙ ap (rank_of c.args.res.now.group) (add-one (length c.args.self.now.degrees.now))) c.in_ok-basis.ensures.rows
 
 pub choose-requires-clause-basis_width : goal.choose-requires-clause-basis_width
-choose-requires-clause-basis_width c = c.in_ok-basis.ensures.width ∙ c.rank.ensures ∙ ap (rank_of c.args.res.now.group) (add-one (length c.args.self.now.degrees.now))
+choose-requires-clause-basis_width c = c.in_ok-basis.ensures.width ∙ c.rank.ensures.value ∙ ap (rank_of c.args.res.now.group) (add-one (length c.args.self.now.degrees.now))
+
+pub choose-requires-clause-few : goal.choose-requires-clause-few
+choose-requires-clause-few c = let n = c.in_ok-basis.ensures.rows.count in omega (arith, n, c.rank.ensures.few)
 
 pub relations_of-requires-clause-relations : goal.relations_of-requires-clause-relations
 relations_of-requires-clause-relations c =
@@ -69,7 +72,7 @@ finished-requires-clause-prime c =
 pub finished-requires-clause-width : goal.finished-requires-clause-width
 finished-requires-clause-width c =
     let G : PGroup = c.args.res.now.group in
-    c.in_ok-basis.ensures.width ∙ c.rank.ensures ∙ ap (rank_of G) (add-one (length c.args.self.now.degrees.now)) ∙ sym c.in_ok-lifts.ensures.all.width
+    c.in_ok-basis.ensures.width ∙ c.rank.ensures.value ∙ ap (rank_of G) (add-one (length c.args.self.now.degrees.now)) ∙ sym c.in_ok-lifts.ensures.all.width
 
 pub finished-requires-clause-spans : goal.finished-requires-clause-spans
 finished-requires-clause-spans c = c.in_ok-lifts.ensures.spans
@@ -87,6 +90,7 @@ returns c =
     record {
       gens_are = c.in_ok-lifts.ensures.gens;
       lifts_are = c.in_ok-lifts.ensures.lifts;
+      few = c.in_ok-lifts.ensures.few;
       presentation = record {
         generators_are = c.in_ok-lifts.ensures.generators;
         relations_are = relations-next G n c.args.self.now.lifts.now c.in_ok-lifts.lifts.items c.args.relations.now c.requires.presentation.relations_are c.in_ok-lifts.ensures.lifts
@@ -95,6 +99,6 @@ returns c =
             c.in_ok-kernel.ensures.rows;
       };
       degree_is = next-degree-is G (suc n) lifts w D c.in_ok-kernel.kernel.rows c.in_ok-basis.basis.rows c.in_ok-lifts.ensures.all c.in_ok-kernel.ensures.rows
-          (subst (λ r. AreUnitRows r c.in_ok-basis.basis.rows) (c.rank.ensures ∙ ap (rank_of G) (add-one n)) c.in_ok-basis.ensures.rows)
+          (subst (λ r. AreUnitRows r c.in_ok-basis.basis.rows) (c.rank.ensures.value ∙ ap (rank_of G) (add-one n)) c.in_ok-basis.ensures.rows)
           c.in_ok-degree.ensures.all c.in_ok-degree.ensures.monomials c.in_ok-degree.ensures.values c.in_ok-degree.ensures.prime c.in_ok-degree.ensures.width c.in_ok-degree.ensures.preimages;
     }

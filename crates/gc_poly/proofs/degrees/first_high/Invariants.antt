@@ -1,5 +1,0 @@
-use Rattle.std.proofs.Common.{ℕ, ◌<◌, ◌≤◌, get_or}
-use Rattle.gc_poly.proofs.degrees.first_high.Given as goal
-
-abbrev pub invariant-loop-e : goal.invariant-loop-e
-invariant-loop-e l = (k : ℕ) → k < l.e-index → get_or l.degrees k 0 ≤ 24

@@ -1,7 +1,0 @@
-use Rattle.std.proofs.Common.{◌≡◌, ◌-◌, take, Some}
-use Rattle.gc_poly.specs.declared.syntax.State.TheVariants.{Start}
-use Rattle.gc_poly.specs.Automaton.{run}
-use Rattle.gc_poly.proofs.syntax.stop.Given as goal
-
-abbrev pub invariant-loop-i : goal.invariant-loop-i
-invariant-loop-i l = run (l.p - 1) Start (take l.i l.text) ≡ Some l.state

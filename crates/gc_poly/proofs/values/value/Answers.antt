@@ -1,9 +1,0 @@
-use Rattle.polynomial_texts.specs.Readings.{term_degree}
-use Rattle.gc_poly.proofs.ValueLemmas.{value-step}
-use Rattle.gc_poly.proofs.values.value.Goals as goal
-
-pub loop-t-preserved : goal.loop-t-preserved
-loop-t-preserved c =
-    value-step c.args.gens.now c.args.degree (term_degree c.args.gens.now.degrees c.t-item.result) c.args.terms.now c.loop-t.t-index
-    c.t-item.result c.loop-t.out c.in_ok-value.value c.add_multiple.new.out
-    c.loop-t-test.true c.t-item.is c.loop-t.invariant c.in_ok-value.ensures c.in_ok-add_multiple.ensures
