@@ -1,3 +1,4 @@
 pub mod LineLists
 pub mod OneReport
 pub mod Composing
+pub mod ReportExists
