@@ -14,7 +14,7 @@ use Rattle.ring_present.specs.declared.fault.RingFault.TheVariants as fault
 use Rattle.coho_report.specs.Values.{AreOver}
 use Rattle.coho_report.specs.Reports.{HasFewMonomials}
 use Rattle.coho_report.specs.Refusals.{IsRefusal, passed_up}
-use Rattle.coho_report.proofs.OneReport.{span-generators-unique}
+use Rattle.graded_algebra.proofs.SpansUnique.{span-generators-unique}
 
 -- ---- the relations are over the generators
 

@@ -7,6 +7,7 @@ use Rattle.graded_polynomials.specs.Polynomials.{Polynomial}
 use Rattle.graded_algebra.specs.Algebras.{Algebra, Generator, degrees, evaluate}
 use Rattle.graded_algebra.specs.Presentations.{IsChosen, IsSpanGenerators, IsRelations, generators_of}
 use Rattle.graded_algebra.specs.Vectors.{Vector}
+use Rattle.graded_algebra.proofs.SpansUnique.{span-generators-unique}
 use Rattle.graded_algebra.proofs.Unique.{relations-unique}
 use Rattle.graded_algebra.proofs.VectorLemmas.{vector-space}
 use Rattle.chain_lift.specs.Products.{multiply}

@@ -11,7 +11,7 @@ use Rattle.group_modules.proofs.SumLaws.{total-only}
 use Rattle.group_modules.specs.Tables.{monoid, Table, block-sum}
 use Rattle.p_groups.specs.PGroups.{PGroup, largest_residue, group}
 use Rattle.group_algebra.specs.Coordinates.{layer_coordinates}
-use Rattle.group_algebra.specs.Coordinates as coordinates
+use Rattle.p_groups.proofs.Fields as fields
 use Rattle.graded_algebra.specs.Vectors.{Vector, residue, unit}
 use Rattle.presentation_rows.specs.Values.{vector}
 use Rattle.min_res.specs.Stages.{stage_rows, rank_of}
@@ -38,7 +38,7 @@ module _ (G : PGroup) where
       ∙ total-only (Fp q (monoid (group G))) 1 f (field.residue 0 0) (λ y ne. absurd (ne (let l : y.0 < 1 = y.1 in omega (arith, l))))
       ∙ ap (λ (b : Below (suc q)). times (plus q) (residue q 0) b.0 (residue q 1)) (sum-multiple q (group G) (w i.0))
       ∙ times-residue q (w i.0).0 (residue q 1)
-      ∙ ap (residue q) (ap (λ x. (w i.0).0 * x) (mod-eq_of_lt (coordinates.field G).above_one) ∙ omega arith)
+      ∙ ap (residue q) (ap (λ x. (w i.0).0 * x) (mod-eq_of_lt (fields.field G).above_one) ∙ omega arith)
       ∙ residue-self q (w i.0)
     where
       v : (Table q (group G) 1).of
