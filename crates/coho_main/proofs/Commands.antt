@@ -10,6 +10,7 @@ use Rattle.std.specs.Str.{bytes_eq}
 use Rattle.std.specs.List.{list_all}
 use Rattle.pc_text.specs.Numerals.{numeral}
 use Rattle.std.specs.declared.result.Result.TheVariants.{Ok, Err}
+use Rattle.limits.specs.declared.TheConstants.{GREATEST_DEGREE}
 use Rattle.clap.specs.declared.error.kind.ErrorKind.{ErrorKind}
 use Rattle.clap.specs.declared.error.kind.ErrorKind.TheVariants as kind
 use Rattle.coho_main.specs.declared.cause.Cause.TheVariants as cause
@@ -55,13 +56,13 @@ same_degree make a (Some n) = refl
 resolve_at : (rest : List Text) → list_all is_path rest ≡ true → command (codes "resolve" ∷ rest) ≡ of_degree Resolve (file_and_degree (codes "resolve" ∷ rest))
 resolve_at [] h = refl
 resolve_at (a ∷ []) h = refl
-resolve_at (a ∷ b ∷ []) h = rw (both (is_path a) _ h).0 (same_degree Resolve a (numeral 1 24 b))
+resolve_at (a ∷ b ∷ []) h = rw (both (is_path a) _ h).0 (same_degree Resolve a (numeral 1 GREATEST_DEGREE b))
 resolve_at (a ∷ b ∷ c ∷ rest) h = refl
 
 ring_at : (rest : List Text) → list_all is_path rest ≡ true → command (codes "ring" ∷ rest) ≡ of_degree Ring (file_and_degree (codes "ring" ∷ rest))
 ring_at [] h = refl
 ring_at (a ∷ []) h = refl
-ring_at (a ∷ b ∷ []) h = rw (both (is_path a) _ h).0 (same_degree Ring a (numeral 1 24 b))
+ring_at (a ∷ b ∷ []) h = rw (both (is_path a) _ h).0 (same_degree Ring a (numeral 1 GREATEST_DEGREE b))
 ring_at (a ∷ b ∷ c ∷ rest) h = refl
 
 pub group_is : (name : Text) (rest : List Text) → list_all is_path (name ∷ rest) ≡ true → bytes_eq name (codes "group") ≡ true → command (name ∷ rest) ≡ option_map Group (one_operand (name ∷ rest))
@@ -84,14 +85,14 @@ other_is name (a ∷ []) g r s = rw g refl
 other_is name (a ∷ b ∷ []) g r s = rw (r, s) refl
 other_is name (a ∷ b ∷ c ∷ rest) g r s = refl
 
-dash_first : (word : Text) → is_path word ≡ false → numeral 1 24 word ≡ None
+dash_first : (word : Text) → is_path word ≡ false → numeral 1 GREATEST_DEGREE word ≡ None
 dash_first [] h = refl
-dash_first (b ∷ bs) h = subst (λ b. numeral 1 24 (b ∷ bs) ≡ None) (sym dash) (at bs)
+dash_first (b ∷ bs) h = subst (λ b. numeral 1 GREATEST_DEGREE (b ∷ bs) ≡ None) (sym dash) (at bs)
   where
     dash : b ≡ 45
     dash = let e = negated (b == 45) h in grind (arith, nat_tests)
 
-    at : (bs : Text) → numeral 1 24 (45 ∷ bs) ≡ None
+    at : (bs : Text) → numeral 1 GREATEST_DEGREE (45 ∷ bs) ≡ None
     at [] = refl
     at (c ∷ bs) = refl
 
@@ -121,8 +122,8 @@ dashed_is (name ∷ a ∷ []) h =
     unless (bytes_eq name (codes "group")) (is_path a) (Some (Group a)) None (λ e p. absurd (true≢false (after_file a [] (after_name name (codes "group") (a ∷ []) h refl e) p))) refl
 dashed_is (name ∷ a ∷ b ∷ []) h =
     let no_degree = λ (known : Text) (k : is_path known ≡ true) (e : bytes_eq name known ≡ true) (p : is_path a ≡ true). dash_first b (ends b (after_file a (b ∷ []) (after_name name known (a ∷ b ∷ []) h k e) p)) in
-    unless (bytes_eq name (codes "resolve")) (is_path a) (option_map (Resolve a) (numeral 1 24 b)) _ (λ e p. ap (option_map (Resolve a)) (no_degree (codes "resolve") refl e p))
-    (unless (bytes_eq name (codes "ring")) (is_path a) (option_map (Ring a) (numeral 1 24 b)) None (λ e p. ap (option_map (Ring a)) (no_degree (codes "ring") refl e p)) refl)
+    unless (bytes_eq name (codes "resolve")) (is_path a) (option_map (Resolve a) (numeral 1 GREATEST_DEGREE b)) _ (λ e p. ap (option_map (Resolve a)) (no_degree (codes "resolve") refl e p))
+    (unless (bytes_eq name (codes "ring")) (is_path a) (option_map (Ring a) (numeral 1 GREATEST_DEGREE b)) None (λ e p. ap (option_map (Ring a)) (no_degree (codes "ring") refl e p)) refl)
 dashed_is (name ∷ a ∷ b ∷ c ∷ rest) h = refl
 
 -- ---- so the words are read as their command says
@@ -169,10 +170,10 @@ stopped words P (stop.Read path) h none = absurd h
 stopped words P stop.Write h none = absurd h
 stopped words P stop.Memory h none = tt
 
-pub degree_found : (words : List Text) (path word : Text) (n : ℕ) → two_operands words ≡ Some (path, word) → numeral 1 24 word ≡ Some n → file_and_degree words ≡ Some (path, n)
+pub degree_found : (words : List Text) (path word : Text) (n : ℕ) → two_operands words ≡ Some (path, word) → numeral 1 GREATEST_DEGREE word ≡ Some n → file_and_degree words ≡ Some (path, n)
 degree_found words path word n is number = ap (option_and_then with_degree) is ∙ ap (option_map (λ n. (path, n))) number
 
-pub degree_none : (words : List Text) (path word : Text) → two_operands words ≡ Some (path, word) → numeral 1 24 word ≡ None → file_and_degree words ≡ None
+pub degree_none : (words : List Text) (path word : Text) → two_operands words ≡ Some (path, word) → numeral 1 GREATEST_DEGREE word ≡ None → file_and_degree words ≡ None
 degree_none words path word is number = ap (option_and_then with_degree) is ∙ ap (option_map (λ n. (path, n))) number
 
 pub operands_none : (words : List Text) (k : ErrorKind) → (k ≡ kind.OutOfMemory) ⊎ (two_operands words ≡ None) → (k ≡ kind.OutOfMemory) ⊎ (file_and_degree words ≡ None)

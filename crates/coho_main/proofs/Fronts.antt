@@ -6,6 +6,7 @@ use Rattle.std.proofs.Math.Seq.{take-add}
 use Rattle.coho_io.specs.Content.{Content, ReadsAt}
 use Rattle.std.specs.declared.result.Result.TheVariants.{Ok, Err}
 use Rattle.std.specs.Option.{IfSome, option_map}
+use Rattle.limits.specs.declared.TheConstants.{LONGEST_TEXT}
 use Rattle.coho_main.specs.declared.stop.Stop.{Stop}
 use Rattle.coho_main.specs.declared.stop.Stop.TheVariants as stop
 use Rattle.coho_main.specs.Steps.{Step, OrRefuse}
@@ -29,21 +30,21 @@ reads_more (Some bytes) text buf new k n room at r e = (
   λ z. elim (r.1 z) [ inl none ↦ absurd (omega arith) | inr end ↦ omega arith ],
 )
 
--- at its end, and at 65,537 bytes, the whole front was read
-pub at_end : (bytes text : List ℕ) → text ≡ take (length text) bytes → length bytes ≤ length text → length text ≤ 65537 → text ≡ take 65537 bytes
-at_end bytes text h end bound = h ∙ take_all (length text) bytes end ∙ sym (take_all 65537 bytes (omega arith))
+-- at its end, and at one byte more than a text may have, the whole front was read
+pub at_end : (bytes text : List ℕ) → text ≡ take (length text) bytes → length bytes ≤ length text → length text ≤ LONGEST_TEXT + 1 → text ≡ take (LONGEST_TEXT + 1) bytes
+at_end bytes text h end bound = h ∙ take_all (length text) bytes end ∙ sym (take_all (LONGEST_TEXT + 1) bytes (omega arith))
 
 -- the bytes of a file, or the refusal of a read where it is missing
 abbrev ReadsAs : List ℕ → Option (List ℕ) → Content → List ℕ → Type 0
-ReadsAs path o told text = OrRefuse (read_refused path) (option_map (take 65537) o) told (Ok text) told
+ReadsAs path o told text = OrRefuse (read_refused path) (option_map (take (LONGEST_TEXT + 1)) o) told (Ok text) told
 
-pub reads_to_end : (o : Option (List ℕ)) (path old new : List ℕ) (told : Content) (k : ℕ) → IsFrontOf o old → ReadsMore o old new k → k ≡ 0 → length new ≡ length old + k → length new ≤ 65537 → ReadsAs path o told new
+pub reads_to_end : (o : Option (List ℕ)) (path old new : List ℕ) (told : Content) (k : ℕ) → IsFrontOf o old → ReadsMore o old new k → k ≡ 0 → length new ≡ length old + k → length new ≤ LONGEST_TEXT + 1 → ReadsAs path o told new
 reads_to_end None path old new told k front more z len bound = absurd more
 reads_to_end (Some bytes) path old new told k front more z len bound = let end = more.1 z in (ap (λ t. Ok t) (at_end bytes new (more.0 front) (omega arith) bound), refl)
 
-pub reads_to_limit : (o : Option (List ℕ)) (path text : List ℕ) (told : Content) → IsFrontOf o text → 65537 ≤ length text → length text ≤ 65537 → ReadsAs path o told text
+pub reads_to_limit : (o : Option (List ℕ)) (path text : List ℕ) (told : Content) → IsFrontOf o text → LONGEST_TEXT + 1 ≤ length text → length text ≤ LONGEST_TEXT + 1 → ReadsAs path o told text
 reads_to_limit None path text told front full bound = let e = ap length front in absurd (omega arith)
-reads_to_limit (Some bytes) path text told front full bound = let e : length text ≡ 65537 = omega arith in (ap (λ t. Ok t) (front ∙ ap (λ n. take n bytes) e), refl)
+reads_to_limit (Some bytes) path text told front full bound = let e : length text ≡ LONGEST_TEXT + 1 = omega arith in (ap (λ t. Ok t) (front ∙ ap (λ n. take n bytes) e), refl)
 
 -- a fault says nothing of the step
 pub fault_meets : {T A : Type 0} (view : T → A) (step : Step A) (old new : Content) (path : List ℕ) (before now : List ℕ → ℕ) (s : Stop) → IsReadStop path before now s → Meets view step old new (Err s)

@@ -14,3 +14,6 @@ pub mod Usage
 pub mod ParsedWords
 pub mod Commands
 pub mod Run
+pub mod TableExists
+pub mod StagesExist
+pub mod OutcomeExists

@@ -1,8 +1,9 @@
 -- The steps to a consistent presentation, as the calls make them.
-use Rattle.std.proofs.Common.{◌≡◌, ◌≤◌, List, ℕ, length, Vec, Global, Some}
+use Rattle.std.proofs.Common.{◌≡◌, ◌+◌, ◌≤◌, List, ℕ, length, Vec, Global, Some}
 use Rattle.std.specs.declared.option.Option.{Option}
 use Rattle.std.specs.declared.result.Result.{Result}
 use Rattle.std.specs.declared.result.Result.TheVariants.{Ok, Err}
+use Rattle.limits.specs.declared.TheConstants.{LONGEST_TEXT}
 use Rattle.coho_io.specs.Content.{Content}
 use Rattle.power_commutator.specs.Presentations.{Presentation}
 use Rattle.coho_main.specs.declared.stop.Stop.{Stop}
@@ -53,7 +54,7 @@ module _ (known : Option Content) (path : List ℕ) where
       let some = some_files known in
       (some.0, some.1, at_stop items itself (ReadFront path) Describe some.0 some.0 s (fault_meets items (ReadFront path) some.0 some.0 path before now s h))
 
-  pub load_then : (text : List ℕ) (r : Result Presentation Stop) → ((told : Content) → known ≡ Some told → ReadFront path told (Ok text) told) → length text ≤ 65537 → Settles itself (Describe text) r → OfFiles known (λ files. Meets itself (Load path) files files r)
+  pub load_then : (text : List ℕ) (r : Result Presentation Stop) → ((told : Content) → known ≡ Some told → ReadFront path told (Ok text) told) → length text ≤ LONGEST_TEXT + 1 → Settles itself (Describe text) r → OfFiles known (λ files. Meets itself (Load path) files files r)
   load_then text r read bound h =
       let some = read_of_some_files known path text read bound in
       (some.0, some.1, after_ok (λ (text : List ℕ). text) itself (ReadFront path) Describe some.0 some.0 some.0 text r some.2 (settled_meets itself (Describe text) some.0 r h))

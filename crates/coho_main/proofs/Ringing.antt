@@ -1,5 +1,6 @@
 -- The report on the ring of a presentation's group, from its resolution.
 use Rattle.std.proofs.Common.{◌≡◌, ℕ, List, ◌≤◌, ap, subst, sym, ◌∙◌, arith}
+use Rattle.limits.specs.declared.TheConstants.{MOST_MONOMIALS}
 use Rattle.p_groups.specs.PGroups.{PGroup}
 use Rattle.power_commutator.specs.Presentations.{Presentation}
 use Rattle.min_res.specs.Values.{ResolutionValue}
@@ -21,10 +22,10 @@ module _ (P : Presentation) (n : ℕ) (r : ResolutionValue) (R : IsResolutionTo 
   pub fit_of : HasFitStages P n
   fit_of = record { group = r.group; is_table = R.is_table; fit = R.fit }
 
-  pub report_of : (report : ReportValue) → HasFewMonomials r.group n 4096 → IsReport r.group n report → IsReportOf P n report
+  pub report_of : (report : ReportValue) → HasFewMonomials r.group n MOST_MONOMIALS → IsReport r.group n report → IsReportOf P n report
   report_of report few is = record { group = r.group; is_table = R.is_table; few = few; is = is }
 
-  pub report_stop : (e : ReportFault) → IsRefusal r.group n 4096 e → IsReportStop P n (stop_of e)
+  pub report_stop : (e : ReportFault) → IsRefusal r.group n MOST_MONOMIALS e → IsReportStop P n (stop_of e)
   report_stop (fault.TooManyMonomials d X) first = record { group = r.group; is_table = R.is_table; is_first = first }
   report_stop fault.Memory first = tt
 
@@ -34,8 +35,8 @@ module _ (P : Presentation) (n : ℕ) where
   moved_report : (G H : PGroup) (report : ReportValue) → G ≡ H → IsReport H n report → IsReport G n report
   moved_report G H report same is = subst (λ G. IsReport G n report) (sym same) is
 
-  moved_first : (G H : PGroup) (d X : ℕ) → G ≡ H → IsFirstTooMany H n 4096 d X → IsFirstTooMany G n 4096 d X
-  moved_first G H d X same first = subst (λ G. IsFirstTooMany G n 4096 d X) (sym same) first
+  moved_first : (G H : PGroup) (d X : ℕ) → G ≡ H → IsFirstTooMany H n MOST_MONOMIALS d X → IsFirstTooMany G n MOST_MONOMIALS d X
+  moved_first G H d X same first = subst (λ G. IsFirstTooMany G n MOST_MONOMIALS d X) (sym same) first
 
   pub same_report : (r s : ReportValue) → IsReportOf P n r → IsReportOf P n s → r ≡ s
   same_report r s a b =
@@ -48,7 +49,7 @@ module _ (P : Presentation) (n : ℕ) where
 
   pub same_degree : (d X c Y : ℕ) → HasTooMany P n d X → HasTooMany P n c Y → (d ≡ c) × (X ≡ Y)
   same_degree d X c Y a b =
-      one_refusal a.group n 4096 d X c Y a.is_first (moved_first a.group b.group c Y (one_table P a.group b.group a.is_table b.is_table) b.is_first)
+      one_refusal a.group n MOST_MONOMIALS d X c Y a.is_first (moved_first a.group b.group c Y (one_table P a.group b.group a.is_table b.is_table) b.is_first)
 
   moved_above : (G H : PGroup) (d X : ℕ) → G ≡ H → IsFirstAbove H n d X → IsFirstAbove G n d X
   moved_above G H d X same first = subst (λ G. IsFirstAbove G n d X) (sym same) first

@@ -20,10 +20,9 @@ use Rattle.coho_main.specs.declared.cause.Cause.TheVariants as cause
 use Rattle.coho_main.specs.Refusals.{words_refused, read_refused, write_refused, memory_refused}
 use Rattle.coho_main.specs.Steps.{Refusal}
 use Rattle.coho_main.specs.Stops.{refusal_of, told, Meets, HasReadCause, IsWriteStop}
-use Rattle.coho_main.specs.Run.{Agrees, OfFiles, IsSettled, Tells, EndsAs, AnswersFront, WroteFront, MayTell, ToldFront, NoReadFault}
+use Rattle.coho_main.specs.Run.{Agrees, Answers, OfFiles, IsSettled, Leaves, Tells, EndsAs, AnswersFront, MayTell, ToldFront, WantsMemory, NoReadFault}
 use Rattle.coho_main.specs.Words.{Command, IsRead, command}
 use Rattle.coho_main.proofs.Replies.{Lines, lines_of, MeetsOf}
-use Rattle.coho_main.proofs.Seen.{some_files}
 use Rattle.coho_main.proofs.Unique.{outcome_unique}
 use Rattle.coho_main.proofs.Usage.{usage_is, none_comes}
 
@@ -157,18 +156,18 @@ module _ (words : List (List ℕ)) (known : Option Content) where
   pub told_meets : (r : Result Lines Stop) → MeetsOf lines_of (Comes words) known r → (told : Content) → known ≡ Some told → Meets lines_of (Comes words) told told r
   told_meets r k told is = subst (λ files. Meets lines_of (Comes words) files files r) (sym (k.1 told is)) k.2
 
-  agree : (now : Option Content) (files : Content) → now ≡ known → Agrees known files → Agrees now files
-  agree now files same h = λ told e. h told (sym same ∙ e)
+  leaves : (now : Option Content) (files : Content) → now ≡ known → Agrees known files → Leaves known now files
+  leaves now files same h = λ told e. same ∙ e ∙ ap (λ c. Some c) (h told e)
 
 module _ (words : List (List ℕ)) (known now : Option Content) (same : now ≡ known) (out err err_now : Option (List ℕ)) (n m : ℕ) where
   abbrev EndsHere : Status → Option (List ℕ) → Content → Type 0
-  EndsHere answer out_after files = (e : Ending) × Outcome words files e × EndsAs e answer now out out_after err err_now n m
+  EndsHere answer out_after files = (e : Ending) × Outcome words files e × EndsAs e answer known now out out_after err err_now n m
 
   -- the run stopped before it wrote
   refused : (s : Stop) (answer : Status) → IsSettled answer → Reported s answer err err_now n m → (files : Content) → Agrees known files → Comes words files (Err (told s)) files → EndsHere answer out files
   refused s answer h r files agrees k =
       let t = r (not_memory answer h) in
-      (ending (Err (told s)) files, (Err (told s), files, k, refl), record { same_status = t.0; same_files = agree words known now files same agrees; on_out = Appends_nothing out; on_err = t.1 })
+      (ending (Err (told s)) files, (Err (told s), files, k, refl), record { same_status = t.0; same_files = leaves words known now files same agrees; on_out = Appends_nothing out; on_err = t.1 })
 
   unsettled : {A : Type 0} (s : Stop) (answer : Status) → IsSettled answer → Reported s answer err err_now n m → (IsSettled (told s).status → ⊥) → A
   unsettled s answer h r none = absurd (none (subst IsSettled (r (not_memory answer h)).0 h))
@@ -181,9 +180,9 @@ module _ (words : List (List ℕ)) (known now : Option Content) (same : now ≡ 
 
 module _ (words : List (List ℕ)) (known : Option Content) (out out_now err err_now : Option (List ℕ)) where
   -- the run wrote all of the answer
-  pub wrote_all : (lines : Lines) (now : Option Content) (n : ℕ) → now ≡ known → MeetsOf lines_of (Comes words) known (Ok lines) → Appends out out_now (concat (lines_of lines)) → OfFiles known (λ files. (e : Ending) × Outcome words files e × EndsAs e status.Answered now out out_now err err n n)
+  pub wrote_all : (lines : Lines) (now : Option Content) (n : ℕ) → now ≡ known → MeetsOf lines_of (Comes words) known (Ok lines) → Appends out out_now (concat (lines_of lines)) → OfFiles known (λ files. (e : Ending) × Outcome words files e × EndsAs e status.Answered known now out out_now err err n n)
   wrote_all lines now n same k h =
-      (k.0, k.1, (ending (Ok (lines_of lines)) k.0, (Ok (lines_of lines), k.0, k.2, refl), record { same_status = refl; same_files = agree words known now k.0 same k.1; on_out = h; on_err = (0, Appends_nothing err, λ lt. absurd (omega arith)) }))
+      (k.0, k.1, (ending (Ok (lines_of lines)) k.0, (Ok (lines_of lines), k.0, k.2, refl), record { same_status = refl; same_files = leaves words known now k.0 same k.1; on_out = h; on_err = (0, Appends_nothing err, λ lt. absurd (omega arith)) }))
 
   -- the run wrote the first bytes of the answer
   pub wrote_front : (lines : Lines) → MeetsOf lines_of (Comes words) known (Ok lines) → AppendsFront out out_now (concat (lines_of lines)) → OfFiles known (AnswersFront words out out_now)
@@ -204,28 +203,23 @@ module _ (words : List (List ℕ)) (known : Option Content) (out out_now err err
     own_line s files k h (inr other) = (memory_refused.line, other, inl refl)
 
     -- a run that stopped before it wrote, and then wanted memory
-    pub line_of_stop : (s : Stop) → MeetsOf lines_of (Comes words) known (Err s) → HasReadCause (IsRead words) before now s → AppendsFront err err_now (told s).line ⊎ AppendsFront err err_now memory_refused.line → OfFiles known (ToldFront words ReadFailed Written err err_now)
-    line_of_stop s k h told = (k.0, k.1, own_line s k.0 k.2 h told)
-
-  -- a run that wrote the first bytes of the answer, and then wanted memory
-  pub answer_front : OfFiles known (AnswersFront words out out_now) → OfFiles known (WroteFront words out out_now)
-  answer_front w = (w.0, w.1, inr w.2)
+    pub memory_of_stop : (s : Stop) → out ≡ out_now → MeetsOf lines_of (Comes words) known (Err s) → HasReadCause (IsRead words) before now s → AppendsFront err err_now (told s).line ⊎ AppendsFront err err_now memory_refused.line
+        → OfFiles known (WantsMemory words ReadFailed Written out out_now err err_now)
+    memory_of_stop s same k h told = (k.0, k.1, record { on_out = inl same; on_err = own_line s k.0 k.2 h told })
 
   module _ (before now : List ℕ → ℕ) (n m : ℕ) where
-    abbrev write_lines_told : Stop → Content → Type 0
-    write_lines_told s files = ToldFront words (λ path. IsRead words path × Rose (before path) (now path)) (Rose n m) err err_now files
+    abbrev ReadRose : List ℕ → Type 0
+    ReadRose path = IsRead words path × Rose (before path) (now path)
 
-    written_line : (s : Stop) (files : Content) → IsWriteStop n m s → AppendsFront err err_now (told s).line ⊎ AppendsFront err err_now memory_refused.line → write_lines_told s files
-    written_line (stop.Refused why) files h line = absurd h
-    written_line (stop.Read path) files h line = absurd h
-    written_line stop.Write files h (inl own) = (write_refused.line, own, inr (inr (inr (h, refl))))
-    written_line stop.Write files h (inr other) = (memory_refused.line, other, inl refl)
-    written_line stop.Memory files h (inl own) = (memory_refused.line, own, inl refl)
-    written_line stop.Memory files h (inr other) = (memory_refused.line, other, inl refl)
+    written_line : (s : Stop) (files : Content) → Answers words files → IsWriteStop n m s → AppendsFront err err_now (told s).line ⊎ AppendsFront err err_now memory_refused.line → ToldFront words ReadRose (Rose n m) err err_now files
+    written_line (stop.Refused why) files is h line = absurd h
+    written_line (stop.Read path) files is h line = absurd h
+    written_line stop.Write files is h (inl own) = (write_refused.line, own, inr (inr (inr (h, is, refl))))
+    written_line stop.Write files is h (inr other) = (memory_refused.line, other, inl refl)
+    written_line stop.Memory files is h (inl own) = (memory_refused.line, own, inl refl)
+    written_line stop.Memory files is h (inr other) = (memory_refused.line, other, inl refl)
 
-    pub line_of_write : (s : Stop) → IsWriteStop n m s → AppendsFront err err_now (told s).line ⊎ AppendsFront err err_now memory_refused.line → OfFiles known (write_lines_told s)
-    line_of_write s h line = let some = some_files known in (some.0, some.1, written_line s some.0 h line)
-
--- a run that wrote nothing
-pub nothing_written : (words : List (List ℕ)) (known : Option Content) (out : Option (List ℕ)) → OfFiles known (WroteFront words out out)
-nothing_written words known out = let some = some_files known in (some.0, some.1, inl refl)
+    -- a run that wrote the first bytes of the answer, and then wanted memory
+    pub memory_of_write : (s : Stop) → OfFiles known (AnswersFront words out out_now) → IsWriteStop n m s → AppendsFront err err_now (told s).line ⊎ AppendsFront err err_now memory_refused.line
+        → OfFiles known (WantsMemory words ReadRose (Rose n m) out out_now err err_now)
+    memory_of_write s w h line = let is = w.2 in (w.0, w.1, record { on_out = inr is; on_err = written_line s w.0 (is.0, is.1, is.2) h line })

@@ -8,8 +8,8 @@ use Rattle.std.specs.declared.result.Result.TheVariants.{Ok, Err}
 use Rattle.std.specs.Option.{option_map}
 use Rattle.std.proofs.lemmas.List.{take_more, append-nil}
 use Rattle.std.proofs.lemmas.Grind.{flat_map-append}
-use Rattle.group_table.specs.Tables.{order}
-use Rattle.p_groups.specs.PGroups.{PGroup}
+use Rattle.limits.specs.declared.TheConstants.{GREATEST_DIMENSION}
+use Rattle.p_groups.specs.PGroups.{PGroup, order_of}
 use Rattle.min_res.specs.declared.fault.ResFault.{ResFault}
 use Rattle.min_res.specs.declared.fault.ResFault.TheVariants as fault
 use Rattle.min_res.specs.Values.{BoundaryValue, StageValue, ResolutionValue, boundary_of, no_rows}
@@ -95,10 +95,10 @@ module _ (G : PGroup) where
   split (suc d) (suc i) l = elim (split d i (omega arith)) [ inl k ↦ inl (omega arith) | inr k ↦ inr (omega arith) ]
 
   -- one stage more fits
-  fit_more : (i : ℕ) → Fit G i → dimension G (suc i) ≤ 4096 → Fit G (i + 1)
-  fit_more i fit top d from to = elim (split d i (omega arith)) [ inl k ↦ fit d from k | inr k ↦ subst (λ d. dimension G d ≤ 4096) (sym k) top ]
+  fit_more : (i : ℕ) → Fit G i → dimension G (suc i) ≤ GREATEST_DIMENSION → Fit G (i + 1)
+  fit_more i fit top d from to = elim (split d i (omega arith)) [ inl k ↦ fit d from k | inr k ↦ subst (λ d. dimension G d ≤ GREATEST_DIMENSION) (sym k) top ]
 
-  first_fault : (i n : ℕ) (e : ResFault) → i < n → Fit G i → IsRefusal G (suc i) 4096 e → IsStageFault G n e
+  first_fault : (i n : ℕ) (e : ResFault) → i < n → Fit G i → IsRefusal G (suc i) GREATEST_DIMENSION e → IsStageFault G n e
   first_fault i n (fault.TooLarge d X) lt fit r =
       let is = r.0 in
       record {
@@ -136,26 +136,28 @@ lines_next G lines more line text d old is same push =
 
 -- a resolution that grows from its start
 
-module _ (start now : ResolutionValue) (i : ℕ) (same : now ≡ record start { last = i }) where
-  pub grown_next : (new : ResolutionValue) → new ≡ record now { last = suc now.last } → new ≡ record start { last = i + 1 }
-  grown_next new e =
-      let next : suc i ≡ i + 1 = omega arith in
-      e ∙ ap (λ (r : ResolutionValue). record r { last = suc r.last }) same ∙ ap (λ k. record start { last = k }) next
+module _ (G H : PGroup) (i last : ℕ) (same : H ≡ G) (at : last ≡ i) where
+  pub fit_next : Fit G i → order_of H * rank_of H (suc last) ≤ GREATEST_DIMENSION → Fit G (i + 1)
+  fit_next fit within =
+      fit_more G i fit
+      (subst (λ K. order_of K * rank_of K (suc i) ≤ GREATEST_DIMENSION) same
+      (subst (λ k. order_of H * rank_of H (suc k) ≤ GREATEST_DIMENSION) at within))
 
-  pub fit_next : Fit start.group i → order now.group.table * rank_of now.group (suc now.last) ≤ 4096 → Fit start.group (i + 1)
-  fit_next fit within = fit_more start.group i fit (subst (λ (r : ResolutionValue). order r.group.table * rank_of r.group (suc r.last) ≤ 4096) same within)
-
-  pub fault_first : (n : ℕ) (e : ResFault) → i < n → Fit start.group i → IsRefusal now.group (suc now.last) 4096 e → IsStageFault start.group n e
-  fault_first n e lt fit within = first_fault start.group i n e lt fit (subst (λ (r : ResolutionValue). IsRefusal r.group (suc r.last) 4096 e) same within)
+  pub fault_first : (n : ℕ) (e : ResFault) → i < n → Fit G i → IsRefusal H (suc last) GREATEST_DIMENSION e → IsStageFault G n e
+  fault_first n e lt fit within =
+      first_fault G i n e lt fit
+      (subst (λ K. IsRefusal K (suc i) GREATEST_DIMENSION e) same
+      (subst (λ k. IsRefusal H (suc k) GREATEST_DIMENSION e) at within))
 
 -- the resolution of a presentation
 
 module _ (P : Presentation) (n : ℕ) (G : PGroup) (start : ResolutionValue) (is : IsTableOf P G) (from : start ≡ record { group = G; last = 0 }) where
-  pub resolution_to : (new : ResolutionValue) → new ≡ record start { last = n } → Fit start.group n → IsResolutionTo P n new
-  resolution_to new e fit =
-      let whole : new ≡ record { group = G; last = n } = e ∙ ap (λ (r : ResolutionValue). record r { last = n }) from in
-      let fits = subst (λ (r : ResolutionValue). Fit r.group n) from fit in
-      subst (IsResolutionTo P n) (sym whole) (record { is_table = is; last = refl; fit = fits })
+  pub resolution_to : (new : ResolutionValue) → new.group ≡ start.group → new.last ≡ n → Fit start.group n → IsResolutionTo P n new
+  resolution_to new same last fit = record {
+    is_table = subst (IsTableOf P) (sym (same ∙ ap (λ (r : ResolutionValue). r.group) from)) is;
+    last = last;
+    fit = subst (λ K. Fit K n) (sym same) fit;
+  }
 
   pub stage_stop : (e : ResFault) → IsStageFault start.group n e → IsStageStop P n (stop_of e)
   stage_stop (fault.TooLarge d X) first = record { group = G; is_table = is; is_first = subst (λ (r : ResolutionValue). IsFirstAbove r.group n d X) from first }

@@ -6,6 +6,7 @@ use Rattle.std.specs.declared.result.Result.{Result}
 use Rattle.std.specs.declared.result.Result.TheVariants.{Ok, Err}
 use Rattle.std.specs.List.{concat}
 use Rattle.std.specs.Option.{option_map}
+use Rattle.limits.specs.declared.TheConstants.{GREATEST_ORDER, LONGEST_TEXT}
 use Rattle.coho_io.specs.Content.{Content, file}
 use Rattle.power_commutator.specs.declared.TestName.{TestName}
 use Rattle.power_commutator.specs.Presentations.{Presentation, first_fault}
@@ -28,13 +29,13 @@ use Rattle.coho_report.specs.Lines.{report_lines}
 abbrev pub Ask : List (List ℕ) → Step Command
 Ask words = OrRefuse words_refused (command words)
 
--- a file, to its end or to 65,537 bytes
+-- a file, to its end or to one byte more than a text may have
 abbrev pub ReadFront : List ℕ → Step (List ℕ)
-ReadFront path files = OrRefuse (read_refused path) (option_map (take 65537) (file files path)) files
+ReadFront path files = OrRefuse (read_refused path) (option_map (take (LONGEST_TEXT + 1)) (file files path)) files
 
--- at most 65,536 bytes
+-- not too long
 abbrev pub FitLength : List ℕ → Step (Unit {0})
-FitLength text = RefuseIf (nat_lt 65536 (length text)) length_refused
+FitLength text = RefuseIf (nat_lt LONGEST_TEXT (length text)) length_refused
 
 abbrev pub OrFault : Result Presentation Fault → Step Presentation
 OrFault (Ok P) = Gives P
@@ -48,9 +49,9 @@ Present text = OrFault (read text)
 abbrev pub order : Presentation → ℕ
 order P = P.prime ^ P.gens
 
--- the order is at most 128
+-- the order is not too great
 abbrev pub FitOrder : Presentation → Step (Unit {0})
-FitOrder P = RefuseIf (nat_lt 128 (order P)) order_refused
+FitOrder P = RefuseIf (nat_lt GREATEST_ORDER (order P)) order_refused
 
 abbrev pub UnlessFalse : Presentation → Option TestName → Step Presentation
 UnlessFalse P None = Gives P

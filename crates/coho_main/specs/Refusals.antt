@@ -1,5 +1,6 @@
 -- The refusals of a run: the status, and the line on err.
 use Rattle.std.specs.Prelude.{ℕ, List, [], ◌∷◌, ◌++◌, codes, decimal}
+use Rattle.limits.specs.declared.TheConstants.{GREATEST_DIMENSION, GREATEST_ORDER, LONGEST_TEXT, MOST_MONOMIALS}
 use Rattle.power_commutator.specs.declared.TestName.{TestName}
 use Rattle.power_commutator.specs.declared.TestName.TheVariants as test
 use Rattle.pc_text.specs.Faults.{Fault}
@@ -22,7 +23,7 @@ read_refused path = record {
 abbrev pub length_refused : Refusal
 length_refused = record {
   status = status.Limit;
-  line = codes "coho: limit: text longer than 65536 bytes" ++ 10 ∷ [];
+  line = codes "coho: limit: text longer than " ++ (decimal LONGEST_TEXT ++ (codes " bytes" ++ 10 ∷ []));
 }
 
 -- the first fault of a text: its place, LINE:COLUMN, and its kind
@@ -38,7 +39,7 @@ text_refused fault = record {
 abbrev pub order_refused : Refusal
 order_refused = record {
   status = status.Limit;
-  line = codes "coho: limit: order above 128" ++ 10 ∷ [];
+  line = codes "coho: limit: order above " ++ (decimal GREATEST_ORDER ++ 10 ∷ []);
 }
 
 -- the name of a consistency test and the numbers of its generators
@@ -63,7 +64,7 @@ stage_refused d X = record {
   line =
       codes "coho: limit: stage "
       ++ (decimal d ++ (codes " of the group has dimension "
-      ++ (decimal X ++ (codes ", above 4096" ++ 10 ∷ []))));
+      ++ (decimal X ++ (codes ", above " ++ (decimal GREATEST_DIMENSION ++ 10 ∷ [])))));
 }
 
 -- degree d has X monomials in the generators of lower degree
@@ -73,7 +74,7 @@ monomials_refused d X = record {
   line =
       codes "coho: limit: degree "
       ++ (decimal d ++ (codes " has "
-      ++ (decimal X ++ (codes " monomials, above 4096" ++ 10 ∷ []))));
+      ++ (decimal X ++ (codes " monomials, above " ++ (decimal MOST_MONOMIALS ++ 10 ∷ [])))));
 }
 
 -- a write to out that failed

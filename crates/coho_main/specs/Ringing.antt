@@ -1,5 +1,6 @@
 -- The report on the ring of a presentation's group, or why there is none.
 use Rattle.std.specs.Prelude.{ℕ, ⊤}
+use Rattle.limits.specs.declared.TheConstants.{MOST_MONOMIALS}
 use Rattle.power_commutator.specs.Presentations.{Presentation}
 use Rattle.p_groups.specs.PGroups.{PGroup}
 use Rattle.coho_report.specs.Values.{ReportValue}
@@ -11,18 +12,18 @@ use Rattle.coho_main.specs.declared.stop.Stop.{Stop}
 use Rattle.coho_main.specs.declared.stop.Stop.TheVariants as stop
 use Rattle.coho_main.specs.Layers.{IsTableOf}
 
--- the report through degree n, where no degree has more than 4096 monomials, for the group of P
+-- the report through degree n, where no degree has too many monomials, for the group of P
 pub record IsReportOf (P : Presentation) (n : ℕ) (report : ReportValue) : Type 0 where
   pub group : PGroup
   pub is_table : IsTableOf P group
-  pub few : HasFewMonomials group n 4096
+  pub few : HasFewMonomials group n MOST_MONOMIALS
   pub is : IsReport group n report
 
--- degree d is the first to n that has more than 4096 monomials, and X their number, for the group of P
+-- degree d is the first to n that has too many monomials, and X their number, for the group of P
 pub record HasTooMany (P : Presentation) (n d X : ℕ) : Type 0 where
   pub group : PGroup
   pub is_table : IsTableOf P group
-  pub is_first : IsFirstTooMany group n 4096 d X
+  pub is_first : IsFirstTooMany group n MOST_MONOMIALS d X
 
 -- the program's stop at a fault
 abbrev pub stop_of : ReportFault → Stop

@@ -16,6 +16,10 @@ use Rattle.coho_main.specs.Outcome.{Ending, Outcome}
 abbrev pub Agrees : Option Content → Content → Type 0
 Agrees known files = (told : Content) → known ≡ Some told → told ≡ files
 
+-- the files after a run are told where they were told before, and are these
+abbrev pub Leaves : Option Content → Option Content → Content → Type 0
+Leaves before now files = (told : Content) → before ≡ Some told → now ≡ Some files
+
 -- it holds of the files that are told, and where none are told of some files
 abbrev pub OfFiles : Option Content → (Content → Type 0) → Type 0
 OfFiles known P = (files : Content) × Agrees known files × P files
@@ -41,10 +45,10 @@ Tells old new before now line =
 
 -- a run ended so: with this status, these files, these bytes on out and this line on err
 pub record EndsAs
-    (e : Ending) (answer : Status) (files : Option Content)
+    (e : Ending) (answer : Status) (files files_now : Option Content)
     (out out_now err err_now : Option (List ℕ)) (err_faults err_faults_now : ℕ) : Type 0 where
   pub same_status : answer ≡ e.status
-  pub same_files : Agrees files e.files
+  pub same_files : Leaves files files_now e.files
   pub on_out : Appends out out_now e.out
   pub on_err : Tells err err_now err_faults err_faults_now e.line
 
@@ -58,20 +62,31 @@ AnswersFront words old new files =
 abbrev pub WroteFront : List (List ℕ) → Option (List ℕ) → Option (List ℕ) → Content → Type 0
 WroteFront words old new files = (old ≡ new) ⊎ AnswersFront words old new files
 
+-- the outcome is an answer
+abbrev pub Answers : List (List ℕ) → Content → Type 0
+Answers words files = (e : Ending) × Outcome words files e × (e.status ≡ status.Answered)
+
 -- the lines of which a run that wants memory may have written the first bytes: that of want of
--- memory, that of the outcome, and that of a read or a write that failed
+-- memory, that of the outcome, that of a read that failed, and that of a write of an answer that failed
 abbrev pub MayTell : List (List ℕ) → (List ℕ → Type 0) → Type 0 → List ℕ → Content → Type 0
 MayTell words ReadFailed WriteFailed line files =
     (line ≡ memory_refused.line)
     ⊎ (((e : Ending) × Outcome words files e × (line ≡ e.line))
     ⊎ (((path : List ℕ) × ReadFailed path × (line ≡ (read_refused path).line))
-    ⊎ (WriteFailed × (line ≡ write_refused.line))))
+    ⊎ (WriteFailed × Answers words files × (line ≡ write_refused.line))))
 
 -- the sink gained the first bytes of such a line
 abbrev pub ToldFront :
     List (List ℕ) → (List ℕ → Type 0) → Type 0 → Option (List ℕ) → Option (List ℕ) → Content → Type 0
 ToldFront words ReadFailed WriteFailed old new files =
     (line : List ℕ) × AppendsFront old new line × MayTell words ReadFailed WriteFailed line files
+
+-- what a run that wants memory has written, on out and on err
+pub record WantsMemory
+    (words : List (List ℕ)) (ReadFailed : List ℕ → Type 0) (WriteFailed : Type 0)
+    (out out_now err err_now : Option (List ℕ)) (files : Content) : Type 0 where
+  pub on_out : WroteFront words out out_now files
+  pub on_err : ToldFront words ReadFailed WriteFailed err err_now files
 
 -- no count of a path that the words' command reads rose
 abbrev pub NoReadFault : List (List ℕ) → (List ℕ → ℕ) → (List ℕ → ℕ) → Type 0

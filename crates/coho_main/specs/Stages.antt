@@ -3,6 +3,7 @@ use Rattle.std.specs.Prelude.{◌≡◌, ℕ, zero, suc, ◌*◌, ◌<◌, ◌�
 use Rattle.std.specs.declared.option.Option.{Option}
 use Rattle.std.specs.declared.option.Option.TheVariants.{None, Some}
 use Rattle.std.specs.Option.{option_map}
+use Rattle.limits.specs.declared.TheConstants.{GREATEST_DIMENSION}
 use Rattle.power_commutator.specs.Presentations.{Presentation}
 use Rattle.p_groups.specs.PGroups.{PGroup, order_of}
 use Rattle.min_res.specs.Values.{StageValue}
@@ -53,17 +54,17 @@ module _ (G : PGroup) where
   abbrev pub dimension : ℕ → ℕ
   dimension d = order_of G * rank_of G d
 
-  -- no dimension in the degrees 1 to n is above 4096
+  -- no dimension in the degrees 1 to n is above the limit
   abbrev pub Fit : ℕ → Type 0
-  Fit n = (d : ℕ) → 1 ≤ d → d ≤ n → dimension d ≤ 4096
+  Fit n = (d : ℕ) → 1 ≤ d → d ≤ n → dimension d ≤ GREATEST_DIMENSION
 
-  -- X is the first dimension in the degrees 1 to n that is above 4096, and d its degree
+  -- X is the first dimension in the degrees 1 to n that is above the limit, and d its degree
   pub record IsFirstAbove (n d X : ℕ) : Type 0 where
     pub from : 1 ≤ d
     pub to : d ≤ n
     pub is : X ≡ dimension d
-    pub above : 4096 < X
-    pub first : (c : ℕ) → 1 ≤ c → c < d → dimension c ≤ 4096
+    pub above : GREATEST_DIMENSION < X
+    pub first : (c : ℕ) → 1 ≤ c → c < d → dimension c ≤ GREATEST_DIMENSION
 
 -- the stages of degree 0 to n, whose dimensions all fit, for the group of P
 pub record AreStagesOf (P : Presentation) (n : ℕ) (stages : List Summary) : Type 0 where

@@ -5,6 +5,7 @@ use Rattle.std.specs.declared.option.Option.{Option}
 use Rattle.std.specs.declared.option.Option.TheVariants.{None, Some}
 use Rattle.std.specs.Option.{option_map}
 use Rattle.std.specs.Str.{bytes_eq}
+use Rattle.limits.specs.declared.TheConstants.{GREATEST_DEGREE}
 use Rattle.pc_text.specs.Numerals.{numeral}
 use Rattle.coho_main.specs.declared.words.Command.{Command as Named}
 use Rattle.coho_main.specs.declared.words.Command.TheVariants as named
@@ -38,11 +39,11 @@ path_of (Group path) = path
 path_of (Resolve path n) = path
 path_of (Ring path n) = path
 
--- the degree of a command that has one is from 1 to 24
+-- the degree of a command that has one is from 1 to the greatest
 abbrev pub IsWithin : Command → Type 0
 IsWithin (Group path) = ⊤
-IsWithin (Resolve path n) = (1 ≤ n) × (n ≤ 24)
-IsWithin (Ring path n) = (1 ≤ n) × (n ≤ 24)
+IsWithin (Resolve path n) = (1 ≤ n) × (n ≤ GREATEST_DEGREE)
+IsWithin (Ring path n) = (1 ≤ n) × (n ≤ GREATEST_DEGREE)
 
 -- a word that may stand for a file: it is not empty, and begins with no dash
 abbrev pub is_path : List ℕ → Bool
@@ -55,9 +56,9 @@ command (name ∷ path ∷ []) =
     if bytes_eq name (codes "group") && is_path path then Some (Group path) else None
 command (name ∷ path ∷ degree ∷ []) =
     if bytes_eq name (codes "resolve") && is_path path
-    then option_map (Resolve path) (numeral 1 24 degree)
+    then option_map (Resolve path) (numeral 1 GREATEST_DEGREE degree)
     else (if bytes_eq name (codes "ring") && is_path path
-    then option_map (Ring path) (numeral 1 24 degree)
+    then option_map (Ring path) (numeral 1 GREATEST_DEGREE degree)
     else None)
 command _ = None
 
@@ -73,7 +74,7 @@ two_operands _ = None
 
 -- the same, where the second is the numeral of a degree
 abbrev pub with_degree : List ℕ × List ℕ → Option (List ℕ × ℕ)
-with_degree p = option_map (λ n. (p.0, n)) (numeral 1 24 p.1)
+with_degree p = option_map (λ n. (p.0, n)) (numeral 1 GREATEST_DEGREE p.1)
 
 abbrev pub file_and_degree : List (List ℕ) → Option (List ℕ × ℕ)
 file_and_degree words = option_and_then with_degree (two_operands words)

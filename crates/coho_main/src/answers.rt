@@ -5,6 +5,7 @@ ghost use Rattle.coho_main.specs.Stages.{HasRows, summary};
 ghost use Rattle.coho_main.specs.Resolving.{TellsStage, TellsStages};
 ghost use Rattle.coho_main.specs.Words.{contents};
 
+use limits::GREATEST_DEGREE;
 use min_res::{Resolution, Stage};
 use pc_group::Consistent;
 use std::alloc::{AllocError, Global};
@@ -89,16 +90,13 @@ fn line_at(alloc: Global, resolution: &Resolution, d: u32) -> Result<String, All
     requires degree { d ≤ resolution.now.last }
     ensures { IfOk result (λ text. TellsStage resolution.now.group d (string_bytes text)) }
 {
-    match resolution.stage(d) {
-        Some(stage) => stage_line(alloc, stage),
-        None => unreachable!(),
-    }
+    stage_line(alloc, resolution.stage_at(d))
 }
 
 /// The lines of the answer to `resolve`.
 #[tactic(auto, using(crate::proofs::StageRows::no_lines))]
 pub fn stage_lines(alloc: Global, resolution: &Resolution) -> Result<Vec<Vec<u8>>, AllocError>
-    requires few { resolution.now.last ≤ 24 }
+    requires few { resolution.now.last ≤ GREATEST_DEGREE }
     ensures { IfOk result (λ lines. TellsStages resolution.now.group (resolution.now.last + 1) (contents lines.items)) }
 {
     let count = resolution.last() + 1;

@@ -3,6 +3,7 @@ ghost use Rattle.coho_main.specs.Refusals.{test_words};
 ghost use Rattle.coho_main.specs.Stops.{refusal_of};
 
 use crate::Status;
+use limits::{GREATEST_DIMENSION, GREATEST_ORDER, LONGEST_TEXT, MOST_MONOMIALS};
 use pc_group::TestName;
 use pc_text::Kind;
 use std::alloc::{AllocError, Global};
@@ -12,17 +13,17 @@ use std::alloc::{AllocError, Global};
 pub enum Cause {
     /// The words are not those of a command.
     Words,
-    /// The text is longer than 65,536 bytes.
+    /// The text is longer than `LONGEST_TEXT` bytes.
     Length,
     /// The first fault of the text.
     Text { kind: Kind, line: u32, column: u32 },
-    /// The order is above 128.
+    /// The order is above `GREATEST_ORDER`.
     Order,
     /// The first false consistency test.
     Inconsistent(TestName),
-    /// The free module of the stage of this degree has a dimension above 4096.
+    /// The free module of the stage of this degree has a dimension above `GREATEST_DIMENSION`.
     Stage { degree: u32, dimension: u64 },
-    /// This degree has more than 4096 monomials in generators of lower degree.
+    /// This degree has more than `MOST_MONOMIALS` monomials in generators of lower degree.
     Monomials { degree: u32, count: u64 },
 }
 
@@ -50,25 +51,25 @@ impl Cause {
                 String::from_str(alloc, "coho: the words are not those of a command\n")
             }
             Cause::Length => {
-                String::from_str(alloc, "coho: limit: text longer than 65536 bytes\n")
+                format!(in alloc; "coho: limit: text longer than {LONGEST_TEXT} bytes\n")
             }
             Cause::Text { kind, line, column } => {
                 let kind = kind.name();
                 format!(in alloc; "coho: text fault at {line}:{column}: {kind}\n")
             }
-            Cause::Order => String::from_str(alloc, "coho: limit: order above 128\n"),
+            Cause::Order => format!(in alloc; "coho: limit: order above {GREATEST_ORDER}\n"),
             Cause::Inconsistent(test) => {
                 let test = test_words(alloc, test)?;
                 format!(in alloc; "coho: inconsistent: {test}\n")
             }
             Cause::Stage { degree, dimension } => {
                 format!(in alloc;
-                    "coho: limit: stage {degree} of the group has dimension {dimension}, above 4096\n"
+                    "coho: limit: stage {degree} of the group has dimension {dimension}, above {GREATEST_DIMENSION}\n"
                 )
             }
             Cause::Monomials { degree, count } => {
                 format!(in alloc;
-                    "coho: limit: degree {degree} has {count} monomials, above 4096\n"
+                    "coho: limit: degree {degree} has {count} monomials, above {MOST_MONOMIALS}\n"
                 )
             }
         }

@@ -6,18 +6,15 @@ ghost use Rattle.coho_main.specs.Run.{OfFiles};
 
 use crate::{Cause, Stop, read_front};
 use coho_io::Files;
+use limits::{GREATEST_ORDER, LONGEST_TEXT};
 use pc_group::{Consistent, Presentation, Refused, check};
 use pc_text::{TextFault, read_presentation};
 use std::alloc::Global;
 
-const LONGEST_TEXT: usize = 65_536;
-
-const GREATEST_ORDER: u64 = 128;
-
 // The text is not too long.
 fn fit_length(text: &[u8]) -> Result<(), Stop<'static>>
     ensures step { Settles (λ _. tt) (FitLength text.now) result }
-    ensures length { OnOk result (length text.now ≤ 65536) }
+    ensures length { OnOk result (length text.now ≤ LONGEST_TEXT) }
 {
     if text.len() > LONGEST_TEXT {
         return Err(Stop::Refused(Cause::Length));
@@ -27,7 +24,7 @@ fn fit_length(text: &[u8]) -> Result<(), Stop<'static>>
 
 // The presentation of a text.
 fn present(alloc: Global, text: &[u8]) -> Result<Presentation, Stop<'static>>
-    requires { length text.now ≤ 65536 }
+    requires { length text.now ≤ LONGEST_TEXT }
     ensures { Settles (λ p. p) (Present text.now) result }
 {
     match read_presentation(alloc, text) {
@@ -42,7 +39,7 @@ fn present(alloc: Global, text: &[u8]) -> Result<Presentation, Stop<'static>>
 // The order is not too great.
 fn fit_order(presentation: &Presentation) -> Result<(), Stop<'static>>
     ensures step { Settles (λ _. tt) (FitOrder presentation.now) result }
-    ensures order { OnOk result (order presentation.now ≤ 128) }
+    ensures order { OnOk result (order presentation.now ≤ GREATEST_ORDER) }
 {
     let prime = u64::from(presentation.prime().value());
     match prime.checked_pow(presentation.gens()) {
@@ -53,7 +50,7 @@ fn fit_order(presentation: &Presentation) -> Result<(), Stop<'static>>
 
 // The presentation, where no consistency test is false.
 fn test(alloc: Global, presentation: Presentation) -> Result<Consistent, Stop<'static>>
-    requires { order presentation ≤ 256 }
+    requires { order presentation ≤ GREATEST_ORDER }
     ensures { Settles (λ c. c) (Test presentation) result }
 {
     match check(alloc, presentation) {

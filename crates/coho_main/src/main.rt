@@ -25,9 +25,10 @@ pub use layers::{algebra_of, radical_dimensions};
 pub use loading::load;
 pub use operands::{all_plain, one_operand, two_operands};
 pub use reading::read_front;
-pub use running::{outcome_is_unique, run};
-pub use stages::{GREATEST_DIMENSION, resolution_of};
+pub use running::{outcome_exists, outcome_is_unique, run};
+pub use stages::resolution_of;
 pub use status::Status;
+use std::io::ErrorKind;
 use std::process::ExitCode;
 use std::{env, io};
 pub use stop::Stop;
@@ -45,10 +46,16 @@ fn words_of(rt: &HostRuntime) -> io::Result<Vec<String>> {
 
 fn main(rt: HostRuntime) -> ExitCode {
     let alloc = rt.alloc();
-    // Words that can't be had as text are those of no command, as no words are.
-    let words = words_of(&rt).unwrap_or_else(|_| Vec::new(alloc));
+    let mut err = StdSink::stderr(&rt);
+    let words = match words_of(&rt) {
+        Ok(words) => words,
+        Err(fault) if fault.kind() == ErrorKind::OutOfMemory => {
+            return ExitCode::from(report(alloc, Stop::Memory, &mut err).code());
+        }
+        // Words that can't be had as text are those of no command, as no words are.
+        Err(_) => Vec::new(alloc),
+    };
     let mut files = DiskFiles::new(&rt);
     let mut out = StdSink::stdout(&rt);
-    let mut err = StdSink::stderr(&rt);
     ExitCode::from(run(alloc, &words, &mut files, &mut out, &mut err).code())
 }

@@ -7,10 +7,11 @@ ghost use Rattle.coho_main.specs.Reading.{ReadsMore};
 
 use crate::Stop;
 use coho_io::{Fault, Files};
+use limits::LONGEST_TEXT;
 use std::alloc::Global;
 
 // As far as a text is read: one byte more than it may have.
-const READ_LIMIT: usize = 65_537;
+const READ_LIMIT: usize = LONGEST_TEXT + 1;
 
 const PIECE: usize = 4_096;
 
@@ -43,7 +44,7 @@ fn read_more<'a, F: Files>(
     }
 }
 
-/// Reads a file to its end, or to 65,537 bytes.
+/// Reads a file to its end, or to one byte more than a text may have.
 pub fn read_front<'a, F: Files>(
     alloc: Global,
     files: &mut F,
@@ -51,7 +52,7 @@ pub fn read_front<'a, F: Files>(
 ) -> Result<Vec<u8>, Stop<'a>>
     ensures step { (told : Content) → F.content files.old ≡ Some told
         → Meets (λ text. text.items) (ReadFront path.now) told told result }
-    ensures bound { IfOk result (λ text. length text.items ≤ 65537) }
+    ensures bound { IfOk result (λ text. length text.items ≤ LONGEST_TEXT + 1) }
     ensures content { F.content files.new ≡ F.content files.old }
     ensures later { NoneFell (F.read_faults files.old) (F.read_faults files.new) }
     ensures cause { IfErr result

@@ -5,18 +5,16 @@ ghost use Rattle.coho_main.specs.Words.{Group, IsRead, Resolve, Ring, command, c
 ghost use Rattle.coho_main.specs.Outcome.{Reply, Comes, Ending, Outcome};
 ghost use Rattle.coho_main.specs.Refusals.{read_refused, write_refused};
 ghost use Rattle.coho_main.specs.Stops.{Meets, HasReadCause};
-ghost use Rattle.coho_main.specs.Run.{OfFiles, IsSettled, MayWrite, Tells, EndsAs, AnswersFront, WroteFront, ToldFront, NoReadFault};
+ghost use Rattle.coho_main.specs.Run.{OfFiles, IsSettled, MayWrite, Tells, EndsAs, AnswersFront, WantsMemory, NoReadFault};
 
 use crate::{
-    Command, GREATEST_DIMENSION, Status, Stop, group_lines, load, radical_dimensions, read_words,
-    report, resolution_of, stage_lines, write_lines,
+    Command, Status, Stop, group_lines, load, radical_dimensions, read_words, report,
+    resolution_of, stage_lines, write_lines,
 };
 use coho_io::{Files, Sink};
 use coho_report::{compose, report_lines};
+use limits::{GREATEST_DEGREE, GREATEST_DIMENSION, MOST_MONOMIALS};
 use std::alloc::Global;
-
-// The greatest number of monomials of one degree.
-const GREATEST_COUNT: u64 = 4096;
 
 // The lines of the answer to `group`.
 fn answer_group<'a, F: Files>(
@@ -43,7 +41,7 @@ fn answer_resolve<'a, F: Files>(
     path: &'a str,
     n: u32,
 ) -> Result<Vec<Vec<u8>>, Stop<'a>>
-    requires { n ≤ 24 }
+    requires { n ≤ GREATEST_DEGREE }
     ensures step { OfFiles (F.content files.old)
         (λ seen. Meets (λ lines. contents lines.items) (Reply (Resolve path.now n)) seen seen result) }
     ensures content { F.content files.new ≡ F.content files.old }
@@ -64,7 +62,7 @@ fn answer_ring<'a, F: Files>(
     n: u32,
 ) -> Result<Vec<Vec<u8>>, Stop<'a>>
     requires low { 1 ≤ n }
-    requires high { n ≤ 24 }
+    requires high { n ≤ GREATEST_DEGREE }
     ensures step { OfFiles (F.content files.old)
         (λ seen. Meets (λ lines. contents lines.items) (Reply (Ring path.now n)) seen seen result) }
     ensures content { F.content files.new ≡ F.content files.old }
@@ -74,7 +72,7 @@ fn answer_ring<'a, F: Files>(
 {
     let consistent = load(alloc, files, path)?;
     let resolution = resolution_of(alloc, &consistent, n)?;
-    let report = compose(alloc, &resolution, n, GREATEST_COUNT, GREATEST_DIMENSION)?;
+    let report = compose(alloc, &resolution, n, MOST_MONOMIALS, GREATEST_DIMENSION)?;
     Ok(report_lines(alloc, &report)?)
 }
 
@@ -111,7 +109,7 @@ pub fn run<F: Files, O: Sink, E: Sink>(
     // files where none are. So are the bytes, the line and the files afterwards.
     ensures outcome { IsSettled result → OfFiles (F.content files.old) (λ seen. (e : Ending)
         × Outcome (texts words.now) seen e
-        × EndsAs e result (F.content files.new)
+        × EndsAs e result (F.content files.old) (F.content files.new)
         (O.written out.old) (O.written out.new)
         (E.written err.old) (E.written err.new)
         (E.faults err.old) (E.faults err.new)) }
@@ -137,13 +135,12 @@ pub fn run<F: Files, O: Sink, E: Sink>(
         (AnswersFront (texts words.now) (O.written out.old) (O.written out.new)) }
 
     // Want of memory.
-    ensures front { result ≡ Status.Memory → OfFiles (F.content files.old)
-        (WroteFront (texts words.now) (O.written out.old) (O.written out.new)) }
-    ensures line { result ≡ Status.Memory → OfFiles (F.content files.old)
-        (ToldFront (texts words.now)
+    ensures memory { result ≡ Status.Memory → OfFiles (F.content files.old)
+        (WantsMemory (texts words.now)
         (λ path. IsRead (texts words.now) path
         × Rose (F.read_faults files.old path) (F.read_faults files.new path))
         (Rose (O.faults out.old) (O.faults out.new))
+        (O.written out.old) (O.written out.new)
         (E.written err.old) (E.written err.new)) }
 
     // What stays.
@@ -166,6 +163,11 @@ pub fn run<F: Files, O: Sink, E: Sink>(
         Err(stop) => report(alloc, stop, err),
     }
 }
+
+/// Words and files have an outcome.
+pub fn outcome_exists()
+    ensures { (words : List (List ℕ)) (files : Content) → (e : Ending) × Outcome words files e }
+{}
 
 /// The outcome of words over files is one.
 pub fn outcome_is_unique()

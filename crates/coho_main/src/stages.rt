@@ -3,18 +3,17 @@ ghost use Rattle.coho_main.specs.Stages.{Fit};
 ghost use Rattle.coho_main.specs.Resolving.{IsResolutionTo, IsStageFault, IsStageStop};
 
 use crate::{Stop, algebra_of};
+use limits::{GREATEST_DEGREE, GREATEST_DIMENSION};
 use min_res::{ResFault, Resolution};
 use pc_group::Consistent;
 use std::alloc::Global;
 
-/// The greatest dimension of the free module of a stage.
-pub const GREATEST_DIMENSION: u64 = 4096;
-
 // Adds the stages of degree 1 to n to the first one.
 fn extend_to(resolution: &mut Resolution, n: u32) -> Result<(), ResFault>
     requires first { resolution.old.last ≡ 0 }
-    requires degree { n ≤ 24 }
-    ensures extended { OnOk result (resolution.new ≡ record resolution.old { last = n }) }
+    requires degree { n ≤ GREATEST_DEGREE }
+    ensures group { resolution.new.group ≡ resolution.old.group }
+    ensures last { OnOk result (resolution.new.last ≡ n) }
     ensures fit { OnOk result (Fit resolution.old.group n) }
     ensures refused { IfErr result (IsStageFault resolution.old.group n) }
 {
@@ -30,7 +29,7 @@ pub fn resolution_of<'a>(
     consistent: &Consistent,
     n: u32,
 ) -> Result<Resolution, Stop<'a>>
-    requires { n ≤ 24 }
+    requires { n ≤ GREATEST_DEGREE }
     ensures found { IfOk result (IsResolutionTo consistent.now n) }
     ensures refused { IfErr result (IsStageStop consistent.now n) }
 {

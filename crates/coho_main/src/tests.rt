@@ -1,7 +1,11 @@
 use super::*;
 use coho_io::{MemFiles, MemSink};
+use limits::{GREATEST_DEGREE, GREATEST_ORDER, LONGEST_TEXT};
 use std::alloc::{AllocError, Global};
 use std::test::Fail;
+
+/// One byte more than a text may have.
+const TOO_LONG: usize = LONGEST_TEXT + 1;
 
 /// How a run ended, and what it wrote.
 #[derive(Drop)]
@@ -110,13 +114,16 @@ fn presents_rings(rt: HostRuntime) -> Result<(), Fail> {
 }
 
 #[test]
-fn reads_degrees_from_1_to_24(rt: HostRuntime) -> Result<(), Fail> {
+fn reads_degrees_to_the_greatest(rt: HostRuntime) -> Result<(), Fail> {
     let mut files = MemFiles::new(rt.alloc());
     files.put("t", b"pgroup 1\nprime 2\ngens 1\n")?;
+    let above = GREATEST_DEGREE + 1;
+    let greatest = format!(in rt.alloc(); "{GREATEST_DEGREE}")?;
+    let above = format!(in rt.alloc(); "{above}")?;
     for (degree, status) in [
-        ("24", Status::Answered),
+        (greatest.as_str(), Status::Answered),
         ("0", Status::Usage),
-        ("25", Status::Usage),
+        (above.as_str(), Status::Usage),
         ("03", Status::Usage),
         ("+3", Status::Usage),
     ] {
@@ -157,6 +164,7 @@ fn names_the_first_fault_of_a_text(rt: HostRuntime) -> Result<(), Fail> {
 
 #[test]
 fn refuses_false_tests_and_great_orders(rt: HostRuntime) -> Result<(), Fail> {
+    let above = format!(in rt.alloc(); "coho: limit: order above {GREATEST_ORDER}\n")?;
     for (text, status, line) in [
         (
             "pgroup 1\nprime 2\ngens 3\ng1^2 = g2\n[g2,g1] = g3\n",
@@ -168,11 +176,7 @@ fn refuses_false_tests_and_great_orders(rt: HostRuntime) -> Result<(), Fail> {
             Status::Inconsistent,
             "coho: inconsistent: twist 1 2\n",
         ),
-        (
-            "pgroup 1\nprime 2\ngens 8\n",
-            Status::Limit,
-            "coho: limit: order above 128\n",
-        ),
+        ("pgroup 1\nprime 2\ngens 8\n", Status::Limit, above.as_str()),
     ] {
         let mut files = MemFiles::new(rt.alloc());
         files.put("t", text.as_bytes())?;
@@ -186,16 +190,13 @@ fn refuses_false_tests_and_great_orders(rt: HostRuntime) -> Result<(), Fail> {
 
 #[test]
 fn refuses_files_and_words(rt: HostRuntime) -> Result<(), Fail> {
+    let longer = format!(in rt.alloc(); "coho: limit: text longer than {LONGEST_TEXT} bytes\n")?;
     let usage = "coho: the words are not those of a command\n";
     let mut files = MemFiles::new(rt.alloc());
-    files.put("long", &[b'x'; 65_537])?;
+    files.put("long", &[b'x'; TOO_LONG])?;
     files.put("t", b"pgroup 1\nprime 2\ngens 1\n")?;
     for (texts, status, line) in [
-        (
-            ["group", "long"].as_slice(),
-            Status::Limit,
-            "coho: limit: text longer than 65536 bytes\n",
-        ),
+        (["group", "long"].as_slice(), Status::Limit, longer.as_str()),
         (
             ["group", "F"].as_slice(),
             Status::Read,
@@ -209,7 +210,7 @@ fn refuses_files_and_words(rt: HostRuntime) -> Result<(), Fail> {
         (["group", ""].as_slice(), Status::Usage, usage),
         (["ring", "t"].as_slice(), Status::Usage, usage),
         (["ring", "t", "0"].as_slice(), Status::Usage, usage),
-        (["ring", "t", "25"].as_slice(), Status::Usage, usage),
+        (["ring", "t", "100"].as_slice(), Status::Usage, usage),
         (["ring", "t", "03"].as_slice(), Status::Usage, usage),
         (
             ["ring", "t", "3", "--from"].as_slice(),

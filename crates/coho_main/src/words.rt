@@ -5,6 +5,7 @@ ghost use Rattle.coho_main.specs.Outcome.{Ask};
 ghost use Rattle.coho_main.specs.Stops.{IsWordsStop, Settles};
 
 use crate::{Cause, Stop, all_plain, one_operand, read_degree, two_operands};
+use limits::GREATEST_DEGREE;
 use std::alloc::Global;
 
 /// What a run is asked for.
@@ -22,7 +23,7 @@ pub enum Command<'a> {
 fn file_and_degree<'a>(alloc: Global, words: &'a [String]) -> Result<(&'a str, u32), Stop<'a>>
     requires { list_all is_path (texts words.now) ≡ true }
     ensures found { IfOk result (λ found. file_and_degree (texts words.now) ≡ Some (found.0.now, found.1)) }
-    ensures range { IfOk result (λ found. (1 ≤ found.1) × (found.1 ≤ 24)) }
+    ensures range { IfOk result (λ found. (1 ≤ found.1) × (found.1 ≤ GREATEST_DEGREE)) }
     ensures refused { IfErr result (IsWordsStop (file_and_degree (texts words.now) ≡ None)) }
 {
     let (path, degree) = two_operands(alloc, words)?;

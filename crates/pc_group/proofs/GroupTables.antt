@@ -12,7 +12,7 @@ use Rattle.pc_group.specs.WordNumbers.{IsTableOf}
 use Rattle.pc_group.specs.GroupOf.{IsCommutator, IsGroupOf, HasPowers, HasCommutators}
 
 -- a product that agrees with that of a group
-group-same : (n : ℕ) (f g : ℕ → ℕ → ℕ) → ((a b : ℕ) → a < n → b < n → g a b ≡ f a b) → IsGroup n f → IsGroup n g
+pub group-same : (n : ℕ) (f g : ℕ → ℕ → ℕ) → ((a b : ℕ) → a < n → b < n → g a b ≡ f a b) → IsGroup n f → IsGroup n g
 group-same n f g e F = record {
   closed = λ a b h k. subst (λ t. t < n) (sym (e a b h k)) (F.closed a b h k);
   some = F.some;

@@ -2,6 +2,7 @@
 use Rattle.std.proofs.Common.{◌≡◌, ℕ, suc, ◌-◌, ◌<◌, ◌≤◌, ◌==◌, Bool, true, false, not, cond, List, [], ◌∷◌, map, filter, get_or, length, replicate, All, Some, Ok, refl, sym, ap, ◌∙◌, arith}
 use Rattle.std.specs.List.{list_any}
 use Rattle.std.proofs.lemmas.List.Elements.{All-filter, All-map}
+use Rattle.limits.specs.declared.TheConstants.{MOST_GENERATORS}
 use Rattle.power_commutator.specs.Presentations.{Presentation, IsWord, IsPresentation, power_word, commutator_word, range}
 use Rattle.pc_text.specs.declared.place.Place.{Place}
 use Rattle.pc_text.specs.declared.place.Place.TheVariants.{Power, Commutator}
@@ -45,7 +46,7 @@ written_ascend P b (q ∷ qs) h =
     keep_by b P q (filter some (map (relation_at P) qs)) (some (relation_at P q)) h.0
     (λ c le. written_ascend P c qs (ascend_from c (place_number q) qs le h.1))
 
-content_is : (P : Presentation) → IsPresentation P → prime P.prime ≡ Some P.prime → P.gens ≤ 32 → IsContent (content_of P)
+content_is : (P : Presentation) → IsPresentation P → prime P.prime ≡ Some P.prime → P.gens ≤ MOST_GENERATORS → IsContent (content_of P)
 content_is P is listed few = record {
   prime = listed;
   few = few;

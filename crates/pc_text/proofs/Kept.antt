@@ -4,6 +4,7 @@ use Rattle.std.specs.Prelude.{bytes_eq, codes, is_some, option_and_then, IfOk}
 use Rattle.std.specs.List.{slice_split}
 use Rattle.std.proofs.lemmas.Bool.Decides.{nat_tests}
 use Rattle.std.proofs.lemmas.List.Elements.{All-set, All-append, All-nil, All-cons}
+use Rattle.limits.specs.declared.TheConstants.{MOST_GENERATORS}
 use Rattle.power_commutator.specs.Presentations.{IsWord}
 use Rattle.pc_group.proofs.Making.{identity-replicate, identity-word}
 use Rattle.pc_text.specs.declared.fault.Kind.TheVariants as kind
@@ -198,10 +199,10 @@ prime_line_same bytes p h =
     let found = and_then_some prime (option_and_then (numeral 0 9) (after_front (codes "prime ") bytes)) p h in
     prime_same found.0 p found.2
 
-pub count_line_range : (bytes : List ℕ) (n : ℕ) → count_line bytes ≡ Some n → n ≤ 32
+pub count_line_range : (bytes : List ℕ) (n : ℕ) → count_line bytes ≡ Some n → n ≤ MOST_GENERATORS
 count_line_range bytes n h =
-    let found = and_then_some (numeral 0 32) (after_front (codes "gens ") bytes) n h in
-    (numeral_range 0 32 found.0 n found.2).1
+    let found = and_then_some (numeral 0 MOST_GENERATORS) (after_front (codes "gens ") bytes) n h in
+    (numeral_range 0 MOST_GENERATORS found.0 n found.2).1
 
 -- the rows of a text, from the last
 abbrev pub relations_step : List Line → ℕ → ℕ → Result Content Fault

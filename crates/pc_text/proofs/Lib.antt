@@ -15,6 +15,7 @@ pub mod SpelledTexts
 pub mod SpelledWords
 pub mod Steps
 pub mod TextLemmas
+pub mod Valid
 pub mod WordLemmas
 pub mod WriterLemmas
 pub mod WrittenLines

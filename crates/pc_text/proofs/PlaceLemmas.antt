@@ -5,6 +5,7 @@ use Rattle.std.specs.List.{list_any}
 use Rattle.std.proofs.lemmas.Bool.Decides.{nat_tests}
 use Rattle.std.proofs.lemmas.List.Elements.{All-nil, All-cons, All-append}
 use Rattle.std.proofs.lemmas.List.Folds.{list_any-append}
+use Rattle.limits.specs.declared.TheConstants.{MOST_GENERATORS}
 use Rattle.power_commutator.specs.Presentations.{range}
 use Rattle.power_commutator.proofs.Cyclic.{less-or}
 use Rattle.pc_text.specs.declared.place.Place.{Place}
@@ -33,7 +34,7 @@ same_is (Commutator j i) (Commutator m k) h =
 
 abbrev pub place_number : Place → ℕ
 place_number (Power i) = i
-place_number (Commutator j i) = 33 * j + i
+place_number (Commutator j i) = suc MOST_GENERATORS * j + i
 
 other_number : (q r : Place) → place_number q ≢ place_number r → (b : Bool) → same_place q r ≡ b → same_place q r ≡ false
 other_number q r ne true e = absurd (ne (ap place_number (same_is q r e)))
@@ -63,20 +64,20 @@ ascend_range f b j (suc m) h pos =
     let next : suc j - 1 ≡ j = omega arith in
     (omega (arith, here), rw here (rw next at (ascend_range f b (suc j) m h (omega arith))))
 
-ascend_rows : (j m : ℕ) → 0 < j → j + m ≤ 33 → Ascend (33 * j) (flat_map row_places (range j m))
+ascend_rows : (j m : ℕ) → 0 < j → j + m ≤ suc MOST_GENERATORS → Ascend (suc MOST_GENERATORS * j) (flat_map row_places (range j m))
 ascend_rows j zero pos le = tt
 ascend_rows j (suc m) pos le =
-    ascend_append (33 * j) (33 * suc j) (row_places j) (flat_map row_places (range (suc j) m)) (omega arith)
-    (let z : 33 * j + (1 - 1) ≡ 33 * j = omega arith in rw z at (ascend_range (λ i. Commutator j i) (33 * j) 1 (j - 1) (λ k. refl) (omega arith)))
-    (all_range (λ q. place_number q ≤ 33 * suc j) (λ i. Commutator j i) 1 (j - 1) (λ k low high. omega arith))
+    ascend_append (suc MOST_GENERATORS * j) (suc MOST_GENERATORS * suc j) (row_places j) (flat_map row_places (range (suc j) m)) (omega arith)
+    (let z : suc MOST_GENERATORS * j + (1 - 1) ≡ suc MOST_GENERATORS * j = omega arith in rw z at (ascend_range (λ i. Commutator j i) (suc MOST_GENERATORS * j) 1 (j - 1) (λ k. refl) (omega arith)))
+    (all_range (λ q. place_number q ≤ suc MOST_GENERATORS * suc j) (λ i. Commutator j i) 1 (j - 1) (λ k low high. omega arith))
     (ascend_rows (suc j) m (omega arith) (omega arith))
 
-pub places_ascend : (n : ℕ) → n ≤ 32 → Ascend 0 (places n)
+pub places_ascend : (n : ℕ) → n ≤ MOST_GENERATORS → Ascend 0 (places n)
 places_ascend n few =
-    ascend_append 0 32 (map (λ i. Power i) (range 1 n)) (flat_map row_places (range 1 n)) (omega arith)
+    ascend_append 0 MOST_GENERATORS (map (λ i. Power i) (range 1 n)) (flat_map row_places (range 1 n)) (omega arith)
     (ascend_range (λ i. Power i) 0 1 n (λ k. omega arith) (omega arith))
-    (all_range (λ q. place_number q ≤ 32) (λ i. Power i) 1 n (λ k low high. omega arith))
-    (ascend_from 32 33 (flat_map row_places (range 1 n)) (omega arith) (ascend_rows 1 n (omega arith) (omega arith)))
+    (all_range (λ q. place_number q ≤ MOST_GENERATORS) (λ i. Power i) 1 n (λ k low high. omega arith))
+    (ascend_from MOST_GENERATORS (suc MOST_GENERATORS) (flat_map row_places (range 1 n)) (omega arith) (ascend_rows 1 n (omega arith) (omega arith)))
 
 -- relations with ascending left sides are new, one after another
 

@@ -5,6 +5,7 @@ use Rattle.std.specs.List.{list_all, slice_split, position_or_len, join_with_byt
 use Rattle.std.proofs.lemmas.Bool.Decides.{nat_tests}
 use Rattle.std.proofs.lemmas.List.{take_at, drop_at}
 use Rattle.std.proofs.lemmas.List.Folds.{list_all-append}
+use Rattle.limits.specs.declared.TheConstants.{MOST_GENERATORS}
 use Rattle.pc_text.proofs.Steps.{and_parts}
 use Rattle.pc_text.proofs.CutLemmas.{cut_some, cut_none}
 use Rattle.pc_text.specs.Lines.{cut_at}
@@ -29,7 +30,7 @@ below (suc n) p h k lt = let parts = and_parts (p n) (all_below n p) h in step_b
 abbrev is_read : ℕ → Bool
 is_read k = is_numeral (decimal k) && is_digits (decimal k) && eqb (value (decimal k)) k
 
-all_read : all_below 33 is_read ≡ true
+all_read : all_below (suc MOST_GENERATORS) is_read ≡ true
 unfolding digits
 all_read = refl
 
@@ -38,9 +39,9 @@ pub record IsSpelled (k : ℕ) : Type 0 where
   pub digits : is_digits (decimal k) ≡ true
   pub value : value (decimal k) ≡ k
 
-pub spelled : (k : ℕ) → k ≤ 32 → IsSpelled k
+pub spelled : (k : ℕ) → k ≤ MOST_GENERATORS → IsSpelled k
 spelled k small =
-    let h = below 33 is_read all_read k (omega arith) in
+    let h = below (suc MOST_GENERATORS) is_read all_read k (omega arith) in
     let outer = and_parts (is_numeral (decimal k) && is_digits (decimal k)) (eqb (value (decimal k)) k) h in
     let inner = and_parts (is_numeral (decimal k)) (is_digits (decimal k)) outer.0 in
     let same : eqb (value (decimal k)) k ≡ true = outer.1 in
@@ -49,7 +50,7 @@ spelled k small =
 in_range : (low high v k : ℕ) (b : Bool) → b ≡ true → v ≡ k → low ≤ k → k ≤ high → cond (b && leb low v && leb v high) (Some v) None ≡ Some k
 in_range low high v k b h e lo hi = rw (h, e) (grind (arith, nat_tests))
 
-pub numeral_spelled : (low high k : ℕ) → k ≤ 32 → low ≤ k → k ≤ high → numeral low high (decimal k) ≡ Some k
+pub numeral_spelled : (low high k : ℕ) → k ≤ MOST_GENERATORS → low ≤ k → k ≤ high → numeral low high (decimal k) ≡ Some k
 numeral_spelled low high k small lo hi = let s = spelled k small in in_range low high (value (decimal k)) k (is_numeral (decimal k)) s.numeral s.value lo hi
 
 -- b is not among the bytes
@@ -120,13 +121,13 @@ bracket_no_digit x h = grind (arith, nat_tests)
 pub caret_no_digit : NoDigit 94
 caret_no_digit x h = grind (arith, nat_tests)
 
-pub decimal_lacks : (b k : ℕ) → NoDigit b → k ≤ 32 → lacks b (decimal k) ≡ true
+pub decimal_lacks : (b k : ℕ) → NoDigit b → k ≤ MOST_GENERATORS → lacks b (decimal k) ≡ true
 decimal_lacks b k other small = lacks_from_digits b other (decimal k) (digits_all (decimal k) (spelled k small).digits)
 
-pub generator_spelled : (n k : ℕ) → n ≤ 32 → 0 < k → k ≤ n → g_generator n (name k) ≡ Some k
+pub generator_spelled : (n k : ℕ) → n ≤ MOST_GENERATORS → 0 < k → k ≤ n → g_generator n (name k) ≡ Some k
 generator_spelled n k small pos le = numeral_spelled 1 n k (omega arith) pos le
 
-factor_by : (p n k e : ℕ) → n ≤ 32 → p ≤ 7 → 0 < k → k ≤ n → 0 < e → e < p → (b : Bool) → eqb e 1 ≡ b → factor (by_number p n) (cond b (name k) (name k ++ (94 ∷ decimal e))) ≡ Some (k, e)
+factor_by : (p n k e : ℕ) → n ≤ MOST_GENERATORS → p ≤ 7 → 0 < k → k ≤ n → 0 < e → e < p → (b : Bool) → eqb e 1 ≡ b → factor (by_number p n) (cond b (name k) (name k ++ (94 ∷ decimal e))) ≡ Some (k, e)
 factor_by p n k e small prime pos le nonzero below true is_one =
     let one : e ≡ 1 = grind (arith, nat_tests) in
     rw (cut_absent 94 (name k) (decimal_lacks 94 k caret_no_digit (omega arith)), generator_spelled n k small pos le, one) refl
@@ -134,7 +135,7 @@ factor_by p n k e small prime pos le nonzero below false is_more =
     let more : 2 ≤ e = grind (arith, nat_tests) in
     rw (cut_spelled 94 (name k) (decimal e) (decimal_lacks 94 k caret_no_digit (omega arith)), generator_spelled n k small pos le, numeral_spelled 2 (p - 1) e (omega arith) more (omega arith)) refl
 
-pub factor_spelled : (p n k e : ℕ) → n ≤ 32 → p ≤ 7 → 0 < k → k ≤ n → 0 < e → e < p → factor (by_number p n) (factor_text k e) ≡ Some (k, e)
+pub factor_spelled : (p n k e : ℕ) → n ≤ MOST_GENERATORS → p ≤ 7 → 0 < k → k ≤ n → 0 < e → e < p → factor (by_number p n) (factor_text k e) ≡ Some (k, e)
 factor_spelled p n k e small prime pos le nonzero below = factor_by p n k e small prime pos le nonzero below (eqb e 1) refl
 
 -- a byte that no factor has
@@ -149,15 +150,15 @@ star_other = record { digit = star_no_digit; letter = refl; caret = refl }
 pub line_feed_other : IsOther 10
 line_feed_other = record { digit = line_feed_no_digit; letter = refl; caret = refl }
 
-pub name_lacks : (b k : ℕ) → IsOther b → k ≤ 32 → lacks b (name k) ≡ true
+pub name_lacks : (b k : ℕ) → IsOther b → k ≤ MOST_GENERATORS → lacks b (name k) ≡ true
 name_lacks b k other small = rw (other.letter, decimal_lacks b k other.digit small) refl
 
-piece_by : (b k e : ℕ) → IsOther b → k ≤ 32 → e ≤ 32 → (t : Bool) → lacks b (cond t (name k) (name k ++ (94 ∷ decimal e))) ≡ true
+piece_by : (b k e : ℕ) → IsOther b → k ≤ MOST_GENERATORS → e ≤ MOST_GENERATORS → (t : Bool) → lacks b (cond t (name k) (name k ++ (94 ∷ decimal e))) ≡ true
 piece_by b k e other small low true = name_lacks b k other small
 piece_by b k e other small low false =
     rw (list_all-append (λ x. not (x == b)) (name k) (94 ∷ decimal e), name_lacks b k other small, other.caret, decimal_lacks b e other.digit low) refl
 
-pub piece_lacks : (b k e : ℕ) → IsOther b → k ≤ 32 → e ≤ 32 → lacks b (factor_text k e) ≡ true
+pub piece_lacks : (b k e : ℕ) → IsOther b → k ≤ MOST_GENERATORS → e ≤ MOST_GENERATORS → lacks b (factor_text k e) ≡ true
 piece_lacks b k e other small low = piece_by b k e other small low (eqb e 1)
 
 -- the pieces of joined pieces

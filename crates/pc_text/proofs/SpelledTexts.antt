@@ -3,6 +3,7 @@ use Rattle.std.proofs.Common.{◌≡◌, ℕ, suc, ◌+◌, ◌≤◌, ◌||◌,
 use Rattle.std.specs.Prelude.{codes, flat_map}
 use Rattle.std.specs.Fmt.{decimal}
 use Rattle.std.proofs.lemmas.Bool.Decides.{nat_tests}
+use Rattle.limits.specs.declared.TheConstants.{MOST_GENERATORS}
 use Rattle.pc_text.specs.Lines.{cut_at, lines_from}
 use Rattle.pc_text.specs.Words.{by_number}
 use Rattle.pc_text.specs.Relations.{Relation}
@@ -21,7 +22,7 @@ line_cut bytes rest h =
     let e : line_text bytes ++ rest ≡ bytes ++ 10 ∷ rest = simp append_assoc in
     ap (cut_at 10) e ∙ cut_spelled 10 bytes rest h
 
-relations_read : (p n : ℕ) (earlier rs : List Relation) (k : ℕ) → p ≤ 7 → n ≤ 32 → All (IsRelation p n) rs → AreNew earlier rs
+relations_read : (p n : ℕ) (earlier rs : List Relation) (k : ℕ) → p ≤ 7 → n ≤ MOST_GENERATORS → All (IsRelation p n) rs → AreNew earlier rs
     → relations (by_number p n) earlier (lines_from k (flat_map (λ r. line_text (relation_text p r)) rs)) ≡ Ok (earlier ++ rs)
 relations_read p n earlier [] k prime few are new = ap (λ (rs : List Relation). Ok rs) (sym (append-nil earlier))
 relations_read p n earlier (r ∷ rs) k prime few are new =
@@ -41,8 +42,8 @@ text_from t0 t1 t2 t3 h a b p n found c0 is0 c1 is1 c2 is2 rest = rw (c0, is0, c
 prime_spelled : (p : ℕ) → p ≤ 7 → prime p ≡ Some p → prime_line (codes "prime " ++ decimal p) ≡ Some p
 prime_spelled p small is = rw (numeral_spelled 0 9 p (omega arith) (omega arith) (omega arith)) is
 
-count_spelled : (n : ℕ) → n ≤ 32 → count_line (codes "gens " ++ decimal n) ≡ Some n
-count_spelled n small = numeral_spelled 0 32 n small (omega arith) small
+count_spelled : (n : ℕ) → n ≤ MOST_GENERATORS → count_line (codes "gens " ++ decimal n) ≡ Some n
+count_spelled n small = numeral_spelled 0 MOST_GENERATORS n small (omega arith) small
 
 listed_small : (p : ℕ) → (eqb p 2 || eqb p 3 || eqb p 5 || eqb p 7) ≡ true → p ≤ 7
 listed_small p h = grind (arith, nat_tests)

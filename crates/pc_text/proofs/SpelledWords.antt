@@ -6,6 +6,7 @@ use Rattle.std.specs.List.{list_all, list_any, join_with_byte}
 use Rattle.std.proofs.Math.Seq.{set-append_seam}
 use Rattle.std.proofs.lemmas.Bool.Decides.{nat_tests}
 use Rattle.std.proofs.lemmas.List.Folds.{list_all-append}
+use Rattle.limits.specs.declared.TheConstants.{MOST_GENERATORS}
 use Rattle.pc_text.specs.Words.{Naming, by_number, factor, above, factors, word}
 use Rattle.power_commutator.specs.Presentations.{IsWord}
 use Rattle.power_commutator.proofs.Cyclic.{less-or}
@@ -36,7 +37,7 @@ regroup xs a ys = simp append_assoc
 abbrev Reads : ℕ → ℕ → ℕ → ℕ → ℕ → List ℕ → List ℕ → List (List ℕ) → Type 0
 Reads p n k last col front w pieces = factors (by_number p n) last col (front ++ replicate (length w) 0) pieces ≡ Ok (front ++ w)
 
-by_exponent : (p n k last col e : ℕ) (front w : List ℕ) → n ≤ 32 → p ≤ 7 → 0 < k → length front + 1 ≡ k → length front + suc (length w) ≡ n → e < p → (0 < e → last < k)
+by_exponent : (p n k last col e : ℕ) (front w : List ℕ) → n ≤ MOST_GENERATORS → p ≤ 7 → 0 < k → length front + 1 ≡ k → length front + suc (length w) ≡ n → e < p → (0 < e → last < k)
     → ((l c : ℕ) → (l ≡ last) → Reads p n (suc k) l c (front ++ e ∷ []) w (factor_texts (suc k) w)) → ((c : ℕ) → Reads p n (suc k) k c (front ++ e ∷ []) w (factor_texts (suc k) w))
     → (b : Bool) → eqb e 0 ≡ b → Reads p n k last col front (e ∷ w) (cond b (factor_texts (suc k) w) (factor_text k e ∷ factor_texts (suc k) w))
 by_exponent p n k last col e front w small prime pos at len low after skipped taken true is =
@@ -62,7 +63,7 @@ nothing : (front : List ℕ) → front ++ [] ≡ front
 nothing [] = refl
 nothing (x ∷ front) = ap (λ (v : List ℕ). x ∷ v) (nothing front)
 
-pub factors_spelled : (p n k last col : ℕ) (front w : List ℕ) → n ≤ 32 → p ≤ 7 → 0 < k → length front + 1 ≡ k → length front + length w ≡ n → Fit p last k w
+pub factors_spelled : (p n k last col : ℕ) (front w : List ℕ) → n ≤ MOST_GENERATORS → p ≤ 7 → 0 < k → length front + 1 ≡ k → length front + length w ≡ n → Fit p last k w
     → factors (by_number p n) last col (front ++ replicate (length w) 0) (factor_texts k w) ≡ Ok (front ++ w)
 factors_spelled p n k last col front [] small prime pos at len fit = refl
 factors_spelled p n k last col front (e ∷ w) small prime pos at len fit =
@@ -79,11 +80,11 @@ not_one : (x : List ℕ) (xs : List (List ℕ)) → bytes_eq (join_with_byte 42 
 not_one x [] = refl
 not_one x (y ∷ xs) = refl
 
-all_lack_by : (b k e : ℕ) (others : List (List ℕ)) → IsOther b → k ≤ 32 → e ≤ 32 → list_all (lacks b) others ≡ true → (t : Bool) → list_all (lacks b) (cond t others (factor_text k e ∷ others)) ≡ true
+all_lack_by : (b k e : ℕ) (others : List (List ℕ)) → IsOther b → k ≤ MOST_GENERATORS → e ≤ MOST_GENERATORS → list_all (lacks b) others ≡ true → (t : Bool) → list_all (lacks b) (cond t others (factor_text k e ∷ others)) ≡ true
 all_lack_by b k e others other small low h true = h
 all_lack_by b k e others other small low h false = rw (piece_lacks b k e other small low, h) refl
 
-pub all_lack : (b p last k : ℕ) (w : List ℕ) → IsOther b → p ≤ 7 → k + length w ≤ 33 → Fit p last k w → list_all (lacks b) (factor_texts k w) ≡ true
+pub all_lack : (b p last k : ℕ) (w : List ℕ) → IsOther b → p ≤ 7 → k + length w ≤ suc MOST_GENERATORS → Fit p last k w → list_all (lacks b) (factor_texts k w) ≡ true
 all_lack b p last k [] other prime len fit = refl
 all_lack b p last k (e ∷ w) other prime len fit =
     all_lack_by b k e (factor_texts (suc k) w) other (omega arith) (let low : e < p = fit.0 in omega arith) (all_lack b p last (suc k) w other prime (omega arith) fit.2) (eqb e 0)
@@ -119,7 +120,7 @@ word_from names least col w pieces x xs e lack read =
     ∙ ap (λ (ps : List (List ℕ)). factors names least col (replicate names.gens 0) ps) (sym e) ∙ read
 
 -- a word that is not empty is read as that word
-word_spelled : (p n least col : ℕ) (w : List ℕ) → n ≤ 32 → p ≤ 7 → length w ≡ n → Fit p least 1 w → list_any (λ e. not (e == 0)) w ≡ true
+word_spelled : (p n least col : ℕ) (w : List ℕ) → n ≤ MOST_GENERATORS → p ≤ 7 → length w ≡ n → Fit p least 1 w → list_any (λ e. not (e == 0)) w ≡ true
     → word (by_number p n) least col (join_with_byte 42 (factor_texts 1 w)) ≡ Ok w
 word_spelled p n least col w small prime len fit some =
     let h = begins 1 w some in
@@ -158,13 +159,13 @@ pub zeros : (w : List ℕ) → list_any (λ e. not (e == 0)) w ≡ false → rep
 zeros [] h = refl
 zeros (e ∷ w) h = let parts = none_of e (list_any (λ e. not (e == 0)) w) h in rw parts.0 (ap (λ (v : List ℕ). 0 ∷ v) (zeros w parts.1))
 
-word_cond : (p n least col : ℕ) (w : List ℕ) → n ≤ 32 → p ≤ 7 → IsWord p n least w → (b : Bool) → list_any (λ e. not (e == 0)) w ≡ b
+word_cond : (p n least col : ℕ) (w : List ℕ) → n ≤ MOST_GENERATORS → p ≤ 7 → IsWord p n least w → (b : Bool) → list_any (λ e. not (e == 0)) w ≡ b
     → word (by_number p n) least col (cond (not b) (49 ∷ []) (join_with_byte 42 (factor_texts 1 w))) ≡ Ok w
 word_cond p n least col w small prime is true some = word_spelled p n least col w small prime is.len (fit_word p n least w is) some
 word_cond p n least col w small prime is false none = ap (λ (v : List ℕ). Ok v) (ap (λ m. replicate m 0) (sym is.len) ∙ zeros w none)
 
 -- the text of a word is read as that word
-pub word_read : (p n least col : ℕ) (w : List ℕ) → n ≤ 32 → p ≤ 7 → IsWord p n least w → word (by_number p n) least col (word_text w) ≡ Ok w
+pub word_read : (p n least col : ℕ) (w : List ℕ) → n ≤ MOST_GENERATORS → p ≤ 7 → IsWord p n least w → word (by_number p n) least col (word_text w) ≡ Ok w
 word_read p n least col w small prime is = word_cond p n least col w small prime is (list_any (λ e. not (e == 0)) w) refl
 
 long_cond : (w : List ℕ) (b : Bool) → list_any (λ e. not (e == 0)) w ≡ b → 0 < length (cond (not b) (49 ∷ []) (join_with_byte 42 (factor_texts 1 w)))
@@ -182,11 +183,11 @@ join_lacks b c (x ∷ y ∷ xs) other h =
     let parts = and_parts (lacks b x) (list_all (lacks b) (y ∷ xs)) h in
     rw (list_all-append (λ z. not (z == b)) x (c ∷ join_with_byte c (y ∷ xs)), parts.0, other) (join_lacks b c (y ∷ xs) other parts.1)
 
-lacks_cond : (p n least : ℕ) (w : List ℕ) → n ≤ 32 → p ≤ 7 → IsWord p n least w → (b : Bool) → lacks 10 (cond b (49 ∷ []) (join_with_byte 42 (factor_texts 1 w))) ≡ true
+lacks_cond : (p n least : ℕ) (w : List ℕ) → n ≤ MOST_GENERATORS → p ≤ 7 → IsWord p n least w → (b : Bool) → lacks 10 (cond b (49 ∷ []) (join_with_byte 42 (factor_texts 1 w))) ≡ true
 lacks_cond p n least w small prime is true = refl
 lacks_cond p n least w small prime is false =
     join_lacks 10 42 (factor_texts 1 w) refl (all_lack 10 p least 1 w line_feed_other prime (let len = is.len in omega arith) (fit_word p n least w is))
 
 -- it has no LF
-pub word_line : (p n least : ℕ) (w : List ℕ) → n ≤ 32 → p ≤ 7 → IsWord p n least w → lacks 10 (word_text w) ≡ true
+pub word_line : (p n least : ℕ) (w : List ℕ) → n ≤ MOST_GENERATORS → p ≤ 7 → IsWord p n least w → lacks 10 (word_text w) ≡ true
 word_line p n least w small prime is = lacks_cond p n least w small prime is (is_empty_word w)

@@ -7,6 +7,7 @@ use Rattle.std.proofs.lemmas.List.{flat_map_more, map-append}
 use Rattle.std.proofs.lemmas.Grind.{flat_map-append}
 use Rattle.std.specs.Prelude.{codes, flat_map}
 use Rattle.std.specs.Fmt.{decimal}
+use Rattle.limits.specs.declared.TheConstants.{MOST_GENERATORS}
 use Rattle.group_table.specs.declared.Prime.{Prime}
 use Rattle.group_table.specs.Prime.{prime_value}
 use Rattle.power_commutator.specs.Presentations.{Presentation, IsPresentation, range}
@@ -142,6 +143,6 @@ canonical_from P p n head powers text h e f h1 h2 =
     regroup : (a b c d : List ℕ) → (a ++ (b ++ c)) ++ d ≡ a ++ (b ++ (c ++ d))
     regroup a b c d = simp append_assoc
 
-pub written_read : (P : Presentation) (q : Prime) (n : ℕ) (text : List ℕ) → text ≡ canonical P → IsPresentation P → prime_value q ≡ P.prime → n ≡ P.gens → n ≤ 32 → read text ≡ Ok P
+pub written_read : (P : Presentation) (q : Prime) (n : ℕ) (text : List ℕ) → text ≡ canonical P → IsPresentation P → prime_value q ≡ P.prime → n ≡ P.gens → n ≤ MOST_GENERATORS → read text ≡ Ok P
 written_read P q n text h is e f few =
     ap read h ∙ canonical_read P is (subst (λ p. prime p ≡ Some p) e (prime_is q)) (omega (arith, f))

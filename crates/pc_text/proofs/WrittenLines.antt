@@ -3,6 +3,7 @@ use Rattle.std.proofs.Common.{◌≡◌, ℕ, ◌+◌, ◌<◌, ◌≤◌, ◌&&
 use Rattle.std.specs.Prelude.{codes, is_some}
 use Rattle.std.specs.Fmt.{decimal}
 use Rattle.std.proofs.lemmas.Bool.Decides.{nat_tests}
+use Rattle.limits.specs.declared.TheConstants.{MOST_GENERATORS}
 use Rattle.pc_text.specs.declared.fault.Kind.TheVariants as kind
 use Rattle.pc_text.specs.declared.place.Place.{Place}
 use Rattle.pc_text.specs.declared.place.Place.TheVariants.{Power, Commutator}
@@ -18,7 +19,7 @@ use Rattle.pc_text.proofs.WrittenWords.{cut_written, front_written, numeral_writ
 
 -- left sides
 
-power_by : (p n : ℕ) (a digits : List ℕ) (place : Place) (o q : Option ℕ) → n ≤ 32 → p ≤ 7 → g_generator n a ≡ o → numeral p p digits ≡ q
+power_by : (p n : ℕ) (a digits : List ℕ) (place : Place) (o q : Option ℕ) → n ≤ MOST_GENERATORS → p ≤ 7 → g_generator n a ≡ o → numeral p p digits ≡ q
     → (expect kind.BadGenerator 1 o >>= λ i. require kind.BadPower (length a + 2) (is_some q) >>= λ _. Ok (Power i)) ≡ Ok place → a ++ 94 ∷ digits ≡ left_text p place
 power_by p n a digits place (Some i) (Some v) small prime is at h =
     let range = numeral_range p p digits v at in
@@ -31,7 +32,7 @@ power_by p n a digits place (Some i) (Some v) small prime is at h =
 power_by p n a digits place (Some i) None small prime is at h = absurd (err_ok _ _ h)
 power_by p n a digits place None q small prime is at h = absurd (err_ok _ _ h)
 
-commutator_by : (p n : ℕ) (b a : List ℕ) (place : Place) (o q : Option ℕ) → n ≤ 32 → g_generator n b ≡ o → g_generator n a ≡ q
+commutator_by : (p n : ℕ) (b a : List ℕ) (place : Place) (o q : Option ℕ) → n ≤ MOST_GENERATORS → g_generator n b ≡ o → g_generator n a ≡ q
     → (expect kind.BadGenerator 2 o >>= λ j. expect kind.BadGenerator (length b + 3) q >>= λ i. require kind.BadOrder 1 (ltb i j) >>= λ _. Ok (Commutator j i)) ≡ Ok place
     → 91 ∷ (b ++ 44 ∷ (a ++ 93 ∷ [])) ≡ left_text p place
 commutator_by p n b a place (Some j) (Some i) small is at h =
@@ -47,7 +48,7 @@ abbrev bytes_of : Left → List ℕ
 bytes_of (PowerOf a digits) = a ++ 94 ∷ digits
 bytes_of (CommutatorOf b a) = 91 ∷ (b ++ 44 ∷ (a ++ 93 ∷ []))
 
-side_written : (p n : ℕ) (left : Left) (place : Place) → n ≤ 32 → p ≤ 7 → left_side (by_number p n) left ≡ Ok place → bytes_of left ≡ left_text p place
+side_written : (p n : ℕ) (left : Left) (place : Place) → n ≤ MOST_GENERATORS → p ≤ 7 → left_side (by_number p n) left ≡ Ok place → bytes_of left ≡ left_text p place
 side_written p n (PowerOf a digits) place small prime h = power_by p n a digits place (g_generator n a) (numeral p p digits) small prime refl refl h
 side_written p n (CommutatorOf b a) place small prime h = commutator_by p n b a place (g_generator n b) (g_generator n a) small refl refl h
 
@@ -108,7 +109,7 @@ shape_written p n bytes s h =
     ∙ ap (λ (t : List ℕ). bytes_of s.left ++ 32 ∷ t) (front_written (codes "= ") x.1 s.right parts.1)
 
 -- what is read as a relation is its text, and its line has an end
-pub relation_written : (p n : ℕ) (earlier : List Relation) (bytes : List ℕ) (ended : Bool) (r : Relation) → n ≤ 32 → p ≤ 7 → 1 < p → relation (by_number p n) earlier bytes ended ≡ Ok r
+pub relation_written : (p n : ℕ) (earlier : List Relation) (bytes : List ℕ) (ended : Bool) (r : Relation) → n ≤ MOST_GENERATORS → p ≤ 7 → 1 < p → relation (by_number p n) earlier bytes ended ≡ Ok r
     → (bytes ≡ relation_text p r) × (ended ≡ true)
 relation_written p n earlier bytes ended r small low prime h =
     let one = bind_ok (require kind.BadLine 1 ended) (λ _. shape_row (by_number p n) earlier bytes) r h in

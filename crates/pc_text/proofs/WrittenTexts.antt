@@ -5,6 +5,7 @@ use Rattle.std.specs.Fmt.{decimal}
 use Rattle.std.specs.List.{slice_split, join_with_byte}
 use Rattle.std.proofs.lemmas.List.{drop-drop}
 use Rattle.std.proofs.lemmas.List.Splits.{join_with_byte-slice_split}
+use Rattle.limits.specs.declared.TheConstants.{MOST_GENERATORS}
 use Rattle.pc_text.specs.declared.fault.Kind.TheVariants as kind
 use Rattle.pc_text.specs.Faults.{expect, in_line}
 use Rattle.pc_text.specs.Lines.{numbered, after_front}
@@ -31,7 +32,7 @@ record AreLines (p : ℕ) (earlier found : List Relation) (parts : List (List �
 no_lines : (p : ℕ) (earlier found : List Relation) (parts : List (List ℕ)) → earlier ≡ found → join_with_byte 10 parts ≡ [] → AreLines p earlier found parts
 no_lines p earlier found parts same empty = record { relations = []; behind = sym same ∙ sym (append-nil earlier); text = empty }
 
-lines_written : (p n k : ℕ) (earlier found : List Relation) (parts : List (List ℕ)) → n ≤ 32 → p ≤ 7 → 1 < p → relations (by_number p n) earlier (numbered k parts) ≡ Ok found → AreLines p earlier found parts
+lines_written : (p n k : ℕ) (earlier found : List Relation) (parts : List (List ℕ)) → n ≤ MOST_GENERATORS → p ≤ 7 → 1 < p → relations (by_number p n) earlier (numbered k parts) ≡ Ok found → AreLines p earlier found parts
 lines_written p n k earlier found [] small low prime h = no_lines p earlier found [] (ok_same _ _ h) refl
 lines_written p n k earlier found ([] ∷ []) small low prime h = no_lines p earlier found ([] ∷ []) (ok_same _ _ h) refl
 lines_written p n k earlier found ((b ∷ bytes) ∷ []) small low prime h =
@@ -81,8 +82,8 @@ prime_written bytes p h =
 
 count_written : (bytes : List ℕ) (n : ℕ) → count_line bytes ≡ Some n → bytes ≡ codes "gens " ++ decimal n
 count_written bytes n h =
-    let found = and_then_some (numeral 0 32) (after_front (codes "gens ") bytes) n h in
-    front_written (codes "gens ") bytes found.0 found.1 ∙ ap (λ (t : List ℕ). codes "gens " ++ t) (numeral_written 0 32 found.0 n (omega arith) found.2)
+    let found = and_then_some (numeral 0 MOST_GENERATORS) (after_front (codes "gens ") bytes) n h in
+    front_written (codes "gens ") bytes found.0 found.1 ∙ ap (λ (t : List ℕ). codes "gens " ++ t) (numeral_written 0 MOST_GENERATORS found.0 n (omega arith) found.2)
 
 joined_lines : (a b c rest : List ℕ) → a ++ 10 ∷ (b ++ 10 ∷ (c ++ 10 ∷ rest)) ≡ line_text a ++ (line_text b ++ (line_text c ++ rest))
 joined_lines a b c rest = simp append_assoc

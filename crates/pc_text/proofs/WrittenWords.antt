@@ -8,6 +8,7 @@ use Rattle.std.proofs.lemmas.Fmt.{decimal_digit, decimal_step}
 use Rattle.std.proofs.lemmas.List.{take-append-drop, length-replicate, drop-drop}
 use Rattle.std.proofs.lemmas.List.Splits.{join_with_byte-slice_split}
 use Rattle.std.proofs.lemmas.Slice.Eq.{bytes_eq-Decides}
+use Rattle.limits.specs.declared.TheConstants.{MOST_GENERATORS}
 use Rattle.pc_text.specs.declared.fault.Kind.TheVariants as kind
 use Rattle.power_commutator.specs.Presentations.{IsWord}
 use Rattle.pc_text.specs.Faults.{expect}
@@ -94,7 +95,7 @@ numeral_written low high (b ∷ c ∷ d ∷ bytes) k small h =
 same_bytes : (a b : ℕ) → eqb a b ≡ true → a ≡ b
 same_bytes a b h = grind (arith, nat_tests)
 
-pub name_written : (n : ℕ) (bytes : List ℕ) (k : ℕ) → n ≤ 32 → g_generator n bytes ≡ Some k → bytes ≡ name k
+pub name_written : (n : ℕ) (bytes : List ℕ) (k : ℕ) → n ≤ MOST_GENERATORS → g_generator n bytes ≡ Some k → bytes ≡ name k
 name_written n [] k small h = absurd (let e : None ≡ Some k = h in cc)
 name_written n (b ∷ digits) k small h =
     let found = if_some (eqb b 103) (numeral 1 n digits) k h in
@@ -103,7 +104,7 @@ name_written n (b ∷ digits) k small h =
 more_than_one : (k e : ℕ) → 2 ≤ e → factor_text k e ≡ name k ++ (94 ∷ decimal e)
 more_than_one k e h = let ne : eqb e 1 ≡ false = grind (arith, nat_tests) in rw ne refl
 
-parts_written : (p n : ℕ) (piece : List ℕ) (cut : Option (List ℕ × List ℕ)) (f : Factor) → n ≤ 32 → p ≤ 7 → cut_at 94 piece ≡ cut → factor_parts (by_number p n) piece cut ≡ Some f
+parts_written : (p n : ℕ) (piece : List ℕ) (cut : Option (List ℕ × List ℕ)) (f : Factor) → n ≤ MOST_GENERATORS → p ≤ 7 → cut_at 94 piece ≡ cut → factor_parts (by_number p n) piece cut ≡ Some f
     → (piece ≡ factor_text f.0 f.1) × (0 < f.1)
 parts_written p n piece (Some x) f small prime is h =
     let found = both_some (g_generator n x.0) (numeral 2 (p - 1) x.1) f h in
@@ -120,7 +121,7 @@ parts_written p n piece None f small prime is h =
     let one : 1 ≡ f.1 = some_same _ _ found.1 in
     (name_written n piece f.0 small found.0 ∙ ap (factor_text f.0) one, omega arith)
 
-pub factor_written : (p n : ℕ) (piece : List ℕ) (f : Factor) → n ≤ 32 → p ≤ 7 → factor (by_number p n) piece ≡ Some f → (piece ≡ factor_text f.0 f.1) × (0 < f.1)
+pub factor_written : (p n : ℕ) (piece : List ℕ) (f : Factor) → n ≤ MOST_GENERATORS → p ≤ 7 → factor (by_number p n) piece ≡ Some f → (piece ≡ factor_text f.0 f.1) × (0 < f.1)
 factor_written p n piece f small prime h = parts_written p n piece (cut_at 94 piece) f small prime refl h
 
 parts_index : (p n : ℕ) (piece : List ℕ) (cut : Option (List ℕ × List ℕ)) (f : Factor) → factor_parts (by_number p n) piece cut ≡ Some f → f.0 ≤ n
@@ -189,7 +190,7 @@ written_step last k e exponents w piece pieces lt le pos is zeros are = record {
   len = are.len ∙ length-set exponents (k - 1) e;
 }
 
-pub factors_written : (p n last column : ℕ) (exponents w : List ℕ) (pieces : List (List ℕ)) → n ≤ 32 → p ≤ 7 → length exponents ≡ n → ((i : ℕ) → last ≤ i → get_or exponents i 0 ≡ 0)
+pub factors_written : (p n last column : ℕ) (exponents w : List ℕ) (pieces : List (List ℕ)) → n ≤ MOST_GENERATORS → p ≤ 7 → length exponents ≡ n → ((i : ℕ) → last ≤ i → get_or exponents i 0 ≡ 0)
     → factors (by_number p n) last column exponents pieces ≡ Ok w → AreWritten last exponents w pieces
 factors_written p n last column exponents w [] small prime len zeros h =
     subst (λ v. AreWritten last exponents v []) (ok_same _ _ h) (record {
@@ -230,7 +231,7 @@ text_by : (w : List ℕ) (x : List ℕ) (xs : List (List ℕ)) → factor_texts 
 text_by w x xs some true is = refl
 text_by w x xs some false is = absurd (let e : [] ≡ x ∷ xs = sym (nonempty 1 w is) ∙ some in cc)
 
-word_by : (p n least column : ℕ) (bytes w : List ℕ) → n ≤ 32 → p ≤ 7 → IsWord p n least w → (b : Bool) → bytes_eq bytes (49 ∷ []) ≡ b
+word_by : (p n least column : ℕ) (bytes w : List ℕ) → n ≤ MOST_GENERATORS → p ≤ 7 → IsWord p n least w → (b : Bool) → bytes_eq bytes (49 ∷ []) ≡ b
     → cond b (Ok (replicate n 0)) (factors (by_number p n) least column (replicate n 0) (slice_split (λ x. x == 42) bytes)) ≡ Ok w → bytes ≡ word_text w
 word_by p n least column bytes w small prime is true one h =
     bytes_same bytes (49 ∷ []) one ∙ empty_text n ∙ ap word_text (ok_same _ _ h)
@@ -243,5 +244,5 @@ word_by p n least column bytes w small prime is false one h =
     ∙ text_by w part.0 part.1 (sym all ∙ part.2) (list_any (λ e. not (e == 0)) w) refl
 
 -- what is read as a word is the text of that word
-pub word_written : (p n least column : ℕ) (bytes w : List ℕ) → n ≤ 32 → p ≤ 7 → IsWord p n least w → word (by_number p n) least column bytes ≡ Ok w → bytes ≡ word_text w
+pub word_written : (p n least column : ℕ) (bytes w : List ℕ) → n ≤ MOST_GENERATORS → p ≤ 7 → IsWord p n least w → word (by_number p n) least column bytes ≡ Ok w → bytes ≡ word_text w
 word_written p n least column bytes w small prime is h = word_by p n least column bytes w small prime is (bytes_eq bytes (codes "1")) refl h

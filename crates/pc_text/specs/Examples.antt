@@ -1,7 +1,8 @@
 -- The definitions at texts.
-use Rattle.std.specs.Prelude.{◌≡◌, ℕ, List, [], ◌∷◌, ◌++◌, Result, Ok, Err, codes, map, refl}
+use Rattle.std.specs.Prelude.{◌≡◌, ℕ, ◌+◌, List, [], ◌∷◌, ◌++◌, Result, Ok, Err, codes, decimal, map, refl}
 use Rattle.std.specs.List.{concat}
 use Rattle.std.specs.Fmt.{digits}
+use Rattle.limits.specs.declared.TheConstants.{MOST_GENERATORS}
 use Rattle.power_commutator.specs.Presentations.{Presentation}
 use Rattle.pc_text.specs.declared.fault.Kind.{Kind}
 use Rattle.pc_text.specs.declared.fault.Kind.TheVariants as kind
@@ -25,8 +26,8 @@ bad_prime : read (text (codes "pgroup 1" ∷ codes "prime 4" ∷ codes "gens 1" 
 unfolding at text
 bad_prime = refl
 
-bad_count : read (text (codes "pgroup 1" ∷ codes "prime 2" ∷ codes "gens 33" ∷ [])) ≡ at 3 1 kind.BadCount
-unfolding at text
+bad_count : read (text (codes "pgroup 1" ∷ codes "prime 2" ∷ (codes "gens " ++ decimal (MOST_GENERATORS + 1)) ∷ [])) ≡ at 3 1 kind.BadCount
+unfolding at text digits
 bad_count = refl
 
 -- line 4 behind these

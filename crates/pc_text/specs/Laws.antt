@@ -1,5 +1,6 @@
 -- Laws of presentation texts.
 use Rattle.std.specs.Prelude.{◌≡◌, ◌≤◌, ◌↔◌, List, ℕ, Ok, Some}
+use Rattle.limits.specs.declared.TheConstants.{MOST_GENERATORS}
 use Rattle.power_commutator.specs.Presentations.{Presentation, IsPresentation}
 use Rattle.pc_text.specs.declared.fault.TextFault.{TextFault}
 use Rattle.pc_text.specs.declared.fault.TextFault.TheVariants as faults
@@ -24,5 +25,5 @@ IsOutside (faults.At kind line column) text = (c : Content) → IsContent c → 
 -- the canonical text of a presentation has no fault, and stands for that presentation
 abbrev pub CanonicalIsRead : Type 0
 CanonicalIsRead =
-    (P : Presentation) → IsPresentation P → prime P.prime ≡ Some P.prime → P.gens ≤ 32
+    (P : Presentation) → IsPresentation P → prime P.prime ≡ Some P.prime → P.gens ≤ MOST_GENERATORS
     → read (canonical P) ≡ Ok P

@@ -1,5 +1,6 @@
 -- What the relations of a text keep to.
 use Rattle.std.specs.Prelude.{◌≡◌, ◌<◌, ◌≤◌, ℕ, false, List, [], ◌∷◌, ◌++◌, All, Some}
+use Rattle.limits.specs.declared.TheConstants.{MOST_GENERATORS}
 use Rattle.power_commutator.specs.Presentations.{IsWord}
 use Rattle.pc_text.specs.declared.place.Place.{Place}
 use Rattle.pc_text.specs.declared.place.Place.TheVariants.{Power, Commutator}
@@ -21,9 +22,9 @@ abbrev pub AreNew : List Relation → List Relation → Type 0
 AreNew earlier [] = Unit {0}
 AreNew earlier (r ∷ relations) = (stands r.place earlier ≡ false) × AreNew (earlier ++ r ∷ []) relations
 
--- a listed prime, at most 32 generators, and relations with different left sides
+-- a listed prime, not too many generators, and relations with different left sides
 pub record IsContent (c : Content) : Type 0 where
   pub prime : prime c.prime ≡ Some c.prime
-  pub few : c.gens ≤ 32
+  pub few : c.gens ≤ MOST_GENERATORS
   pub relations : All (IsRelation c.prime c.gens) c.relations
   pub once : AreNew [] c.relations

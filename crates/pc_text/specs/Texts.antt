@@ -1,5 +1,6 @@
 -- The presentation text: what it says, or its first fault.
 use Rattle.std.specs.Prelude.{ℕ, ◌==◌, ◌||◌, if◌then◌else◌, List, [], ◌∷◌, ◌++◌, drop, Option, Some, None, option_and_then, Result, Ok, codes, bytes_eq}
+use Rattle.limits.specs.declared.TheConstants.{MOST_GENERATORS}
 use Rattle.power_commutator.specs.Presentations.{Presentation}
 use Rattle.pc_text.specs.declared.fault.Kind.TheVariants as kind
 use Rattle.pc_text.specs.Faults.{Fault, ◌>>=◌, expect, in_line}
@@ -39,7 +40,7 @@ prime_line bytes =
 
 -- `gens C`
 abbrev pub count_line : List ℕ → Option ℕ
-count_line bytes = option_and_then (numeral 0 32) (after_front (codes "gens ") bytes)
+count_line bytes = option_and_then (numeral 0 MOST_GENERATORS) (after_front (codes "gens ") bytes)
 
 -- the relations of the lines, in order, behind those of earlier lines
 abbrev pub relations : Naming → List Relation → List Line → Result (List Relation) Fault

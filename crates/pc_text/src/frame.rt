@@ -2,6 +2,7 @@
 
 ghost use Rattle.std.specs.Prelude.{◌≡◌, ◌≤◌};
 ghost use Rattle.group_table.specs.Prime.{prime_value};
+ghost use Rattle.limits.specs.declared.TheConstants.{MOST_GENERATORS};
 
 use group_table::Prime;
 
@@ -10,7 +11,7 @@ use group_table::Prime;
 pub struct Frame {
     pub prime: Prime,
     pub gens: u32,
-    pub ghost few: { gens ≤ 32 },
+    pub ghost few: { gens ≤ MOST_GENERATORS },
 }
 
 impl Frame {

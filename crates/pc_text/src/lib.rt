@@ -5,6 +5,7 @@
 mod cuts;
 mod fault;
 mod frame;
+mod laws;
 mod names;
 mod numerals;
 mod place;
@@ -17,6 +18,7 @@ mod words;
 mod writer;
 
 pub use crate::fault::{Kind, TextFault};
+pub use crate::laws::{canonical_is_read, table_is_grammar};
 pub use crate::numerals::numeral;
 pub use crate::reader::read_presentation;
 pub use crate::writer::write_presentation;

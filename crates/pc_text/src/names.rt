@@ -7,6 +7,7 @@ ghost use Rattle.pc_text.specs.Views.{names_of};
 use crate::cuts::cut;
 use crate::frame::Frame;
 use crate::numerals::{is_digits, numeral};
+use limits::MOST_GENERATORS;
 
 /// Whether the bytes are `g` and digits.
 pub fn is_name(bytes: &[u8]) -> bool
@@ -20,7 +21,7 @@ pub fn is_name(bytes: &[u8]) -> bool
 
 /// The generator of a name from `g1` to `gn`.
 pub fn generator(gens: u32, bytes: &[u8]) -> Option<u32>
-    requires { gens ≤ 32 }
+    requires { gens ≤ MOST_GENERATORS }
     ensures generator { result ≡ g_generator gens bytes.now }
     ensures range { IfSome result (λ k. (0 < k) × (k ≤ gens)) }
 {

@@ -1,7 +1,7 @@
 //! The reader of a presentation text.
 
 ghost use Rattle.std.specs.Prelude.{◌≡◌, ◌≤◌, Ok, length, IfOk, IfErr, OnOk};
-ghost use Rattle.pc_text.specs.Laws.{TableIsGrammar, StandsFor, IsOutside};
+ghost use Rattle.pc_text.specs.Laws.{StandsFor, IsOutside};
 ghost use Rattle.pc_text.specs.Texts.{read, presentation_of};
 ghost use Rattle.pc_text.specs.Rules.{IsRelation, IsContent};
 ghost use Rattle.pc_text.specs.Views.{TextFails, shown, shown_content, with_relation};
@@ -11,14 +11,15 @@ use crate::place::Place;
 use crate::relations::Relation;
 use crate::texts::{Content, content_of};
 use group_table::Memory;
+use limits::LONGEST_TEXT;
 use pc_group::Presentation;
 use smallvec::SmallVec;
 use std::alloc::Global;
 
 /// The presentation that a text stands for, or the text's first fault: its kind, its line and its
-/// column, both counted from 1, columns in bytes. The text has at most 65,536 bytes.
+/// column, both counted from 1, columns in bytes. The text has at most `LONGEST_TEXT` bytes.
 pub fn read_presentation(alloc: Global, text: &[u8]) -> Result<Presentation, TextFault>
-    requires { length text.now ≤ 65536 }
+    requires { length text.now ≤ LONGEST_TEXT }
     ensures presentation { IfOk result (λ p. read text.now ≡ Ok p) }
     ensures grammar { IfOk result (λ p. StandsFor text.now p) }
     ensures fault { IfErr result (λ e. TextFails e (read text.now)) }
@@ -55,8 +56,3 @@ fn set_word(alloc: Global, made: &mut Presentation, relation: &Relation) -> Resu
     }
     Ok(())
 }
-
-/// The table of faults and the grammar agree on every text.
-pub fn table_is_grammar()
-    ensures { TableIsGrammar }
-{}

@@ -1,12 +1,14 @@
 //! Texts with faults, texts at the edges of the grammar, and canonical texts.
 
 use crate::{Kind, TextFault, read_presentation, write_presentation};
+use limits::{LONGEST_TEXT, MOST_GENERATORS};
 use std::alloc::Global;
 use std::process::Abort;
+use std::test::Fail;
 
 // The fault of a text, where it has one.
 fn fault(rt: &impl Abort, alloc: Global, text: &str) -> Option<TextFault> {
-    assert!(rt; text.len() <= 65_536);
+    assert!(rt; text.len() <= LONGEST_TEXT);
     read_presentation(alloc, text.as_bytes()).err()
 }
 
@@ -23,7 +25,7 @@ fn each_kind_of_fault(rt: HostRuntime) {
     for (text, kind, line, column) in [
         ("", Kind::BadHeader, 1, 1),
         ("pgroup 1\nprime 4\ngens 1\n", Kind::BadPrime, 2, 1),
-        ("pgroup 1\nprime 2\ngens 33\n", Kind::BadCount, 3, 1),
+        ("pgroup 1\nprime 2\ngens 2 \n", Kind::BadCount, 3, 1),
         ("pgroup 1\nprime 2\ngens 2\n\n", Kind::BadLine, 4, 1),
         (
             "pgroup 1\nprime 2\ngens 2\ng3^2 = 1\n",
@@ -75,12 +77,24 @@ fn edges_of_the_header(rt: HostRuntime) {
     ] {
         expect_fault(&rt, rt.alloc(), text, kind, line, 1);
     }
-    for text in [
-        "pgroup 1\nprime 2\ngens 0\n",
-        "pgroup 1\nprime 7\ngens 32\n",
+}
+
+#[test]
+fn counts_of_generators(rt: HostRuntime) -> Result<(), Fail> {
+    let bad = TextFault::At {
+        kind: Kind::BadCount,
+        line: 3,
+        column: 1,
+    };
+    for (gens, expected) in [
+        (0, None),
+        (MOST_GENERATORS, None),
+        (MOST_GENERATORS + 1, Some(bad)),
     ] {
-        assert_eq!(rt; fault(&rt, rt.alloc(), text), None, "in {text:?}");
+        let text = format!(in rt.alloc(); "pgroup 1\nprime 7\ngens {gens}\n")?;
+        assert_eq!(rt; fault(&rt, rt.alloc(), text.as_str()), expected, "{gens}");
     }
+    Ok(())
 }
 
 // Line 4 over three generators and the prime 3.
@@ -165,7 +179,7 @@ fn canonical_texts(rt: HostRuntime) {
             quaternion,
         ),
     ] {
-        assert!(rt; text.len() <= 65_536);
+        assert!(rt; text.len() <= LONGEST_TEXT);
         let p = read_presentation(rt.alloc(), text.as_bytes()).expect(&rt, "a presentation");
         let written = write_presentation(rt.alloc(), &p).expect(&rt, "memory");
         assert_eq!(rt; written.as_slice(), canonical.as_bytes());

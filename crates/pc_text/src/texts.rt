@@ -14,6 +14,7 @@ use crate::frame::Frame;
 use crate::numerals::numeral;
 use crate::relations::{Relation, read_relation};
 use group_table::Prime;
+use limits::{LONGEST_TEXT, MOST_GENERATORS};
 use std::alloc::Global;
 
 /// What a text says: the prime and the number of generators, and the relations in order.
@@ -41,9 +42,9 @@ fn prime_of(bytes: &[u8]) -> Option<Prime>
 /// The number of generators of line 3.
 fn count_of(bytes: &[u8]) -> Option<u32>
     ensures line { result ≡ count_line bytes.now }
-    ensures few { IfSome result (λ n. n ≤ 32) }
+    ensures few { IfSome result (λ n. n ≤ MOST_GENERATORS) }
 {
-    numeral(0, 32, strip(b"gens ", bytes)?)
+    numeral(0, MOST_GENERATORS, strip(b"gens ", bytes)?)
 }
 
 fn in_line(line: u32, stop: LineStop) -> TextFault
@@ -68,7 +69,7 @@ fn next_relation<'a>(
     number: u32,
     text: &'a [u8],
 ) -> Result<(Relation, &'a [u8]), TextFault>
-    requires few { length text.now ≤ 65536 }
+    requires few { length text.now ≤ LONGEST_TEXT }
     requires more { 0 < length text.now }
     ensures ok { IfOk result (λ x. GoesOn (names_of frame) (all_shown found.now) (shown x.0) number text.now x.1.now) }
     ensures err { IfErr result (λ e. TextFails e (relations (names_of frame) (all_shown found.now) (lines_from number text.now))) }
@@ -84,7 +85,7 @@ fn next_relation<'a>(
 
 /// The relations of the lines from line 4 on.
 fn relations_of(alloc: Global, frame: Frame, text: &[u8]) -> Result<Vec<Relation>, TextFault>
-    requires { length text.now ≤ 65536 }
+    requires { length text.now ≤ LONGEST_TEXT }
     ensures { TextGives (λ v. all_shown v.items) result (relations (names_of frame) [] (lines_from 4 text.now)) }
 {
     let mut found: Vec<Relation> = Vec::new(alloc);
@@ -117,7 +118,7 @@ fn at(kind: Kind, line: u32) -> TextFault
 
 #[tactic(auto, unfolding(crate::specs::Cuts::by_cuts))]
 fn content_by_cuts(alloc: Global, text: &[u8]) -> Result<Content, TextFault>
-    requires { length text.now ≤ 65536 }
+    requires { length text.now ≤ LONGEST_TEXT }
     ensures { TextGives shown_content result (by_cuts text.now) }
 {
     let Some((first, rest)) = cut(text, b'\n') else {
@@ -145,7 +146,7 @@ fn content_by_cuts(alloc: Global, text: &[u8]) -> Result<Content, TextFault>
 
 /// What a text says, or its first fault.
 pub fn content_of(alloc: Global, text: &[u8]) -> Result<Content, TextFault>
-    requires { length text.now ≤ 65536 }
+    requires { length text.now ≤ LONGEST_TEXT }
     ensures gives { TextGives shown_content result (content text.now) }
     ensures kept { IfOk result (λ c. IsContent (shown_content c)) }
 {

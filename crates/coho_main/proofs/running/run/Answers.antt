@@ -1,10 +1,10 @@
-use Rattle.std.proofs.Common.{sym, subst, inl, inr, Ok, Err}
+use Rattle.std.proofs.Common.{refl, sym, subst, inl, inr, Ok, Err}
 use Rattle.std.specs.List.{concat}
 use Rattle.std.specs.Io.KnownBytes.{Appends}
 use Rattle.coho_io.specs.Bytes.{AppendsFront}
 use Rattle.coho_io.specs.Causes.{Rose}
 use Rattle.coho_main.specs.Words.{contents, texts}
-use Rattle.coho_main.proofs.Run.{wrote_all, wrote_front, answers, told_meets, write_told, write_complete, answer_front, line_of_write, stopped, usage_stop, read_told, nothing_written, line_of_stop, complete_stop}
+use Rattle.coho_main.proofs.Run.{wrote_all, wrote_front, answers, told_meets, write_told, write_complete, memory_of_write, stopped, usage_stop, read_told, memory_of_stop, complete_stop}
 use Rattle.coho_main.proofs.running.run.Goals as goal
 
 pub returns-in-Ok-write_lines-clause-outcome : goal.returns-in-Ok-write_lines-clause-outcome
@@ -21,12 +21,10 @@ returns-in-Ok-clause-write g c = write_told c.report.result (g.E.Sink.written c.
 pub returns-in-Ok-clause-answered : goal.returns-in-Ok-clause-answered
 returns-in-Ok-clause-answered g c = λ _. (wrote_front (texts c.args.words.now) (g.F.Files.content c.args.files.now) (g.O.Sink.written c.args.out.now) (g.O.Sink.written c.write_lines.new.out) (g.E.Sink.written c.args.err.now) (g.E.Sink.written c.args.err.now) c.in-Ok.lines c.in-Ok.ensures.step (subst (λ ls. AppendsFront (g.O.Sink.written c.args.out.now) (g.O.Sink.written c.write_lines.new.out) (concat (contents ls))) c.deref.ensures.value c.in-Err-write_lines.ensures.err))
 
-pub returns-in-Ok-clause-front : goal.returns-in-Ok-clause-front
-returns-in-Ok-clause-front g c = λ _. answer_front (texts c.args.words.now) (g.F.Files.content c.args.files.now) (g.O.Sink.written c.args.out.now) (g.O.Sink.written c.write_lines.new.out) (g.E.Sink.written c.args.err.now) (g.E.Sink.written c.args.err.now)
+pub returns-in-Ok-clause-memory : goal.returns-in-Ok-clause-memory
+returns-in-Ok-clause-memory g c = λ h. memory_of_write (texts c.args.words.now) (g.F.Files.content c.args.files.now) (g.O.Sink.written c.args.out.now) (g.O.Sink.written c.write_lines.new.out) (g.E.Sink.written c.args.err.now) (g.E.Sink.written c.report.new.err) (g.F.Files.read_faults c.args.files.now) (g.F.Files.read_faults c.answer.new.files) (g.O.Sink.faults c.args.out.now) (g.O.Sink.faults c.write_lines.new.out) c.in-Err-write_lines.stop
     (wrote_front (texts c.args.words.now) (g.F.Files.content c.args.files.now) (g.O.Sink.written c.args.out.now) (g.O.Sink.written c.write_lines.new.out) (g.E.Sink.written c.args.err.now) (g.E.Sink.written c.args.err.now) c.in-Ok.lines c.in-Ok.ensures.step (subst (λ ls. AppendsFront (g.O.Sink.written c.args.out.now) (g.O.Sink.written c.write_lines.new.out) (concat (contents ls))) c.deref.ensures.value c.in-Err-write_lines.ensures.err))
-
-pub returns-in-Ok-clause-line : goal.returns-in-Ok-clause-line
-returns-in-Ok-clause-line g c = λ h. line_of_write (texts c.args.words.now) (g.F.Files.content c.args.files.now) (g.O.Sink.written c.args.out.now) (g.O.Sink.written c.write_lines.new.out) (g.E.Sink.written c.args.err.now) (g.E.Sink.written c.report.new.err) (g.F.Files.read_faults c.args.files.now) (g.F.Files.read_faults c.answer.new.files) (g.O.Sink.faults c.args.out.now) (g.O.Sink.faults c.write_lines.new.out) c.in-Err-write_lines.stop c.in-Err-write_lines.ensures.cause (c.report.ensures.memory h)
+    c.in-Err-write_lines.ensures.cause (c.report.ensures.memory h)
 
 pub returns-in-Ok-clause-complete : goal.returns-in-Ok-clause-complete
 returns-in-Ok-clause-complete g c = λ told e is k reads writes. inr (write_complete c.report.result (g.E.Sink.written c.args.err.now) (g.E.Sink.written c.report.new.err) (g.E.Sink.faults c.args.err.now) (g.E.Sink.faults c.report.new.err) c.in-Err-write_lines.stop (g.O.Sink.faults c.args.out.now) (g.O.Sink.faults c.write_lines.new.out) c.report.ensures.told c.in-Err-write_lines.ensures.cause
@@ -42,12 +40,9 @@ returns-clause-usage g c = usage_stop c.report-in-Err.result (g.E.Sink.written c
 pub returns-clause-read : goal.returns-clause-read
 returns-clause-read g c = read_told c.report-in-Err.result (g.E.Sink.written c.args.err.now) (g.E.Sink.written c.report-in-Err.new.err) (g.E.Sink.faults c.args.err.now) (g.E.Sink.faults c.report-in-Err.new.err) (texts c.args.words.now) (g.F.Files.read_faults c.args.files.now) (g.F.Files.read_faults c.answer.new.files) c.in-Err.stop c.report-in-Err.ensures.told c.in-Err.ensures.cause
 
-pub returns-clause-front : goal.returns-clause-front
-returns-clause-front g c = λ _. nothing_written (texts c.args.words.now) (g.F.Files.content c.args.files.now) (g.O.Sink.written c.args.out.now)
-
-pub returns-clause-line : goal.returns-clause-line
-returns-clause-line g c = λ h.
-    line_of_stop (texts c.args.words.now) (g.F.Files.content c.args.files.now) (g.O.Sink.written c.args.out.now) (g.O.Sink.written c.args.out.now) (g.E.Sink.written c.args.err.now) (g.E.Sink.written c.report-in-Err.new.err) (g.F.Files.read_faults c.args.files.now) (g.F.Files.read_faults c.answer.new.files) (Rose (g.O.Sink.faults c.args.out.now) (g.O.Sink.faults c.args.out.now)) c.in-Err.stop c.in-Err.ensures.step c.in-Err.ensures.cause (c.report-in-Err.ensures.memory h)
+pub returns-clause-memory : goal.returns-clause-memory
+returns-clause-memory g c = λ h.
+    memory_of_stop (texts c.args.words.now) (g.F.Files.content c.args.files.now) (g.O.Sink.written c.args.out.now) (g.O.Sink.written c.args.out.now) (g.E.Sink.written c.args.err.now) (g.E.Sink.written c.report-in-Err.new.err) (g.F.Files.read_faults c.args.files.now) (g.F.Files.read_faults c.answer.new.files) (Rose (g.O.Sink.faults c.args.out.now) (g.O.Sink.faults c.args.out.now)) c.in-Err.stop refl c.in-Err.ensures.step c.in-Err.ensures.cause (c.report-in-Err.ensures.memory h)
 
 pub returns-clause-complete : goal.returns-clause-complete
 returns-clause-complete g c = λ told e is k reads writes.

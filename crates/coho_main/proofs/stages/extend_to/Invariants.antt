@@ -4,6 +4,7 @@ use Rattle.coho_main.proofs.stages.extend_to.Given as goal
 
 abbrev pub invariant-loop-i : goal.invariant-loop-i
 invariant-loop-i l = record {
-  last : l.resolution ≡ record l.fn.resolution { last = l._i };
+  group : l.resolution.group ≡ l.fn.resolution.group;
+  last : l.resolution.last ≡ l._i;
   fit : Fit l.fn.resolution.group l._i;
 }
