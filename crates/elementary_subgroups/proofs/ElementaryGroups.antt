@@ -20,10 +20,12 @@ digit_sum-below p (suc r) a b z =
 
 -- the first digit of a sum, and the others
 first_digit : (p r a b : ℕ) → 0 < p → digit_sum p (suc r) a b % p ≡ (a % p + b % p) % p
-first_digit p r a b z = mod-mul-add (digit_sum p r (a / p) (b / p)) p ((a % p + b % p) % p) (mod-lt (a % p + b % p) z)
+first_digit p r a b z =
+    mod-mul-add (digit_sum p r (a / p) (b / p)) p ((a % p + b % p) % p) (mod-lt (a % p + b % p) z)
 
 later_digits : (p r a b : ℕ) → 0 < p → digit_sum p (suc r) a b / p ≡ digit_sum p r (a / p) (b / p)
-later_digits p r a b z = div-mul-add (digit_sum p r (a / p) (b / p)) p ((a % p + b % p) % p) (mod-lt (a % p + b % p) z)
+later_digits p r a b z =
+    div-mul-add (digit_sum p r (a / p) (b / p)) p ((a % p + b % p) % p) (mod-lt (a % p + b % p) z)
 
 digit_sum-comm : (p r a b : ℕ) → digit_sum p r a b ≡ digit_sum p r b a
 digit_sum-comm p zero a b = refl
@@ -34,15 +36,19 @@ digit_sum-comm p (suc r) a b =
     swap : (x y : ℕ) → x + y ≡ y + x
     swap x y = omega arith
 
-digit_sum-assoc : (p r a b c : ℕ) → 0 < p → digit_sum p r (digit_sum p r a b) c ≡ digit_sum p r a (digit_sum p r b c)
+digit_sum-assoc : (p r a b c : ℕ) → 0 < p →
+    digit_sum p r (digit_sum p r a b) c ≡ digit_sum p r a (digit_sum p r b c)
 digit_sum-assoc p zero a b c z = refl
 digit_sum-assoc p (suc r) a b c z =
     ap (λ w. digit_sum p r w (c / p) * p + (digit_sum p (suc r) a b % p + c % p) % p) (later_digits p r a b z)
-    ∙ ap (λ w. digit_sum p r (digit_sum p r (a / p) (b / p)) (c / p) * p + (w + c % p) % p) (first_digit p r a b z)
+    ∙ ap (λ w. digit_sum p r (digit_sum p r (a / p) (b / p)) (c / p) * p + (w + c % p) % p)
+    (first_digit p r a b z)
     ∙ ap (λ w. w * p + ((a % p + b % p) % p + c % p) % p) (digit_sum-assoc p r (a / p) (b / p) (c / p) z)
     ∙ ap (λ w. digit_sum p r (a / p) (digit_sum p r (b / p) (c / p)) * p + w) digits
-    ∙ ap (λ w. digit_sum p r (a / p) (digit_sum p r (b / p) (c / p)) * p + (a % p + w) % p) (sym (first_digit p r b c z))
-    ∙ ap (λ w. digit_sum p r (a / p) w * p + (a % p + digit_sum p (suc r) b c % p) % p) (sym (later_digits p r b c z))
+    ∙ ap (λ w. digit_sum p r (a / p) (digit_sum p r (b / p) (c / p)) * p + (a % p + w) % p)
+    (sym (first_digit p r b c z))
+    ∙ ap (λ w. digit_sum p r (a / p) w * p + (a % p + digit_sum p (suc r) b c % p) % p)
+    (sym (later_digits p r b c z))
   where
     regroup : (x y w : ℕ) → x + y + w ≡ x + (y + w)
     regroup x y w = omega arith
@@ -121,7 +127,8 @@ elementary_is_group p r z = record {
   some = back 0 (positive p r z);
   closed = (elementary_is_table p r z).closed;
   one-mul = λ a i. sum 0 a (back 0 (positive p r z)) i ∙ digit_sum-zero p r a z (bound a i);
-  mul-one = λ a i. sum a 0 i (back 0 (positive p r z)) ∙ digit_sum-comm p r a 0 ∙ digit_sum-zero p r a z (bound a i);
+  mul-one = λ a i. sum a 0 i (back 0 (positive p r z)) ∙ digit_sum-comm p r a 0
+      ∙ digit_sum-zero p r a z (bound a i);
   mul-assoc = λ a b c i j k.
       sum (product (elementary_group p r) a b) c ((elementary_is_table p r z).closed a b i j) k
       ∙ ap (λ w. digit_sum p r w c) (sum a b i j) ∙ digit_sum-assoc p r a b c z
@@ -149,4 +156,5 @@ elementary_is_group p r z = record {
 
     positive : (p r : ℕ) → 0 < p → 0 < p ^ r
     positive p zero z = rw (pow-zero p) (omega arith)
-    positive p (suc r) z = let d = digit-below 0 (p ^ r) p 0 (positive p r z) z in rw (pow-suc p r) (omega (arith, d))
+    positive p (suc r) z =
+        let d = digit-below 0 (p ^ r) p 0 (positive p r z) z in rw (pow-suc p r) (omega (arith, d))
