@@ -2,6 +2,7 @@ pub mod Classes
 pub mod Cliques
 pub mod Conjugates
 pub mod Counting
+pub mod ElementaryGroups
 pub mod GreedyBases
 pub mod GroupLaws
 pub mod Indices

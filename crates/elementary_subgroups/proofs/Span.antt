@@ -13,6 +13,7 @@ use Rattle.elementary_subgroups.specs.OwnGroups.{digit_sum}
 use Rattle.elementary_subgroups.proofs.GroupLaws.{HasGroupLaw, power_below, commutes_power, power_of_unit}
 use Rattle.elementary_subgroups.proofs.Members.{in_left, in_right}
 use Rattle.elementary_subgroups.proofs.Cliques.{torsion_product}
+use Rattle.elementary_subgroups.proofs.ElementaryGroups.{digit_sum-below}
 use Rattle.elementary_subgroups.proofs.Conjugates.{same_right}
 use Rattle.elementary_subgroups.proofs.Numbering.{embed_below, embed_push, size_push}
 use Rattle.elementary_subgroups.proofs.Powers.{power_add, power_mul, power_mod, unit_modulo}
@@ -46,16 +47,6 @@ embed_commutes {G} L (b ∷ bs) e x h i c =
     ∙ ap (λ w. product G B w) (embed_commutes L bs (e / G.p) x (λ y k. h y (inr k)) i (λ y k. c y (inr k)))
     ∙ sym (L.law.mul-assoc B x U iB i iU) ∙ ap (λ w. product G w U) (commutes_power L b x (e % G.p) bb i
     (c b (inl refl))) ∙ L.law.mul-assoc x B U i iB iU
-
--- the sum of r digits has r digits
-pub digit_sum-below : (p r a b : ℕ) → 0 < p → digit_sum p r a b < p ^ r
-digit_sum-below p zero a b z = rw (pow-zero p) (omega arith)
-digit_sum-below p (suc r) a b z =
-    rw (pow-suc p r) (digit (digit_sum p r (a / p) (b / p)) (p ^ r) p ((a % p + b % p) % p)
-    (digit_sum-below p r (a / p) (b / p) z) (mod-lt (a % p + b % p) z))
-  where
-    digit : (r s p d : ℕ) → r < s → d < p → r * p + d < s * p
-    digit r s p d a b = grind arith
 
 -- the element with the sum of the digits is the product of the elements
 pub embed-digit_sum : {G : GroupTable} → HasGroupLaw G → 0 < G.p → (bs : List ℕ) → IsIndependentKind G bs →

@@ -54,10 +54,14 @@ pub fn images_are_products()
         × ((e : ℕ) → e < size G s.basis → slice_index s.images e ≡ embed G s.basis e) }
 {}
 
+/// The numbers below p^r are a group under the sum of digits.
+pub fn elementary_group_is_a_group()
+    ensures { (p r : ℕ) → 0 < p → IsGroupTable (elementary_group p r) }
+{}
+
 /// The elementary abelian group of the same rank is the subgroup's group in its own numbering: `embed` is a
 /// homomorphism from it, one to one onto the members. So subgroups of one rank share one table.
 pub fn own_group()
     ensures { (G : GroupTable) (s : NumberedSubgroup) (q : Prime) → IsGroupTable G → G.p ≡ prime_value q
-        → IsSubgroupOf G s → IsGroupTable (elementary_group G.p (length s.basis))
-        × IsOwnGroup G s (elementary_group G.p (length s.basis)) }
+        → IsSubgroupOf G s → IsOwnGroup G s (elementary_group G.p (length s.basis)) }
 {}

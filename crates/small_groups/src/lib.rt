@@ -26,8 +26,8 @@ pub enum SmallGroup {
     Sixteen,
     /// The extraspecial group of order 27 and exponent 3: g_3 is the commutator of g_2 and g_1.
     TwentySeven,
-    /// The extraspecial groups of order 32: g_5 is the commutator of g_2 and g_1 and that of g_4 and g_3, and in the
-    /// one of minus type the square of g_3 and of g_4.
+    /// The extraspecial groups of order 32: g_5 is the commutator of g_2 and g_1 and that of g_4 and g_3,
+    /// and in the one of minus type the square of g_3 and of g_4.
     ThirtyTwoPlus,
     ThirtyTwoMinus,
 }

@@ -7,7 +7,8 @@ use Rattle.group_table.specs.Prime.{prime_value}
 use Rattle.elementary_subgroups.specs.Bases.{IsSubgroupOf, NumberedSubgroup}
 use Rattle.elementary_subgroups.specs.OwnGroups.{digit_sum, elementary_group, IsOwnGroup}
 use Rattle.elementary_subgroups.proofs.GroupLaws.{law_of}
-use Rattle.elementary_subgroups.proofs.OwnGroup.{elementary_is_table, own_group_law, own_is, own_rank, own_small}
+use Rattle.elementary_subgroups.proofs.ElementaryGroups.{elementary_is_group, elementary_is_table}
+use Rattle.elementary_subgroups.proofs.OwnGroup.{own_is, own_rank, own_small}
 use Rattle.elementary_subgroups.proofs.Powers.{above_one}
 
 -- the sum of rank digits from that of the others
@@ -68,7 +69,7 @@ module _ (G : GroupTable) (L : IsGroupTable G) (q : Prime) (e : prime_value q â‰
   own_table = elementary_is_table G.p (length s.basis) (let z = above in omega arith)
 
   pub own_law : IsGroupTable (elementary_group G.p (length s.basis))
-  own_law = own_group_law (law_of G L) q (sym e) above s S
+  own_law = elementary_is_group G.p (length s.basis) (let z = above in omega arith)
 
   pub own_group : IsOwnGroup G s (elementary_group G.p (length s.basis))
   own_group = own_is (law_of G L) q (sym e) above s S

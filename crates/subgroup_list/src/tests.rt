@@ -26,8 +26,8 @@ fn assert_bases(
     Ok(())
 }
 
-// By hand: those of an extraspecial 2-group are the centre with the largest subspaces on which the squares are 1. For 32
-// with the plus sign the expected bases are an independent implementation's.
+// By hand: those of an extraspecial 2-group are the centre with the largest subspaces on which the squares
+// are 1. For 32 with the plus sign the expected bases are an independent implementation's.
 #[test]
 fn lists_one_subgroup_of_each_class(rt: HostRuntime) -> Result<(), Fail> {
     for (kind, bases) in [
@@ -88,8 +88,8 @@ fn assert_elements(
     Ok(())
 }
 
-// By hand. In the subgroup of 27 with the basis 4, 8 the number 2 is 4^2 = 17, and 5 is 4^2 8 = 22; 5 and 7 are 2 + 3
-// and 1 + 2 * 3.
+// By hand. In the subgroup of 27 with the basis 4, 8 the number 2 is 4^2 = 17, and 5 is 4^2 8 = 22; 5 and 7
+// are 2 + 3 and 1 + 2 * 3.
 #[test]
 fn numbers_the_elements(rt: HostRuntime) -> Result<(), Fail> {
     let alloc = rt.alloc();
