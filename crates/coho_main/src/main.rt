@@ -4,6 +4,8 @@
 mod answers;
 mod cause;
 mod degree;
+#[cfg(test)]
+mod known_rings;
 mod layers;
 mod loading;
 mod operands;

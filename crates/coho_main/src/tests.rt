@@ -56,12 +56,14 @@ fn describes_groups(rt: HostRuntime) -> Result<(), Fail> {
 
 #[test]
 fn resolves_groups(rt: HostRuntime) -> Result<(), Fail> {
-    let dihedral = "pgroup 1\nprime 2\ngens 3\ng2^2 = g3\n[g2,g1] = g3\n";
+    let stages =
+        "stage 0 rank 1 kernel 7\nstage 1 rank 2 kernel 9 rows 1 2\nstage 2 rank 3 kernel 15 rows 1 2 6\n";
     for (text, degree, answer) in [
+        ("pgroup 1\nprime 2\ngens 3\n[g2,g1] = g3\n", "2", stages),
         (
-            dihedral,
+            "pgroup 1\nprime 2\ngens 3\ng2^2 = g3\n[g2,g1] = g3\n",
             "2",
-            "stage 0 rank 1 kernel 7\nstage 1 rank 2 kernel 9 rows 1 2\nstage 2 rank 3 kernel 15 rows 1 2 6\n",
+            stages,
         ),
         (
             "pgroup 1\nprime 2\ngens 1\n",
@@ -77,35 +79,6 @@ fn resolves_groups(rt: HostRuntime) -> Result<(), Fail> {
         let mut files = MemFiles::new(rt.alloc());
         files.put("t", text.as_bytes())?;
         let ended = run_words(rt.alloc(), &mut files, &["resolve", "t", degree])?;
-        assert_eq!(rt; ended.status, Status::Answered, "{text}");
-        assert_eq!(rt; ended.out.bytes(), answer.as_bytes(), "{text}");
-        assert_eq!(rt; ended.err.bytes(), b"".as_slice(), "{text}");
-    }
-    Ok(())
-}
-
-#[test]
-fn presents_rings(rt: HostRuntime) -> Result<(), Fail> {
-    for (text, degree, answer) in [
-        (
-            "pgroup 1\nprime 2\ngens 1\n",
-            "3",
-            "coho ring 1\nprime 2\norder 2\ndegree 3\nranks 1 1 1 1\ngenerators 1\nx_1_1\nrelations 0\n",
-        ),
-        (
-            "pgroup 1\nprime 2\ngens 3\ng1^2 = g3\ng2^2 = g3\n[g2,g1] = g3\n",
-            "6",
-            "coho ring 1\nprime 2\norder 8\ndegree 6\nranks 1 2 2 1 1 2 2\ngenerators 3\nx_1_1\nx_1_2\nx_4_1\nrelations 2\nx_1_1^2+x_1_1*x_1_2+x_1_2^2\nx_1_2^3\n",
-        ),
-        (
-            "pgroup 1\nprime 3\ngens 1\n",
-            "2",
-            "coho ring 1\nprime 3\norder 3\ndegree 2\nranks 1 1 1\ngenerators 2\nx_1_1\nx_2_1\nrelations 0\n",
-        ),
-    ] {
-        let mut files = MemFiles::new(rt.alloc());
-        files.put("t", text.as_bytes())?;
-        let ended = run_words(rt.alloc(), &mut files, &["ring", "t", degree])?;
         assert_eq!(rt; ended.status, Status::Answered, "{text}");
         assert_eq!(rt; ended.out.bytes(), answer.as_bytes(), "{text}");
         assert_eq!(rt; ended.err.bytes(), b"".as_slice(), "{text}");
@@ -223,6 +196,17 @@ fn refuses_files_and_words(rt: HostRuntime) -> Result<(), Fail> {
         assert_eq!(rt; ended.out.bytes(), b"".as_slice(), "{texts:?}");
         assert_eq!(rt; ended.err.bytes(), line.as_bytes(), "{texts:?}");
     }
+    Ok(())
+}
+
+// A text is read in pieces of 4,096 bytes until its length is past the limit, so no 18th read is tried.
+#[test]
+fn stops_reading_past_the_limit(rt: HostRuntime) -> Result<(), Fail> {
+    let mut files = MemFiles::new(rt.alloc());
+    files.put("t", &[b'x'; 70_000])?;
+    files.fail_at(18, 0)?;
+    let ended = run_words(rt.alloc(), &mut files, &["group", "t"])?;
+    assert_eq!(rt; ended.status, Status::Limit);
     Ok(())
 }
 
