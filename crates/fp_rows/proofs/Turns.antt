@@ -1,9 +1,9 @@
 -- Loops over the rows of a matrix or the entries of a row: what a turn takes, and what is left.
-use Rattle.std.proofs.Common.{◌≡◌, ℕ, zero, suc, ◌+◌, ◌<◌, ◌≤◌, List, [], ◌∷◌, length, drop, get_or, arith, ap, sym, ◌∙◌}
+use Rattle.std.proofs.Common.{◌≡◌, ℕ, zero, suc, ◌+◌, ◌-◌, ◌<◌, ◌≤◌, List, [], ◌∷◌, length, drop, get_or, arith, ap, sym, ◌∙◌}
 use mathlib.Core.Path.{subst}
 use Rattle.std.specs.Slice.Iter.{iter_rest}
 use Rattle.std.specs.declared.slice.Iter.{Iter}
-use Rattle.linear_algebra.specs.Rows.{row}
+use Rattle.linear_algebra.specs.Rows.{row, IsMatrix}
 use Rattle.fp_rows.specs.Iterations.{IsOverRows}
 use Rattle.fp_rows.specs.Lists.{lists, AreOver}
 use Rattle.fp_rows.specs.Values.{RowValue, MatrixValue}
@@ -80,3 +80,25 @@ row-turn m k x s t h e = made (turn m.rows k x.entries (lists (iter_rest t)) (sy
 pub row-end : (m : MatrixValue) (k : ℕ) (s : Iter RowValue) → AreLeft m k s → length (iter_rest s) ≡ 0
     → k ≡ length m.rows
 row-end m k s h e = omega (arith, h.count, e)
+
+-- how many rows of m the iterator has passed, where the loop has no counter
+abbrev pub passed : MatrixValue → Iter RowValue → ℕ
+passed m it = length m.rows - length (iter_rest it)
+
+pub passed-start : (m : MatrixValue) (it : Iter RowValue) → IsOverRows m it → (passed m it ≡ 0) × AreLeft m (passed m it) it
+passed-start m it h = (none, subst (λ k. AreLeft m k it) (sym none) (row-start m it h))
+  where
+    none : passed m it ≡ 0
+    none = omega (arith, ap length h.rows, length-lists (iter_rest it))
+
+pub passed-turn : (m : MatrixValue) (k : ℕ) (x : RowValue) (t : Iter RowValue) → IsRowTurn m k x t
+    → (passed m t ≡ k + 1) × AreLeft m (passed m t) t
+passed-turn m k x t h = (one, subst (λ k. AreLeft m k t) (sym one) h.left)
+  where
+    one : passed m t ≡ k + 1
+    one = omega (arith, h.left.count)
+
+-- the row of a turn has the width
+pub turn-width : {m : MatrixValue} {k : ℕ} {x : RowValue} {it : Iter RowValue} → IsMatrix m.p m.width m.rows
+    → IsRowTurn m k x it → length x.entries ≡ m.width
+turn-width {m} {k} M t = ap (λ (es : List ℕ). length es) t.entries ∙ (M k t.inside).length_is

@@ -22,6 +22,7 @@ mod spans;
 mod tests;
 mod words;
 
+pub use arithmetic::add_product;
 pub use basis::Echelon;
 pub use complement::greedy;
 pub use entries::Entries;

@@ -31,32 +31,15 @@ use Rattle.p_groups.specs.PGroups.{PGroup, largest_residue, group}
 use Rattle.p_groups.proofs.Fields.{residues, field}
 use Rattle.group_algebra.specs.Coordinates.{layers, layer_coordinates, free_module, row_of, table_of, member, product_with, AreCoefficients}
 use Rattle.group_algebra.specs.Coefficients.{AreSumCoordinates}
-use Rattle.group_algebra.specs.Gains.{stepped, GainsCombination}
+use Rattle.group_algebra.proofs.Combined.{IsCombined}
 use Rattle.group_algebra.proofs.Members.{residue-row, sum-is, total-sum}
 use Rattle.group_algebra.proofs.PowerLemmas.{units-combination}
 use Rattle.group_algebra.proofs.LayerRows.{basis-count, combination-row, expand-one}
 use Rattle.radical_layers.proofs.Bridge.{at-total, at-times}
 
-zero-entry : (n j : ℕ) → entry (replicate n 0) j ≡ 0
-zero-entry n j = go (cases_lt j n)
-  where
-    go : (j < n) ⊎ (n ≤ j) → entry (replicate n 0) j ≡ 0
-    go (inl l) = get_or-replicate n j 0 0 l
-    go (inr l) = get_or_past (replicate n 0) j 0 (let z : length {A = ℕ} (replicate n 0) ≡ n = length-replicate n 0 in omega (arith, z, l))
-
--- what a row of zeros gains
-pub gained-from-zero : {p : ℕ} (n m : ℕ) (c : List ℕ) (R : ℕ → List ℕ) (new : List ℕ) → length c ≡ m → GainsCombination p c R (replicate n 0) new
-    → (j : ℕ) → IsCongruent p (entry new j) (sum_below m (λ k. entry c k * entry (R k) j))
-gained-from-zero n m c R new e C j = congruent_trans (C.each j)
-    (congruent_eq (ap (λ y. y + sum_below (length c) (λ k. entry c k * entry (R k) j)) (zero-entry n j) ∙ (let z : 0 + sum_below (length c) (λ k. entry c k * entry (R k) j) ≡ sum_below (length c) (λ k. entry c k * entry (R k) j) = omega arith in z)
-    ∙ ap (λ l. sum_below l (λ k. entry c k * entry (R k) j)) e))
-
-pub gained-row : {p : ℕ} (n : ℕ) (c : List ℕ) (R : ℕ → List ℕ) (new : List ℕ) → GainsCombination p c R (replicate n 0) new → IsRow p n new
-gained-row {p} n c R new C = subst (λ w. IsRow p w new) (length-replicate n 0) C.is_row
-
 -- the combination of the preimages of the unit rows with the entries of s is a preimage of s
 pub sums-combination : (p n : ℕ) (B U M : List (List ℕ)) (none : List (List ℕ)) (s r : List ℕ) → length B ≡ n → length M ≡ n → ((k : ℕ) → k < n → row M k ≡ unit_row n k)
-    → ((i : ℕ) → i < n → IsPreimage p B none (row M i) (row U i)) → IsRow p n s → GainsCombination p s (stepped U 0 1) (replicate n 0) r
+    → ((i : ℕ) → i < n → IsPreimage p B none (row M i) (row U i)) → IsRow p n s → IsCombined p n s (row U) r
     → IsCombination p (entry r) B (entry s)
 sums-combination p n B U M none s r count len units pre rs C = record {
   each = λ j. congruent_trans (congruent_eq (ap (λ m. sum_below m (λ k. entry r k * entry (row B k) j)) count))
@@ -69,9 +52,7 @@ sums-combination p n B U M none s r count len units pre rs C = record {
 }
   where
     at : (k : ℕ) → IsCongruent p (entry r k) (sum_below n (λ i. entry s i * entry (row U i) k))
-    at k = congruent_trans (gained-from-zero n n s (stepped U 0 1) r rs.length_is C k)
-        (congruent_eq (sum_below-same n (λ i. entry s i * entry (stepped U 0 1 i) k) (λ i. entry s i * entry (row U i) k)
-        (λ i l. ap (λ y. entry s i * entry (row U y) k) (let z : 0 + i * 1 ≡ i = omega arith in z))))
+    at k = C.each k
 
 module _ (G : PGroup) where
   abbrev q : ℕ
@@ -89,8 +70,8 @@ module _ (G : PGroup) where
 
   pub layers-of-sums : (U M none : List (List ℕ)) (a s r : List ℕ) (v : M1.of) → length M ≡ n → ((k : ℕ) → k < n → row M k ≡ unit_row n k)
       → ((i : ℕ) → i < n → IsPreimage G.table.p (layer_basis (layers G)) none (row M i) (row U i)) → AreCoefficients G a v → AreSumCoordinates G.table.p n a s
-      → GainsCombination G.table.p s (stepped U 0 1) (replicate n 0) r → r ≡ row_of G 1 v
-  layers-of-sums U M none a s r v len units pre A S C = sym (combination-row G r (residue-row G (gained-row n s (stepped U 0 1) r C)) v
+      → IsCombined G.table.p n s (row U) r → r ≡ row_of G 1 v
+  layers-of-sums U M none a s r v len units pre A S C = sym (combination-row G r (residue-row G C.is_row) v
       (subst (λ x. IsCombination (suc q) (entry r) (layer_basis (layers G)) (entry x)) (sym (sum-is G a s S v A))
       (subst (λ p. IsCombination p (entry r) (layer_basis (layers G)) (entry s)) (sym (residues G))
       (sums-combination G.table.p n (layer_basis (layers G)) U M none s r (basis-count G) len units pre S.coordinates C))))
@@ -121,17 +102,17 @@ module _ (G : PGroup) where
 
   -- the coordinates of a product from those of the translates
   pub product-row : (a : List ℕ) (v w : M1.of) (R : ℕ → List ℕ) (r : List ℕ) → AreCoefficients G a v → ((g : Below n) → R g.0 ≡ row_of G 1 (M1.act g w))
-      → GainsCombination G.table.p a R (replicate n 0) r → r ≡ row_of G 1 (product_with G 1 v w)
+      → IsCombined G.table.p n a R r → r ≡ row_of G 1 (product_with G 1 v w)
   product-row a v w R r A T C = same_number_lists r (row_of G 1 (product_with G 1 v w))
       (rr.length_is ∙ (let z : n ≡ n * 1 = omega arith in z) ∙ sym ((layer_coordinates G 1).row-is (product_with G 1 v w)).length_is)
       (λ j l. let m : j < n = (let e : length r ≡ n = rr.length_is in omega (arith, e, l)) in
       same_below (at j) ((residue-row G rr).below j m) (((layer_coordinates G 1).row-is (product_with G 1 v w)).below j (omega (arith, m))))
     where
       rr : IsRow G.table.p n r
-      rr = gained-row n a R r C
+      rr = C.is_row
 
       at : (j : ℕ) → IsCongruent (suc q) (entry r j) (entry (row_of G 1 (product_with G 1 v w)) j)
-      at j = congruent_trans (subst (λ p. IsCongruent p (entry r j) (sum_below n (λ g. entry a g * entry (R g) j))) (sym (residues G)) (gained-from-zero n n a R r A.is_row.length_is C j))
+      at j = congruent_trans (subst (λ p. IsCongruent p (entry r j) (sum_below n (λ g. entry a g * entry (R g) j))) (sym (residues G)) (C.each j))
           (congruent_sym (congruent_trans (congruent_eq (ap (λ y. entry (row_of G 1 y) j) (product-expand 1 v w)))
           (at-total q (group G) (n * 1) M1 (layer_coordinates G 1) n (λ g. times M1.add M1.zero (v (residue 0 0) g).0 (M1.act g w)) (λ g. entry a g * entry (R g) j) j
           (λ g. congruent_trans (at-times q (group G) (n * 1) M1 (layer_coordinates G 1) (v (residue 0 0) g).0 (M1.act g w) j)
@@ -139,8 +120,8 @@ module _ (G : PGroup) where
 
   -- the coefficients of a combination of members with known coefficients
   pub coefficients-of-row : (x a : List ℕ) (R : ℕ → List ℕ) → IsRow G.table.p n x → ((k : ℕ) → k < n → AreCoefficients G (R k) (member G k))
-      → GainsCombination G.table.p x R (replicate n 0) a → AreCoefficients G a (table_of G 1 x)
-  coefficients-of-row x a R rx C S = record { is_row = gained-row n x R a S; each = λ g. same_below (at g) ((residue-row G (gained-row n x R a S)).below g.0 g.1) (table_of G 1 x (residue 0 0) g).1 }
+      → IsCombined G.table.p n x R a → AreCoefficients G a (table_of G 1 x)
+  coefficients-of-row x a R rx C S = record { is_row = S.is_row; each = λ g. same_below (at g) ((residue-row G S.is_row).below g.0 g.1) (table_of G 1 x (residue 0 0) g).1 }
     where
       wide : IsRow (suc q) (n * 1) x
       wide = subst (λ w. IsRow (suc q) w x) (let z : n ≡ n * 1 = omega arith in z) (residue-row G rx)
@@ -149,7 +130,7 @@ module _ (G : PGroup) where
       expand = expand-one G (table_of G 1 x) ∙ ap (λ y. total M1 (below n) (λ k. times M1.add M1.zero (entry y k.0) (member G k.0))) ((layer_coordinates G 1).row-table x wide)
 
       at : (g : Below n) → IsCongruent (suc q) (entry a g.0) (table_of G 1 x (residue 0 0) g).0
-      at g = congruent_trans (subst (λ p. IsCongruent p (entry a g.0) (sum_below n (λ k. entry x k * entry (R k) g.0))) (sym (residues G)) (gained-from-zero n n x R a rx.length_is S g.0))
+      at g = congruent_trans (subst (λ p. IsCongruent p (entry a g.0) (sum_below n (λ k. entry x k * entry (R k) g.0))) (sym (residues G)) (S.each g.0))
           (congruent_sym (congruent_trans
           (congruent_eq (ap (λ (y : M1.of). (y (residue 0 0) g).0) expand
           ∙ ap (λ (y : Below (suc q)). y.0) (map-total M1 (Fp q (monoid (group G))) (λ y. y (residue 0 0) g) (λ y z. refl) (below n) (λ k. times M1.add M1.zero (entry x k.0) (member G k.0)))))

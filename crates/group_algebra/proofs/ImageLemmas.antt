@@ -33,13 +33,9 @@ zeros-are-row p w l = record { length_is = length-replicate w 0; below = λ j m.
 pub row-of-ref : {p w m : ℕ} (x : List ℕ) → length x ≡ w → m ≡ p → ((j : ℕ) → j < length x → entry x j < m) → IsRow p w x
 row-of-ref {p} {w} {m} x e f h = record { length_is = e; below = λ j l. subst (λ k. entry x j < k) f (h j (subst (λ k. j < k) (sym e) l)) }
 
--- positions by steps and by blocks
+-- positions by steps
 pub inside-steps : (n k g s L : ℕ) → k < n → g < n → s ≡ n → L ≡ n * n → g + k * s < L
 inside-steps n k g s L l m e f = let z : (k + 1) * n ≤ n * n = mul-le-mul_right n (let y : k + 1 ≤ n = omega (arith, l) in y) in
-    let d : k * s ≡ k * n = ap (λ x. k * x) e in omega (arith, z, m, f, d)
-
-pub inside-blocks : (n k j s L : ℕ) → k < n → j < n → s ≡ n → L ≡ n * n → k * s + j * 1 < L
-inside-blocks n k j s L l m e f = let z : (k + 1) * n ≤ n * n = mul-le-mul_right n (let y : k + 1 ≤ n = omega (arith, l) in y) in
     let d : k * s ≡ k * n = ap (λ x. k * x) e in omega (arith, z, m, f, d)
 
 module _ (G : PGroup) where
@@ -126,12 +122,12 @@ module _ (G : PGroup) where
 
   -- one more product
   pub product-gained : (T : List (List ℕ)) → length T ≡ n * n → EachRow (IsProductRow G) T → (b k : ℕ) (ss a v first old new : List ℕ) → ss ≡ sizes G → k < n
-      → IsRow G.table.p (n * b) v → IsRow G.table.p (n * b) old → GainsImage G.table.p ss b (stepped T (k * n) 1) (entry a k) v old new
+      → IsRow G.table.p (n * b) v → IsRow G.table.p (n * b) old → GainsImage G.table.p ss b (stepped T k n) (entry a k) v old new
       → table_of G b old ≡ (M b).add (table_of G b first) (first_products b a (table_of G b v) k)
       → table_of G b new ≡ (M b).add (table_of G b first) (first_products b a (table_of G b v) (k + 1))
   product-gained T len H b k ss a v first old new s l rv ro C e =
-      image-gained (product_with G 1 (member G k)) (product-additive 1 (member G k)) (stepped T (k * n) 1)
-      (λ j m. H (k * n + j * 1) (inside j m) k j l m (let z : k * n + j * 1 ≡ k * n + j = omega arith in z))
+      image-gained (product_with G 1 (member G k)) (product-additive 1 (member G k)) (stepped T k n)
+      (λ j m. H (k + j * n) (inside j m) k j l m (let z : k + j * n ≡ j * n + k = omega arith in z))
       b (entry a k) ss v old new s rv ro C
       ∙ ap (λ z. (M b).add (table_of G b old) (times (M b).add (M b).zero (entry a k) z)) (block-product b (member G k) (table_of G b v))
       ∙ ap (λ z. (M b).add z term) e
@@ -141,5 +137,5 @@ module _ (G : PGroup) where
       term : (M b).of
       term = times (M b).add (M b).zero (entry a k) (product_with G b (member G k) (table_of G b v))
 
-      inside : (j : ℕ) → j < n → k * n + j * 1 < length T
-      inside j m = let z : (k + 1) * n ≤ n * n = mul-le-mul_right n (let y : k + 1 ≤ n = omega (arith, l) in y) in omega (arith, z, m, len)
+      inside : (j : ℕ) → j < n → k + j * n < length T
+      inside j m = let z : (j + 1) * n ≤ n * n = mul-le-mul_right n (let y : j + 1 ≤ n = omega (arith, m) in y) in omega (arith, z, l, len)

@@ -13,3 +13,4 @@ pub mod ElementRows
 pub mod TableLemmas
 pub mod ImageLemmas
 pub mod BlockSums
+mod Combined

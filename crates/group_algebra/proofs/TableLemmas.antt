@@ -1,11 +1,12 @@
 -- The rows that an algebra keeps, one at a time.
-use Rattle.std.proofs.Common.{◌≡◌, ℕ, ◌+◌, ◌*◌, ◌/◌, ◌%◌, ◌<◌, ◌≤◌, ◌⊎◌, List, [], ◌∷◌, ◌++◌, length, replicate, inl, inr, suc, arith, ap, sym, ◌∙◌, refl}
+use Rattle.std.proofs.Common.{◌≡◌, ℕ, ◌+◌, ◌*◌, ◌/◌, ◌%◌, ◌<◌, ◌≤◌, ◌⊎◌, List, [], ◌∷◌, ◌++◌, length, replicate, inl, inr, suc, arith, ap, ap₂, ◌-◌, sym, ◌∙◌, refl}
 use Rattle.std.proofs.lemmas.Bool.{cases_lt}
-use Rattle.std.proofs.lemmas.List.{get_or_push, length_push}
+use Rattle.std.proofs.lemmas.List.{get_or_push, length_push, length-append, get_or-append-add}
+use Rattle.std.proofs.Math.ListN.{get_or-append}
 use Rattle.std.proofs.Math.Nat.{mul-le-mul_left, mul-le-mul_right, div-add-mod, mod-lt}
 use mathlib.Core.Path.{subst}
 use Rattle.group_table.specs.Tables.{order}
-use Rattle.linear_algebra.specs.Rows.{row, entry, IsInSpan, AreInSpan}
+use Rattle.linear_algebra.specs.Rows.{row, entry, combination_row, IsRow, IsInSpan, AreInSpan}
 use Rattle.linear_algebra.specs.Choices.{IsPreimage, ArePreimages}
 use Rattle.linear_algebra.specs.Kernels.{unit_row}
 use Rattle.linear_algebra.proofs.Spans.{row_before_push}
@@ -19,7 +20,8 @@ use Rattle.p_groups.proofs.Fields.{residues, field}
 use Rattle.group_algebra.specs.Coordinates.{sum_coordinates, layers, free_module, row_of, member, AreCoefficients}
 use Rattle.group_algebra.proofs.LayerLaws.{layers_are}
 use Rattle.group_algebra.specs.Coefficients.{AreSumCoordinates, IsTranslate}
-use Rattle.group_algebra.specs.Gains.{stepped, GainsCombination}
+use Rattle.group_algebra.proofs.Combined.{IsCombined, combined}
+use Rattle.group_algebra.proofs.LayerRows.{basis-count}
 use Rattle.group_algebra.specs.Tables.{HasShape, AreMembers, TakesSumsToLayers, IsElementRow, IsTranslateRow, IsProductRow, EachRow, element}
 use Rattle.group_algebra.proofs.Members.{translate-is}
 use Rattle.group_algebra.proofs.ElementRows.{one, layers-of-sums, element-coefficients, product-row, times-one-is}
@@ -37,6 +39,26 @@ shape-pushed G k m m' x H e = record {
   prime = ap (λ y. y.p) e ∙ H.prime;
   width = ap (λ y. y.width) e ∙ H.width;
   rows = ap (λ y. length y.rows) e ∙ length_push m.rows x ∙ ap (λ y. y + 1) H.rows;
+}
+
+-- several more rows
+pub each-appended : (P : ℕ → List ℕ → Type 0) (rows ys : List (List ℕ)) → EachRow P rows
+    → ((k : ℕ) → k < length ys → P (length rows + k) (row ys k)) → EachRow P (rows ++ ys)
+each-appended P rows ys h g i l = go (cases_lt i (length rows))
+  where
+    go : (i < length rows) ⊎ (length rows ≤ i) → P i (row (rows ++ ys) i)
+    go (inl m) = subst (P i) (sym (get_or-append rows ys [] i m)) (h i m)
+    go (inr m) = let e : length rows + (i - length rows) ≡ i = omega (arith, m) in
+        subst (λ k. P k (row (rows ++ ys) k)) e
+        (subst (P (length rows + (i - length rows))) (sym (get_or-append-add rows ys (i - length rows) []))
+        (g (i - length rows) (let c : length (rows ++ ys) ≡ length rows + length ys = length-append rows ys in omega (arith, c, l, m))))
+
+pub shape-appended : (G : PGroup) (k n : ℕ) (m m' : MatrixValue) (ys : List (List ℕ)) → HasShape G k m → length ys ≡ n
+    → m' ≡ record m { rows = m.rows ++ ys } → HasShape G (k + n) m'
+shape-appended G k n m m' ys H len e = record {
+  prime = ap (λ y. y.p) e ∙ H.prime;
+  width = ap (λ y. y.width) e ∙ H.width;
+  rows = ap (λ y. length y.rows) e ∙ length-append m.rows ys ∙ ap₂ ◌+◌ H.rows len;
 }
 
 -- a position determines its two parts
@@ -76,42 +98,58 @@ module _ (G : PGroup) where
       (basis-spans (largest_residue G) (field G) (group G) (sum_coordinates G) (layers G) (layers_are G) (unit_row n i)
       (unit-is-row (suc (largest_residue G)) n i (field G).above_one m))))
 
-  pub sums-to-layers : (B W U none : List (List ℕ)) → B ≡ layer_basis (layers G) → length W ≡ n → ((k : ℕ) → k < n → row W k ≡ unit_row n k)
-      → ArePreimages G.table.p B none W U → TakesSumsToLayers G U
-  sums-to-layers B W U none e len units P v a s r A S C = layers-of-sums G U W none a s r v len units
-      (λ i l. subst (λ E. IsPreimage G.table.p E none (row W i) (row U i)) e (P.each i (let z : i < length W = omega (arith, l, len) in z))) A S C
+  pub sums-to-layers : (B W U none : List (List ℕ)) → B ≡ layer_basis (layers G) → length W ≡ n
+      → ((k : ℕ) → k < n → row W k ≡ unit_row n k) → ArePreimages G.table.p B none W U → TakesSumsToLayers G U
+  sums-to-layers B W U none e len units P v a s A S =
+      layers-of-sums G U W none a s (combination_row G.table.p n (entry s) U) v len units at-basis A S
+      (combined s U (combination_row G.table.p n (entry s) U) (let z : suc (largest_residue G) ≡ G.table.p = residues G in omega (arith, z))
+      (λ i l. subst (λ w. IsRow G.table.p w (row U i)) count (P.each i (let z : i < length W = omega (arith, l, P.count) in z)).is_row)
+      (P.count ∙ len) refl)
+    where
+      count : length B ≡ n
+      count = ap length e ∙ basis-count G
 
-  pub element-row : (U : List (List ℕ)) (g : ℕ) (s r : List ℕ) → TakesSumsToLayers G U → AreSumCoordinates G.table.p n (unit_row n g) s
-      → GainsCombination G.table.p s (stepped U 0 1) (replicate n 0) r → IsElementRow G g r
-  element-row U g s r T S C b e = T (element G b) (unit_row n g) s r
-      (subst (λ k. AreCoefficients G (unit_row n k) (element G b)) (sym e) (element-coefficients G b)) S C
+      at-basis : (i : ℕ) → i < n → IsPreimage G.table.p (layer_basis (layers G)) none (row W i) (row U i)
+      at-basis i l = subst (λ E. IsPreimage G.table.p E none (row W i) (row U i)) e
+          (P.each i (let z : i < length W = omega (arith, l, len) in z))
 
-  pub elements-at : (E : List (List ℕ)) → length E ≡ n → EachRow (IsElementRow G) E → (g : Below n) → stepped E 0 1 g.0 ≡ row_of G 1 ((free_module G 1).act g (one G))
-  elements-at E len H g = ap (row E) (let z : 0 + g.0 * 1 ≡ g.0 = omega arith in z) ∙ H g.0 (let l : g.0 < n = g.1 in omega (arith, l, len)) g refl
+  pub element-row : (U : List (List ℕ)) (g : ℕ) (s r : List ℕ) → TakesSumsToLayers G U
+      → AreSumCoordinates G.table.p n (unit_row n g) s → r ≡ combination_row G.table.p n (entry s) U → IsElementRow G g r
+  element-row U g s r T S c b e = c ∙ T (element G b) (unit_row n g) s
+      (subst (λ k. AreCoefficients G (unit_row n k) (element G b)) (sym e) (element-coefficients G b)) S
 
-  pub members-at : (rows : List (List ℕ)) → AreMembers G rows → (k : ℕ) → k < n → AreCoefficients G (stepped rows 0 1 k) (member G k)
-  members-at rows A k l = subst (λ i. AreCoefficients G (row rows i) (member G k)) (let z : k ≡ 0 + k * 1 = omega arith in z) (A k l)
+  pub elements-at : (E : List (List ℕ)) → length E ≡ n → EachRow (IsElementRow G) E → (g : Below n)
+      → row E g.0 ≡ row_of G 1 ((free_module G 1).act g (one G))
+  elements-at E len H g = H g.0 (let l : g.0 < n = g.1 in omega (arith, l, len)) g refl
 
-  pub translate-row : (members E : List (List ℕ)) (i k g : ℕ) (t r : List ℕ) → AreMembers G members → length E ≡ n → EachRow (IsElementRow G) E
-      → i ≡ k * n + g → g < n → IsTranslate G.table g (row members k) t → GainsCombination G.table.p t (stepped E 0 1) (replicate n 0) r → IsTranslateRow G i r
+  pub translate-row : (members E : List (List ℕ)) (i k g : ℕ) (t r : List ℕ) → AreMembers G members → length E ≡ n
+      → EachRow (IsElementRow G) E → i ≡ k * n + g → g < n → IsTranslate G.table g (row members k) t
+      → IsCombined G.table.p n t (row E) r → IsTranslateRow G i r
   translate-row members E i k g t r A len H e l T C k' g' m d =
       let b : g'.0 < n = g'.1 in
       let s : (k ≡ k') × (g ≡ g'.0) = parts n k g k' g'.0 l b (sym e ∙ d) in
-      product-row G t ((free_module G 1).act g' (member G k')) (one G) (stepped E 0 1) r
+      product-row G t ((free_module G 1).act g' (member G k')) (one G) (row E) r
       (translate-is G g' (row members k') t (member G k')
-      (subst (λ x. IsTranslate G.table g'.0 (row members x) t) s.0 (subst (λ x. IsTranslate G.table x (row members k) t) s.1 T)) (A k' m))
+      (subst (λ x. IsTranslate G.table g'.0 (row members x) t) s.0
+      (subst (λ x. IsTranslate G.table x (row members k) t) s.1 T)) (A k' m))
       (elements-at E len H) C
       ∙ ap (row_of G 1) (times-one-is G ((free_module G 1).act g' (member G k')))
 
-  pub product-of-members : (members T : List (List ℕ)) (i k l : ℕ) (r : List ℕ) → AreMembers G members → length T ≡ n * n → EachRow (IsTranslateRow G) T
-      → i ≡ k * n + l → l < n → GainsCombination G.table.p (row members k) (stepped T (l * n) 1) (replicate n 0) r → IsProductRow G i r
-  product-of-members members T i k l r A len H e b C k' l' m o d =
-      let s : (k ≡ k') × (l ≡ l') = parts n k l k' l' b o (sym e ∙ d) in
-      product-row G (row members k') (member G k') (member G l') (stepped T (l' * n) 1) r (A k' m) (λ g. at g)
-      (subst (λ x. GainsCombination G.table.p (row members k') (stepped T (x * n) 1) (replicate n 0) r) s.1
-      (subst (λ x. GainsCombination G.table.p (row members x) (stepped T (l * n) 1) (replicate n 0) r) s.0 C))
+  -- W holds the translates of member l
+  pub product-of-members : (members T W : List (List ℕ)) (i k l : ℕ) (r : List ℕ) → AreMembers G members → length T ≡ n * n
+      → EachRow (IsTranslateRow G) T → ((g : ℕ) → g < n → row W g ≡ row T (l * n + g)) → i ≡ l * n + k → k < n → l < n
+      → IsCombined G.table.p n (row members k) (row W) r → IsProductRow G i r
+  product-of-members members T W i k l r A len H W-is e b c C k' l' m o d =
+      product-row G (row members k') (member G k') (member G l') (row W) r (A k' m) at
+      (subst (λ x. IsCombined G.table.p n (row members x) (row W) r) s.1 C)
     where
-      at : (g : Below n) → stepped T (l' * n) 1 g.0 ≡ row_of G 1 ((free_module G 1).act g (member G l'))
-      at g = H (l' * n + g.0 * 1)
-          (let z : (l' + 1) * n ≤ n * n = mul-le-mul_right n (let y : l' + 1 ≤ n = omega (arith, o) in y) in let c : g.0 < n = g.1 in omega (arith, z, c, len))
-          l' g o (let z : l' * n + g.0 * 1 ≡ l' * n + g.0 = omega arith in z)
+      s : (l ≡ l') × (k ≡ k')
+      s = parts n l k l' k' b m (sym e ∙ d)
+
+      at : (g : Below n) → row W g.0 ≡ row_of G 1 ((free_module G 1).act g (member G l'))
+      at g = W-is g.0 g.1
+          ∙ H (l * n + g.0)
+          (let z : (l + 1) * n ≤ n * n = mul-le-mul_right n (let y : l + 1 ≤ n = omega (arith, c) in y) in
+          let f : g.0 < n = g.1 in omega (arith, z, f, len))
+          l g c refl
+          ∙ ap (λ y. row_of G 1 ((free_module G 1).act g (member G y))) s.0

@@ -1,4 +1,4 @@
--- Rows that gain multiples of rows: of a whole row, or of one block of a row.
+-- Rows of free modules of which one block, or each, gains multiples of rows.
 use Rattle.std.specs.Prelude.{◌≡◌, ◌≢◌, ℕ, List, ◌+◌, ◌*◌, ◌<◌, length}
 use Rattle.linear_algebra.specs.Modular.{IsCongruent, sum_below}
 use Rattle.linear_algebra.specs.Rows.{entry, row, IsRow}
@@ -7,11 +7,6 @@ use Rattle.radical_layers.specs.Placing.{size_of, place_of}
 -- every step-th row, from the first on
 abbrev pub stepped : List (List ℕ) → ℕ → ℕ → ℕ → List ℕ
 stepped rows first step k = row rows (first + k * step)
-
--- new is old plus the combination of the rows R_0, R_1, .. with the coefficients c
-pub record GainsCombination (p : ℕ) (c : List ℕ) (R : ℕ → List ℕ) (old new : List ℕ) : Type 0 where
-  pub is_row : IsRow p (length old) new
-  pub each : (j : ℕ) → IsCongruent p (entry new j) (entry old j + sum_below (length c) (λ k. entry c k * entry (R k) j))
 
 -- block i gains f, member by member, and the other blocks stay
 pub record BlockGains (p : ℕ) (sizes : List ℕ) (rank i : ℕ) (f : ℕ → ℕ) (old new : List ℕ) : Type 0 where

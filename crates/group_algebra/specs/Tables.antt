@@ -1,12 +1,11 @@
 -- The rows that an algebra keeps, by their position in a list.
 use Rattle.std.specs.Prelude.{◌≡◌, ℕ, List, ◌+◌, ◌*◌, ◌<◌, length, replicate}
-use Rattle.linear_algebra.specs.Rows.{row}
+use Rattle.linear_algebra.specs.Rows.{entry, row, combination_row}
 use Rattle.group_modules.specs.Field.{Below, residue}
 use Rattle.group_modules.specs.Tables.{unit}
 use Rattle.fp_rows.specs.Values.{MatrixValue}
 use Rattle.p_groups.specs.PGroups.{PGroup, largest_residue, group, order_of, prime_of}
 use Rattle.group_algebra.specs.Coefficients.{AreSumCoordinates}
-use Rattle.group_algebra.specs.Gains.{stepped, GainsCombination}
 use Rattle.group_algebra.specs.Coordinates.{free_module, row_of, member, product_with, AreCoefficients}
 
 -- a matrix of this many rows of the width of kG
@@ -28,9 +27,9 @@ abbrev pub IsTranslateRow : PGroup → ℕ → List ℕ → Type 0
 IsTranslateRow G i x = (k : ℕ) (g : Below (order_of G)) → k < order_of G → i ≡ k * order_of G + g.0
     → x ≡ row_of G 1 ((free_module G 1).act g (member G k))
 
--- x holds the layer coordinates of member k times member l, where its position is that of k and l
+-- x holds the layer coordinates of member k times member l, where its position is that of l and k
 abbrev pub IsProductRow : PGroup → ℕ → List ℕ → Type 0
-IsProductRow G i x = (k l : ℕ) → k < order_of G → l < order_of G → i ≡ k * order_of G + l
+IsProductRow G i x = (k l : ℕ) → k < order_of G → l < order_of G → i ≡ l * order_of G + k
     → x ≡ row_of G 1 (product_with G 1 (member G k) (member G l))
 
 -- each row has the property of its position
@@ -39,8 +38,9 @@ EachRow P rows = (i : ℕ) → i < length rows → P i (row rows i)
 
 -- combinations of the rows with sum coordinates give the layer coordinates of the same member
 abbrev pub TakesSumsToLayers : PGroup → List (List ℕ) → Type 0
-TakesSumsToLayers G rows = (v : (free_module G 1).of) (a s r : List ℕ) → AreCoefficients G a v → AreSumCoordinates (prime_of G) (order_of G) a s
-    → GainsCombination (prime_of G) s (stepped rows 0 1) (replicate (order_of G) 0) r → r ≡ row_of G 1 v
+TakesSumsToLayers G rows =
+    (v : (free_module G 1).of) (a s : List ℕ) → AreCoefficients G a v → AreSumCoordinates (prime_of G) (order_of G) a s
+    → combination_row (prime_of G) (order_of G) (entry s) rows ≡ row_of G 1 v
 
 -- x holds the layer coordinates of the element at its position
 abbrev pub IsElementRow : PGroup → ℕ → List ℕ → Type 0

@@ -12,9 +12,7 @@ use crate::combinations::{Images, add_image};
 use crate::layers::layer_basis;
 use crate::p_group::PGroup;
 use crate::places::Places;
-use crate::tables::{
-    element_rows, member_rows, product_rows, translate_rows, unit_preimages, write_combination,
-};
+use crate::tables::{element_rows, member_rows, product_rows, translate_rows, unit_preimages};
 use fp_rows::{Matrix, Row, RowRef};
 use group_table::{Group, Memory};
 use std::alloc::Global;
@@ -137,7 +135,8 @@ impl Algebra {
         ensures layers { (v : (free_module self.now 1).of) → AreCoefficients self.now (entries_of a.entry) v
             → out.new.entries ≡ row_of self.now 1 v }
     {
-        write_combination(a, &self.elements, 0, out);
+        let _elements = self.elements.rows();
+        self.elements.combine(a, out);
     }
 
     /// Writes the coefficients, by element number, of the member of kG with the layer coordinates v.
@@ -149,7 +148,8 @@ impl Algebra {
         ensures prime { out.new.p ≡ out.old.p }
         ensures coefficients { AreCoefficients self.now out.new.entries (table_of self.now 1 (entries_of v.entry)) }
     {
-        write_combination(v, &self.members, 0, out);
+        let _members = self.members.rows();
+        self.members.combine(v, out);
     }
 
     /// Writes g v: the left action of an element of the group on a member of kG^rank.
@@ -246,8 +246,8 @@ impl Algebra {
         for k in 0..n {
             let images = Images {
                 rows: &self.products,
-                first: k * n,
-                step: 1,
+                first: k,
+                step: n,
             };
             let c = a.row.get(self.place(a.count, a.index, k));
             add_image(&self.places, images, rank, c, v, out);

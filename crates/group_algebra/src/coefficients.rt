@@ -6,27 +6,20 @@ ghost use Rattle.group_table.specs.Tables.{order};
 ghost use Rattle.fp_rows.specs.Refs.{entries_of, modulus_of};
 ghost use Rattle.group_algebra.specs.Coefficients.{AreSumCoordinates, IsTranslate};
 
-use fp_rows::{Row, RowRef};
+use fp_rows::{Row, RowRef, add_product};
 use group_table::{Group, Prime};
 
 /// Writes the sum coordinates of the member with the coefficients a.
-pub(crate) fn write_sum_coordinates(p: Prime, a: RowRef<'_>, out: &mut Row)
-    requires modulus { modulus_of a ≡ prime_value p }
-    requires same_prime { out.old.p ≡ prime_value p }
+pub(crate) fn write_sum_coordinates(a: RowRef<'_>, out: &mut Row)
+    requires same_prime { out.old.p ≡ modulus_of a }
     requires same_length { length out.old.entries ≡ length (entries_of a) }
     requires some { 0 < length (entries_of a) }
     ensures prime { out.new.p ≡ out.old.p }
-    ensures coordinates { AreSumCoordinates (prime_value p) (length (entries_of a.entry)) (entries_of a.entry) out.new.entries }
+    ensures coordinates { AreSumCoordinates (modulus_of a.entry) (length (entries_of a.entry)) (entries_of a.entry) out.new.entries }
 {
-    let m = p.value();
-    let mut sum = 0u8;
-    for g in 0..a.len() {
-        let x = a.get(g);
-        let next = sum + x;
-        sum = next % m;
-        out.set(g, x);
-    }
-    out.set(0, sum);
+    out.clear();
+    out.add(1, a);
+    out.set(0, a.sum());
 }
 
 /// Writes the coefficients of the member with the sum coordinates x.
@@ -38,16 +31,10 @@ pub(crate) fn write_coefficients(p: Prime, x: RowRef<'_>, out: &mut Row)
     ensures prime { out.new.p ≡ out.old.p }
     ensures coefficients { AreSumCoordinates (prime_value p) (length (entries_of x.entry)) out.new.entries (entries_of x.entry) }
 {
-    let m = p.value();
-    let mut rest = 0u8;
-    for g in 1..x.len() {
-        let c = x.get(g);
-        let next = rest + c;
-        rest = next % m;
-        out.set(g, c);
-    }
-    let first = x.get(0) + m - rest;
-    out.set(0, first % m);
+    out.clear();
+    out.add(1, x);
+    let rest = x.part(1, x.len() - 1).sum();
+    out.set(0, add_product(p, x.get(0), p.value() - 1, rest));
 }
 
 /// Writes the coefficients of g times the member with the coefficients a.

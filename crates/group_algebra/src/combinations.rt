@@ -1,36 +1,15 @@
-//! Combinations of rows, and the images of the blocks of a row.
+//! The images of the blocks of a row.
 
 ghost use Rattle.std.specs.Prelude.{◌≡◌, ◌+◌, ◌*◌, ◌^◌, ◌<◌, ◌≤◌, ℕ, length};
 ghost use Rattle.group_table.specs.Prime.{prime_value};
 ghost use Rattle.linear_algebra.specs.Rows.{entry, IsRow};
 ghost use Rattle.radical_layers.specs.Placing.{size_of};
 ghost use Rattle.fp_rows.specs.Refs.{entries_of, modulus_of};
-ghost use Rattle.group_algebra.specs.Gains.{stepped, GainsCombination, BlockGains, image_entry, GainsImage};
+ghost use Rattle.group_algebra.specs.Gains.{stepped, BlockGains, image_entry, GainsImage};
 
 use crate::places::Places;
-use fp_rows::{Matrix, Row, RowRef};
+use fp_rows::{Matrix, Row, RowRef, add_product};
 use group_table::Prime;
-
-/// Adds the combination of every step-th row, from the first on, with the coefficients c.
-pub(crate) fn add_combination(
-    c: RowRef<'_>,
-    rows: &Matrix,
-    first: usize,
-    step: usize,
-    out: &mut Row,
-)
-    requires primes { (modulus_of c ≡ out.old.p) × (rows.now.p ≡ out.old.p) }
-    requires inside { (k : ℕ) → k < length (entries_of c) → first + k * step < length rows.now.rows }
-    requires few { length rows.now.rows ≤ 65536 }
-    requires same_width { length out.old.entries ≡ rows.now.width }
-    ensures prime { out.new.p ≡ out.old.p }
-    ensures combination { GainsCombination out.old.p (entries_of c.entry) (stepped rows.now.rows first step) out.old.entries out.new.entries }
-{
-    prove!(out.len() == rows.width());
-    for k in 0..c.len() {
-        out.add(c.get(k), rows.row(first + k * step));
-    }
-}
 
 /// Adds c times the row r of the group algebra to one block.
 fn add_to_block(
@@ -55,11 +34,9 @@ fn add_to_block(
     if c == 0 {
         return;
     }
-    let m = p.value();
     for j in 0..r.len() {
         let place = places.place(rank, block, j);
-        let sum = out.get(place) + c * r.get(j);
-        out.set(place, sum % m);
+        out.set(place, add_product(p, out.get(place), c, r.get(j)));
     }
 }
 
@@ -111,16 +88,8 @@ fn add_block_image(
     let p = images.rows.prime();
     for k in 0..images.rows.width() {
         let x = v.get(places.place(rank, block, k));
-        let factor = c * x;
-        add_to_block(
-            p,
-            places,
-            rank,
-            block,
-            factor % p.value(),
-            images.image(k),
-            out,
-        );
+        let factor = add_product(p, 0, c, x);
+        add_to_block(p, places, rank, block, factor, images.image(k), out);
     }
 }
 

@@ -26,8 +26,8 @@ fn push_layer(list: &Echelon, taken: &Positions, rows: &mut Matrix) -> Result<()
     requires inside { (i : ℕ) → i < length taken.now → slice_index taken.now i < length list.now.rows }
     ensures { OnOk result (rows.new ≡ record rows.old { rows = rows.old.rows ++ rows_at list.now.rows taken.now }) }
 {
-    for i in 0..taken.len() {
-        rows.push(list.row(taken.get(i) as usize))?;
+    for position in taken {
+        rows.push(list.row(*position as usize))?;
     }
     Ok(())
 }

@@ -34,7 +34,7 @@ fn write_move(group: &PGroup, g: u16, a: RowRef<'_>, moved: &mut Row, out: &mut 
     let p = group.prime();
     write_translate(group.as_group(), g, a, moved);
     moved.add(p.value() - 1, a);
-    write_sum_coordinates(p, moved.view(), out);
+    write_sum_coordinates(moved.view(), out);
 }
 
 /// Appends the rows of (g - 1) v for the rows v of the list.
@@ -60,8 +60,8 @@ fn push_moves(
     let mut a = Row::zero(alloc, p, n)?;
     let mut moved = Row::zero(alloc, p, n)?;
     let mut out = Row::zero(alloc, p, n)?;
-    for i in 0..list.rows() {
-        write_coefficients(p, list.row(i), &mut a);
+    for row in list {
+        write_coefficients(p, row.view(), &mut a);
         write_move(group, g, a.view(), &mut moved, &mut out);
         m.push(out.view())?;
     }
@@ -112,9 +112,8 @@ pub(crate) fn whole_list(alloc: Global, group: &PGroup) -> Result<Echelon, Memor
     let mut m = Matrix::new(alloc, p, n);
     let mut unit = Row::zero(alloc, p, n)?;
     for i in 0..n {
-        unit.set(i, 1);
+        unit.set_unit(i);
         m.push(unit.view())?;
-        unit.set(i, 0);
     }
     echelon(alloc, &m)
 }

@@ -1,33 +1,18 @@
 //! The members of the layer basis, and the products with them.
 
-ghost use Rattle.std.specs.Prelude.{◌≡◌, ◌+◌, ◌*◌, ◌<◌, ◌≤◌, ℕ, length, replicate, IfOk};
+ghost use Rattle.std.specs.Prelude.{◌≡◌, ◌++◌, ◌+◌, ◌*◌, ◌<◌, ◌≤◌, ℕ, length, map, IfOk, OnOk};
 ghost use Rattle.radical_layers.specs.LayerBasis.{layer_basis as basis_rows};
-ghost use Rattle.fp_rows.specs.Refs.{entries_of, modulus_of};
+ghost use Rattle.linear_algebra.specs.Rows.{combination_row, entry, row};
 ghost use Rattle.group_algebra.specs.Coordinates.{layers};
-ghost use Rattle.group_algebra.specs.Gains.{stepped, GainsCombination};
 ghost use Rattle.group_algebra.specs.Tables.{HasShape, AreMembers, TakesSumsToLayers, IsElementRow, IsTranslateRow, IsProductRow, EachRow};
 ghost use Rattle.p_groups.specs.PGroups.{order_of};
 
 use crate::coefficients::{write_coefficients, write_sum_coordinates, write_translate};
-use crate::combinations::add_combination;
 use crate::p_group::PGroup;
 use crate::powers::whole_list;
-use fp_rows::{Matrix, Row, RowRef, kernel, preimages};
+use fp_rows::{Matrix, Row, kernel, preimages};
 use group_table::Memory;
 use std::alloc::Global;
-
-/// Writes the combination of the rows with the coefficients c.
-pub(crate) fn write_combination(c: RowRef<'_>, rows: &Matrix, first: usize, out: &mut Row)
-    requires primes { (modulus_of c ≡ out.old.p) × (rows.now.p ≡ out.old.p) }
-    requires inside { (k : ℕ) → k < length (entries_of c) → first + k * 1 < length rows.now.rows }
-    requires few { length rows.now.rows ≤ 65536 }
-    requires same_width { length out.old.entries ≡ rows.now.width }
-    ensures prime { out.new.p ≡ out.old.p }
-    ensures combination { GainsCombination out.old.p (entries_of c.entry) (stepped rows.now.rows first 1) (replicate rows.now.width 0) out.new.entries }
-{
-    out.clear();
-    add_combination(c, rows, first, 1, out);
-}
 
 /// The coefficients of the members of the layer basis, from their sum coordinates.
 pub(crate) fn member_rows(alloc: Global, group: &PGroup, basis: &Matrix) -> Result<Matrix, Memory>
@@ -40,8 +25,8 @@ pub(crate) fn member_rows(alloc: Global, group: &PGroup, basis: &Matrix) -> Resu
     let n = group.order() as usize;
     let mut m = Matrix::new(alloc, p, n);
     let mut a = Row::zero(alloc, p, n)?;
-    for k in 0..n {
-        write_coefficients(p, basis.row(k), &mut a);
+    for row in basis {
+        write_coefficients(p, row.view(), &mut a);
         m.push(a.view())?;
     }
     Ok(m)
@@ -76,12 +61,12 @@ pub(crate) fn element_rows(alloc: Global, group: &PGroup, units: &Matrix) -> Res
     let mut a = Row::zero(alloc, p, n)?;
     let mut sums = Row::zero(alloc, p, n)?;
     let mut out = Row::zero(alloc, p, n)?;
+    let _units = units.rows();
     for g in 0..n {
-        a.set(g, 1);
-        write_sum_coordinates(p, a.view(), &mut sums);
-        write_combination(sums.view(), units, 0, &mut out);
+        a.set_unit(g);
+        write_sum_coordinates(a.view(), &mut sums);
+        units.combine(sums.view(), &mut out);
         m.push(out.view())?;
-        a.set(g, 0);
     }
     Ok(m)
 }
@@ -105,6 +90,7 @@ pub(crate) fn translate_rows(
     let mut m = Matrix::new(alloc, p, n);
     let mut moved = Row::zero(alloc, p, n)?;
     let mut out = Row::zero(alloc, p, n)?;
+    let _elements = elements.rows();
     for i in 0..n * n {
         write_translate(
             group.as_group(),
@@ -112,13 +98,51 @@ pub(crate) fn translate_rows(
             members.row(i / n),
             &mut moved,
         );
-        write_combination(moved.view(), elements, 0, &mut out);
+        elements.combine(moved.view(), &mut out);
         m.push(out.view())?;
     }
     Ok(m)
 }
 
-/// The layer coordinates of member k times member l of the layer basis, at the position k n + l.
+// The translates of member l of the layer basis: the n rows from row l n on.
+fn translates_of(alloc: Global, translates: &Matrix, n: usize, l: usize) -> Result<Matrix, Memory>
+    requires inside { (l + 1) * n ≤ length translates.now.rows }
+    ensures prime { IfOk result (λ m. m.p ≡ translates.now.p) }
+    ensures width { IfOk result (λ m. m.width ≡ translates.now.width) }
+    ensures count { IfOk result (λ m. length m.rows ≡ n) }
+    ensures rows { IfOk result (λ m. (g : ℕ) → g < n → row m.rows g ≡ row translates.now.rows (l * n + g)) }
+{
+    let _rows = translates.rows();
+    let mut m = Matrix::new(alloc, translates.prime(), translates.width());
+    for g in 0..n {
+        m.push(translates.row(l * n + g))?;
+    }
+    Ok(m)
+}
+
+// Appends the combinations of the rows with each of these rows of coefficients.
+fn push_combinations(
+    alloc: Global,
+    coefficients: &Matrix,
+    rows: &Matrix,
+    m: &mut Matrix,
+) -> Result<(), Memory>
+    requires primes { (coefficients.now.p ≡ rows.now.p) × (m.old.p ≡ rows.now.p) }
+    requires coefficient_count { coefficients.now.width ≡ length rows.now.rows }
+    requires same_width { m.old.width ≡ rows.now.width }
+    ensures { OnOk result (m.new
+        ≡ record m.old { rows = m.old.rows ++ map (λ c. combination_row rows.now.p rows.now.width (entry c) rows.now.rows) coefficients.now.rows }) }
+{
+    let _rows = rows.rows();
+    let mut out = Row::zero(alloc, m.prime(), m.width())?;
+    for c in coefficients {
+        rows.combine(c.view(), &mut out);
+        m.push(out.view())?;
+    }
+    Ok(())
+}
+
+/// The layer coordinates of member k times member l of the layer basis, at the position l n + k.
 pub(crate) fn product_rows(
     alloc: Global,
     group: &PGroup,
@@ -132,13 +156,12 @@ pub(crate) fn product_rows(
     ensures shape { IfOk result (λ m. HasShape group.now (order_of group.now * order_of group.now) m) }
     ensures rows { IfOk result (λ m. EachRow (IsProductRow group.now) m.rows) }
 {
-    let p = group.prime();
     let n = group.order() as usize;
-    let mut m = Matrix::new(alloc, p, n);
-    let mut out = Row::zero(alloc, p, n)?;
-    for i in 0..n * n {
-        write_combination(members.row(i / n), translates, (i % n) * n, &mut out);
-        m.push(out.view())?;
+    let mut m = Matrix::new(alloc, group.prime(), n);
+    for l in 0..n {
+        let moved = translates_of(alloc, translates, n, l)?;
+        let _moved = moved.rows();
+        push_combinations(alloc, members, &moved, &mut m)?;
     }
     Ok(m)
 }

@@ -4,7 +4,7 @@ ghost use Rattle.group_table.specs.Tables.{order as order_of};
 ghost use Rattle.p_groups.specs.PGroups.{order_of, prime_of};
 
 use super::*;
-use fp_rows::Row;
+use fp_rows::{Matrix, Row};
 use group_table::{Group, Prime};
 use std::alloc::{AllocError, Global};
 use std::process::Abort;
@@ -153,7 +153,7 @@ fn row_of(rt: &impl Abort, alloc: Global, p: Prime, entries: &[u8]) -> Result<Ro
 }
 
 fn shows(r: &Row, entries: &[u8]) -> bool {
-    r.len() == entries.len() && (0..r.len()).all(|i| r.get(i) == entries[i])
+    r.len() == entries.len() && r.iter().zip(entries).all(|(x, y)| x == *y)
 }
 
 // The layer coordinates of the member with these coefficients.
@@ -271,6 +271,36 @@ fn adds_products_to_two_blocks(rt: HostRuntime) -> Result<(), Fail> {
         &[0, 1, 1, 0],
     )?;
     assert!(rt; shows(&sum, &[1, 1, 0, 1]));
+    Ok(())
+}
+
+// The value at v of the map to kG that takes the first basis element to the first row and the second to the second.
+fn applied(
+    rt: &impl Abort,
+    alloc: Global,
+    algebra: &Algebra,
+    rows: (&[u8], &[u8]),
+    v: &[u8],
+) -> Result<Row, Fail> {
+    let p = algebra.group().prime();
+    let n = algebra.group().order() as usize;
+    assert!(rt; rows.0.len() == n && rows.1.len() == n && v.len() == n * 2);
+    let mut map = Matrix::new(alloc, p, n);
+    map.push(row_of(rt, alloc, p, rows.0)?.view())?;
+    map.push(row_of(rt, alloc, p, rows.1)?.view())?;
+    let mut out = Row::zero(alloc, p, n)?;
+    algebra.apply(1, &map, row_of(rt, alloc, p, v)?.view(), &mut out);
+    Ok(out)
+}
+
+// In the algebra of C2, with x = g - 1 and x^2 = 0: x 1 + (1 + x) (1 + x) = 1 + x, and 1 + (1 + x) = x.
+#[test]
+fn applies_maps_given_by_rows(rt: HostRuntime) -> Result<(), Fail> {
+    let algebra = algebra_of(&rt, rt.alloc(), TWO)?;
+    for (v, value) in [(&[0, 1, 1, 1], &[1, 1]), (&[1, 1, 0, 0], &[0, 1])] {
+        let out = applied(&rt, rt.alloc(), &algebra, (&[1, 0], &[1, 1]), v)?;
+        assert!(rt; shows(&out, value));
+    }
     Ok(())
 }
 

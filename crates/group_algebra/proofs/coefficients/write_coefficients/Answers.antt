@@ -1,13 +1,32 @@
-use Rattle.std.proofs.Common.{arith, ◌≡◌, length}
+use Rattle.std.proofs.Common.{◌≡◌, ◌-◌, ◌<◌, ℕ, List, suc, length, arith, ap, refl}
 use Rattle.group_table.specs.Prime.{prime_value}
-use Rattle.fp_rows.specs.Refs.{entries_of}
-use Rattle.group_algebra.proofs.CoefficientLemmas.{coefficients-are}
+use Rattle.linear_algebra.specs.Modular.{IsCongruent, sum_below}
+use Rattle.linear_algebra.specs.Rows.{IsRow, entry}
+use Rattle.linear_algebra.proofs.Congruences.{congruent_mod}
+use Rattle.fp_rows.specs.Refs.{entries_of, modulus_of}
+use Rattle.fp_rows.proofs.BitLemmas.{added_to_zeros}
+use Rattle.fp_rows.proofs.Primes.{prime_above_one}
+use Rattle.fp_rows.proofs.RefLemmas.{ref_is_row}
+use Rattle.group_algebra.proofs.CoefficientLemmas.{coefficients-are, later-sum, less-and-plus}
 use Rattle.group_algebra.proofs.coefficients.write_coefficients.Goals as goal
 
 pub returns-clause-coefficients : goal.returns-clause-coefficients
 returns-clause-coefficients c =
-    let end : length (entries_of c.args.x) ≡ c.loop-g.g = omega (arith, c.len-g-end.ensures.count, c.loop-g-test.false, c.loop-g.auto.g-end, c.requires.some) in
-    let m : c.value-m.result ≡ prime_value c.args.p = c.loop-g.invariant.0 in
-    rw (c.set-2.ensures, c.get.ensures.value, m)
-    (coefficients-are (entries_of c.args.x) c.loop-g.out.entries c.loop-g.rest (rw c.requires.modulus at c.len-g-end.ensures.row) c.requires.some (omega (arith, c.loop-g.invariant.3))
-    c.loop-g.invariant.2 c.loop-g.invariant.3 (rw end c.loop-g.invariant.4) (rw end c.loop-g.invariant.5))
+    let P : ℕ = prime_value c.args.p in
+    let x : List ℕ = entries_of c.args.x in
+    let n : ℕ = length x in
+    let above : 1 < P = prime_above_one c.args.p in
+    let row : IsRow P n x = rw (← c.requires.modulus) (ref_is_row c.args.x) in
+    let copy : c.add.new.self.entries ≡ x =
+    rw (c.add.ensures, c.clear.ensures, c.requires.same_prime, ← c.requires.modulus, c.requires.same_length)
+    (added_to_zeros (modulus_of c.args.x) x c.args.x.below) in
+    let rest : IsCongruent P c.sum-rest.result (sum_below (n - 1) (λ i. entry x (suc i))) =
+    rw (
+      c.sum-rest.ensures.value,
+      c.part.ensures.modulus,
+      c.requires.modulus,
+      later-sum x row c.requires.some (entries_of c.part.result) (rw (← c.len.ensures.count) c.part.ensures.entries),
+    ) (congruent_mod _) in
+    rw (c.set.ensures, copy) (coefficients-are x row c.requires.some c.sum-rest.result c.add_product.result
+    c.add_product.ensures.below rest
+    (rw (c.add_product.ensures.value, c.value.ensures, c.get.ensures.value) (less-and-plus (entry x 0) c.sum-rest.result (omega (arith, above)))))

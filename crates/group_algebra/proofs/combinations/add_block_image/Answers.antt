@@ -1,4 +1,4 @@
-use Rattle.std.proofs.Common.{◌≡◌, ◌*◌, ◌%◌, ap, sym, ◌∙◌, refl}
+use Rattle.std.proofs.Common.{◌≡◌, ◌*◌, ◌%◌, ap₂, ◌+◌, sym, ◌∙◌, refl, arith}
 use Rattle.group_table.specs.Prime.{prime_value}
 use Rattle.linear_algebra.specs.Rows.{entry}
 use Rattle.radical_layers.specs.Placing.{place_of}
@@ -27,7 +27,7 @@ loop-k-preserved c =
       gains-next c.args.out.now.p c.args.places.now c.args.rank c.args.block c.args.c
           (λ k j. entry (entries_of c.args.v) (place_of c.args.places.now c.args.rank c.args.block k) * entry (stepped c.args.images.rows.now.rows c.args.images.first c.args.images.step k) j)
           c.args.out.now.entries c.loop-k.out.entries c.add_to_block.new.out.entries (entries_of c.image.result) c.loop-k.k c.get-x.result
-          ((c.args.c * c.get-x.result) % c.value.result) c.loop-k.invariant.3 (rw c.loop-k.invariant.1 at c.add_to_block.ensures.gains)
-          (ap (λ m. (c.args.c * c.get-x.result) % m) (c.value.ensures ∙ p))
+          c.add_product-factor.result c.loop-k.invariant.3 (rw c.loop-k.invariant.1 at c.add_to_block.ensures.gains)
+          (c.add_product-factor.ensures.value ∙ ap₂ (λ y m. y % m) (let z : 0 + c.args.c * c.get-x.result ≡ c.args.c * c.get-x.result = omega arith in z) p)
           (λ j. rw (x, c.image.ensures.entries)),
     )

@@ -4,8 +4,10 @@ use Rattle.std.proofs.lemmas.Result.{IfOk-weaker}
 use Rattle.group_table.specs.Tables.{order}
 use Rattle.linear_algebra.specs.Rows.{IsEchelonOf}
 use Rattle.linear_algebra.specs.Kernels.{unit_row}
+use Rattle.linear_algebra.proofs.AugmentLemmas.{length-unit_row}
 use Rattle.fp_rows.specs.Refs.{entries_of}
-use Rattle.group_algebra.proofs.ListLemmas.{unit-back, rows-pushed}
+use Rattle.fp_rows.specs.Values.{RowValue}
+use Rattle.group_algebra.proofs.ListLemmas.{rows-pushed}
 use Rattle.group_algebra.proofs.PowerLemmas.{whole-is, units-one}
 use mathlib.Core.Path.{subst}
 use Rattle.fp_rows.proofs.Primes.{prime_above_one}
@@ -13,13 +15,12 @@ use Rattle.group_algebra.proofs.powers.whole_list.Goals as goal
 
 pub loop-i-preserved : goal.loop-i-preserved
 loop-i-preserved c =
-    let inside : c.loop-i.i < order c.args.group.now.table = omega (arith, c.loop-i.invariant.2, c.loop-i-test.true) in
-    let unit : entries_of c.view.result ≡ unit_row (order c.args.group.now.table) c.loop-i.i = rw (c.view.ensures.entries, c.set.ensures, c.loop-i.invariant.1.1) in
+    let unit : entries_of c.view.result ≡ unit_row (order c.args.group.now.table) c.loop-i.i = rw (c.view.ensures.entries, c.set_unit.ensures, c.loop-i.invariant.1.1) in
     let rows : c.push.new.self.rows ≡ c.loop-i.m.rows ++ entries_of c.view.result ∷ [] = ap (λ m. m.rows) c.in_ok-push.ensures.pushed in (
       (ap (λ m. m.p) c.in_ok-push.ensures.pushed ∙ c.loop-i.invariant.0.0, ap (λ m. m.width) c.in_ok-push.ensures.pushed ∙ c.loop-i.invariant.0.1),
       (
-        rw (c.set-in-loop-i.ensures, c.set.ensures) c.loop-i.invariant.1.0,
-        rw (c.set-in-loop-i.ensures, c.set.ensures, c.loop-i.invariant.1.1) (unit-back (order c.args.group.now.table) c.loop-i.i inside),
+        ap (λ (r : RowValue). r.p) c.set_unit.ensures ∙ c.loop-i.invariant.1.0,
+        ap (λ (r : RowValue). length r.entries) c.set_unit.ensures ∙ length-unit_row _ c.loop-i.i ∙ c.loop-i.invariant.1.1,
       ),
       c.loop-i.invariant.2,
       ap length rows ∙ length_push c.loop-i.m.rows (entries_of c.view.result) ∙ ap (λ k. k + 1) c.loop-i.invariant.3,

@@ -1,35 +1,49 @@
-use Rattle.std.proofs.Common.{◌≡◌, ◌<◌, replicate, arith, ◌∙◌}
+use Rattle.std.proofs.Common.{◌≡◌, ◌<◌, ℕ, List, length, ap, sym, ◌∙◌}
 use Rattle.group_table.specs.Prime.{prime_value}
 use Rattle.group_table.specs.Tables.{order}
 use Rattle.linear_algebra.specs.Kernels.{unit_row}
+use Rattle.linear_algebra.specs.Rows.{combination_row, entry, IsRow, IsMatrix}
 use Rattle.linear_algebra.proofs.AugmentLemmas.{length-unit_row}
+use Rattle.linear_algebra.proofs.CombinationRows.{combination_row-is_row}
 use Rattle.fp_rows.specs.Refs.{entries_of}
+use Rattle.fp_rows.specs.Values.{RowValue}
+use Rattle.p_groups.specs.PGroups.{PGroup}
 use Rattle.group_algebra.specs.Coefficients.{AreSumCoordinates}
-use Rattle.group_algebra.specs.Gains.{stepped, GainsCombination}
 use Rattle.group_algebra.specs.Tables.{IsElementRow}
-use Rattle.group_algebra.proofs.ListLemmas.{unit-back}
-use Rattle.group_algebra.proofs.ElementRows.{gained-row}
+use Rattle.group_algebra.proofs.Combined.{positive}
 use Rattle.group_algebra.proofs.TableLemmas.{each-pushed, shape-pushed, element-row}
 use Rattle.group_algebra.proofs.tables.element_rows.Goals as goal
 
+pub push-requires-clause-same_width : goal.push-requires-clause-same_width
+push-requires-clause-same_width c =
+    let G : PGroup = c.args.group.now in
+    let M : IsMatrix G.table.p (order G.table) c.args.units.now.rows =
+    rw (c.requires.units.prime, c.requires.units.width) at c.rows-units.ensures.matrix in
+    ap length (c.view-in-loop-g-2.ensures.entries
+    ∙ (rw (c.requires.units.prime, c.requires.units.width) at (ap (λ (r : RowValue). r.entries) c.combine.ensures)))
+    ∙ (combination_row-is_row G.table.p (order G.table) (positive G) _ _ M).length_is ∙ sym c.loop-g.invariant.1.width
+
 pub loop-g-preserved : goal.loop-g-preserved
 loop-g-preserved c =
-    let p : prime_value c.prime-p.result ≡ c.args.group.now.table.p = c.loop-g.invariant.0.0 in
-    let inside : c.loop-g.g < order c.args.group.now.table = omega (arith, c.loop-g.invariant.0.1, c.loop-g-test.true) in
-    let unit : entries_of c.view.result ≡ unit_row (order c.args.group.now.table) c.loop-g.g = rw (c.view.ensures.entries, c.set.ensures, c.loop-g.invariant.2.1) in
-    let S : AreSumCoordinates c.args.group.now.table.p (order c.args.group.now.table) (unit_row (order c.args.group.now.table) c.loop-g.g) c.write_sum_coordinates.new.out.entries
-    = rw (p, unit, length-unit_row (order c.args.group.now.table) c.loop-g.g) at c.write_sum_coordinates.ensures.coordinates in
-    let C : GainsCombination c.args.group.now.table.p c.write_sum_coordinates.new.out.entries (stepped c.args.units.now.rows 0 1) (replicate (order c.args.group.now.table) 0) c.write_combination.new.out.entries
-    = rw (c.loop-g.invariant.4.0, c.view-in-loop-g.ensures.entries, c.requires.units.width) at c.write_combination.ensures.combination in (
+    let P : ℕ = c.args.group.now.table.p in
+    let n : ℕ = order c.args.group.now.table in
+    let U : List (List ℕ) = c.args.units.now.rows in
+    let s : List ℕ = c.write_sum_coordinates.new.out.entries in
+    let unit : entries_of c.view.result ≡ unit_row n c.loop-g.g =
+    rw (c.view.ensures.entries, c.set_unit.ensures, c.loop-g.invariant.2.1) in
+    let p : c.set_unit.new.self.p ≡ P = ap (λ (r : RowValue). r.p) c.set_unit.ensures ∙ c.loop-g.invariant.2.0 in
+    let S : AreSumCoordinates P n (unit_row n c.loop-g.g) s =
+    rw (c.view.ensures.modulus, p, unit, length-unit_row n c.loop-g.g) at c.write_sum_coordinates.ensures.coordinates in
+    let e : c.combine.new.out.entries ≡ combination_row P n (entry s) U =
+    rw (c.view-in-loop-g.ensures.entries, c.requires.units.prime, c.requires.units.width) at (ap (λ (r : RowValue). r.entries) c.combine.ensures) in
+    let M : IsMatrix P n U = rw (c.requires.units.prime, c.requires.units.width) at c.rows-units.ensures.matrix in
+    let r : IsRow P n c.combine.new.out.entries = rw e (combination_row-is_row P n (positive c.args.group.now) (entry s) U M) in (
       c.loop-g.invariant.0,
       shape-pushed c.args.group.now c.loop-g.g c.loop-g.m c.push.new.self (entries_of c.view-in-loop-g-2.result) c.loop-g.invariant.1 c.in_ok-push.ensures.pushed,
-      (
-        rw (c.set-in-loop-g.ensures, c.set.ensures) c.loop-g.invariant.2.0,
-        rw (c.set-in-loop-g.ensures, c.set.ensures, c.loop-g.invariant.2.1) (unit-back (order c.args.group.now.table) c.loop-g.g inside),
-      ),
+      (p, ap (λ (r : RowValue). length r.entries) c.set_unit.ensures ∙ length-unit_row _ c.loop-g.g ∙ c.loop-g.invariant.2.1),
       (c.write_sum_coordinates.ensures.prime ∙ c.loop-g.invariant.3.0, S.coordinates.length_is),
-      (c.write_combination.ensures.prime ∙ c.loop-g.invariant.4.0, (gained-row (order c.args.group.now.table) _ _ _ C).length_is),
+      (ap (λ (r : RowValue). r.p) c.combine.ensures ∙ c.loop-g.invariant.4.0, r.length_is),
       rw c.in_ok-push.ensures.pushed (each-pushed (IsElementRow c.args.group.now) c.loop-g.m.rows (entries_of c.view-in-loop-g-2.result) c.loop-g.invariant.5
           (rw (c.loop-g.invariant.1.rows, c.view-in-loop-g-2.ensures.entries)
-          (element-row c.args.group.now c.args.units.now.rows c.loop-g.g c.write_sum_coordinates.new.out.entries c.write_combination.new.out.entries c.requires.rows S C))),
+          (element-row c.args.group.now U c.loop-g.g s c.combine.new.out.entries c.requires.rows S e))),
     )

@@ -1,29 +1,52 @@
-use Rattle.std.proofs.Common.{◌≡◌, ◌<◌, ◌+◌, ◌*◌, ◌/◌, ◌%◌, replicate, ◌∙◌}
+use Rattle.std.proofs.Common.{◌≡◌, ◌<◌, ◌≤◌, ◌+◌, ◌++◌, ◌*◌, [], ℕ, List, length, map, get_or, arith, ap, sym, ◌∙◌, refl}
+use Rattle.std.proofs.lemmas.List.{length-map, get_or-map}
+use Rattle.std.proofs.Math.Nat.{mul-le-mul_right}
+use mathlib.Core.Path.{subst}
 use Rattle.group_table.specs.Tables.{order}
-use Rattle.linear_algebra.specs.Rows.{row}
-use Rattle.fp_rows.specs.Refs.{entries_of}
-use Rattle.group_algebra.specs.Gains.{stepped, GainsCombination}
-use Rattle.group_algebra.specs.Tables.{IsProductRow}
-use Rattle.group_algebra.proofs.ElementRows.{gained-row}
-use Rattle.group_algebra.proofs.TableLemmas.{each-pushed, shape-pushed, split, product-of-members}
+use Rattle.linear_algebra.specs.Rows.{combination_row, entry, row, IsMatrix}
+use Rattle.fp_rows.specs.Values.{MatrixValue}
+use Rattle.p_groups.specs.PGroups.{PGroup}
+use Rattle.group_algebra.specs.Tables.{HasShape, IsProductRow, EachRow}
+use Rattle.group_algebra.proofs.Combined.{combined, positive}
+use Rattle.group_algebra.proofs.TableLemmas.{each-appended, shape-appended, product-of-members}
 use Rattle.group_algebra.proofs.tables.product_rows.Goals as goal
 
-pub loop-i-preserved : goal.loop-i-preserved
-loop-i-preserved c =
-    let n : c.order-n.result ≡ order c.args.group.now.table = c.loop-i.invariant.0.0 in
-    let some : 0 < order c.args.group.now.table = c.args.group.now.law.law.some in
-    let inside : c.loop-i.i < order c.args.group.now.table * order c.args.group.now.table = rw n at c.loop-i-test.true in
-    let s : (c.loop-i.i ≡ c.loop-i.i / order c.args.group.now.table * order c.args.group.now.table + c.loop-i.i % order c.args.group.now.table)
-    × (c.loop-i.i / order c.args.group.now.table < order c.args.group.now.table) × (c.loop-i.i % order c.args.group.now.table < order c.args.group.now.table)
-    = split (order c.args.group.now.table) c.loop-i.i some inside in
-    let C : GainsCombination c.args.group.now.table.p (row c.args.members.now.rows (c.loop-i.i / order c.args.group.now.table))
-    (stepped c.args.translates.now.rows (c.loop-i.i % order c.args.group.now.table * order c.args.group.now.table) 1) (replicate (order c.args.group.now.table) 0) c.write_combination.new.out.entries
-    = rw (c.loop-i.invariant.2.0, c.row.ensures.entries, c.requires.translates.width, n) at c.write_combination.ensures.combination in (
-      c.loop-i.invariant.0,
-      shape-pushed c.args.group.now c.loop-i.i c.loop-i.m c.push.new.self (entries_of c.view.result) c.loop-i.invariant.1 c.in_ok-push.ensures.pushed,
-      (c.write_combination.ensures.prime ∙ c.loop-i.invariant.2.0, (gained-row (order c.args.group.now.table) _ _ _ C).length_is),
-      rw c.in_ok-push.ensures.pushed (each-pushed (IsProductRow c.args.group.now) c.loop-i.m.rows (entries_of c.view.result) c.loop-i.invariant.3
-          (rw (c.loop-i.invariant.1.rows, c.view.ensures.entries)
-          (product-of-members c.args.group.now c.args.members.now.rows c.args.translates.now.rows c.loop-i.i (c.loop-i.i / order c.args.group.now.table) (c.loop-i.i % order c.args.group.now.table)
-          c.write_combination.new.out.entries c.requires.member_rows c.requires.translates.rows c.requires.translate_rows s.0 s.2 C))),
-    )
+pub translates_of-requires : goal.translates_of-requires
+translates_of-requires c =
+    let n : ℕ = order c.args.group.now.table in
+    let l : c.loop-l.l < n = subst (λ m. c.loop-l.l < m) c.loop-l.invariant.order_is c.loop-l-test.true in
+    let z : (c.loop-l.l + 1) * n ≤ n * n = mul-le-mul_right n (let y : c.loop-l.l + 1 ≤ n = omega (arith, l) in y) in
+    record { inside = rw (c.loop-l.invariant.order_is, c.requires.translates.rows) z }
+
+pub loop-l-preserved : goal.loop-l-preserved
+loop-l-preserved c =
+    let G : PGroup = c.args.group.now in
+    let n : ℕ = order G.table in
+    let l : ℕ = c.loop-l.l in
+    let W : List (List ℕ) = c.in_ok-moved.moved.rows in
+    let T : List (List ℕ) = c.args.translates.now.rows in
+    let B : List (List ℕ) = c.args.members.now.rows in
+    let I = c.loop-l.invariant in
+    let f : List ℕ → List ℕ = λ u. combination_row G.table.p n (entry u) W in
+    let p : c.in_ok-moved.moved.p ≡ G.table.p = c.in_ok-moved.ensures.prime ∙ c.requires.translates.prime in
+    let w : c.in_ok-moved.moved.width ≡ n = c.in_ok-moved.ensures.width ∙ c.requires.translates.width in
+    let M : IsMatrix G.table.p n W = rw (p, w) at c.rows-moved.ensures.matrix in
+    let count : length W ≡ n = c.in_ok-moved.ensures.count ∙ I.order_is in
+    let inside : l < n = subst (λ m. l < m) I.order_is c.loop-l-test.true in
+    let W-is : (g : ℕ) → g < n → row W g ≡ row T (l * n + g) =
+    λ g b. c.in_ok-moved.ensures.rows g (subst (λ m. g < m) (sym I.order_is) b) ∙ ap (λ m. row T (l * m + g)) I.order_is in
+    let pushed : c.push_combinations.new.m ≡ record c.loop-l.m { rows = c.loop-l.m.rows ++ map f B } =
+    rw (p, w) at c.in_ok-push_combinations.ensures in
+    let len : length (map f B) ≡ n = length-map B f ∙ c.requires.members.rows in
+    record {
+      order_is = I.order_is;
+      shape = subst (λ k. HasShape G k c.push_combinations.new.m) (let z : l * n + n ≡ (l + 1) * n = omega arith in z)
+          (shape-appended G (l * n) n c.loop-l.m c.push_combinations.new.m (map f B) I.shape len pushed);
+      rows = rw pushed (each-appended (IsProductRow G) c.loop-l.m.rows (map f B) I.rows (λ k b.
+          let m : k < length B = (let e = length-map B f in omega (arith, b, e)) in
+          let k-in : k < n = omega (arith, m, c.requires.members.rows) in
+          subst (IsProductRow G (length c.loop-l.m.rows + k)) (sym (get_or-map f B k [] [] m))
+          (product-of-members G B T W (length c.loop-l.m.rows + k) k l (f (row B k)) c.requires.member_rows
+          c.requires.translates.rows c.requires.translate_rows W-is (ap (λ x. x + k) I.shape.rows) k-in inside
+          (combined (row B k) W (f (row B k)) (positive G) M count refl))));
+    }

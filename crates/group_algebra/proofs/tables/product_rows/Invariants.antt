@@ -1,11 +1,11 @@
-use Rattle.std.proofs.Common.{◌≡◌, ◌≤◌, length}
+use Rattle.std.proofs.Common.{◌≡◌, ◌*◌}
 use Rattle.group_table.specs.Tables.{order}
 use Rattle.group_algebra.specs.Tables.{HasShape, IsProductRow, EachRow}
 use Rattle.group_algebra.proofs.tables.product_rows.Given as goal
 
-abbrev pub invariant-loop-i : goal.invariant-loop-i
-invariant-loop-i l =
-    ((l.n ≡ order l.group.table) × (l.n ≤ 256))
-    × HasShape l.group l.i l.m
-    × ((l.out.p ≡ l.group.table.p) × (length l.out.entries ≡ order l.group.table))
-    × EachRow (IsProductRow l.group) l.m.rows
+abbrev pub invariant-loop-l : goal.invariant-loop-l
+invariant-loop-l l = record {
+  order_is : l.n ≡ order l.group.table;
+  shape : HasShape l.group (l.l * order l.group.table) l.m;
+  rows : EachRow (IsProductRow l.group) l.m.rows;
+}

@@ -1,13 +1,24 @@
-use Rattle.std.proofs.Common.{◌≡◌, ◌<◌, ◌+◌, ◌*◌, ◌/◌, ◌%◌, replicate, ◌∙◌}
+use Rattle.std.proofs.Common.{◌≡◌, ◌<◌, ◌+◌, ◌*◌, ◌/◌, ◌%◌, length, ap, sym, ◌∙◌}
 use Rattle.group_table.specs.Tables.{order}
-use Rattle.linear_algebra.specs.Rows.{row}
+use Rattle.linear_algebra.specs.Rows.{row, IsMatrix}
+use Rattle.linear_algebra.proofs.CombinationRows.{combination_row-is_row}
+use Rattle.p_groups.specs.PGroups.{PGroup}
 use Rattle.fp_rows.specs.Refs.{entries_of}
 use Rattle.group_algebra.specs.Coefficients.{IsTranslate}
-use Rattle.group_algebra.specs.Gains.{stepped, GainsCombination}
+use Rattle.fp_rows.specs.Values.{RowValue}
+use Rattle.group_algebra.proofs.Combined.{IsCombined, combined, positive}
 use Rattle.group_algebra.specs.Tables.{IsTranslateRow}
-use Rattle.group_algebra.proofs.ElementRows.{gained-row}
 use Rattle.group_algebra.proofs.TableLemmas.{each-pushed, shape-pushed, split, translate-row}
 use Rattle.group_algebra.proofs.tables.translate_rows.Goals as goal
+
+pub push-requires-clause-same_width : goal.push-requires-clause-same_width
+push-requires-clause-same_width c =
+    let G : PGroup = c.args.group.now in
+    let M : IsMatrix G.table.p (order G.table) c.args.elements.now.rows =
+    rw (c.requires.elements.prime, c.requires.elements.width) at c.rows-elements.ensures.matrix in
+    ap length (c.view-in-loop-i.ensures.entries
+    ∙ (rw (c.requires.elements.prime, c.requires.elements.width) at (ap (λ (r : RowValue). r.entries) c.combine.ensures)))
+    ∙ (combination_row-is_row G.table.p (order G.table) (positive G) _ _ M).length_is ∙ sym c.loop-i.invariant.1.width
 
 pub loop-i-preserved : goal.loop-i-preserved
 loop-i-preserved c =
@@ -19,14 +30,17 @@ loop-i-preserved c =
     = split (order c.args.group.now.table) c.loop-i.i some inside in
     let T : IsTranslate c.args.group.now.table (c.loop-i.i % order c.args.group.now.table) (row c.args.members.now.rows (c.loop-i.i / order c.args.group.now.table)) c.write_translate.new.out.entries
     = rw (c.row.ensures.entries, n, c.as_group.ensures) at c.write_translate.ensures.translate in
-    let C : GainsCombination c.args.group.now.table.p c.write_translate.new.out.entries (stepped c.args.elements.now.rows 0 1) (replicate (order c.args.group.now.table) 0) c.write_combination.new.out.entries
-    = rw (c.loop-i.invariant.3.0, c.view.ensures.entries, c.requires.elements.width) at c.write_combination.ensures.combination in (
+    let E = c.requires.elements in
+    let C : IsCombined c.args.group.now.table.p (order c.args.group.now.table) c.write_translate.new.out.entries (row c.args.elements.now.rows) c.combine.new.out.entries =
+    combined c.write_translate.new.out.entries c.args.elements.now.rows _ (positive c.args.group.now)
+    (rw (E.prime, E.width) at c.rows-elements.ensures.matrix) E.rows
+    (rw (c.view.ensures.entries, E.prime, E.width) at (ap (λ (r : RowValue). r.entries) c.combine.ensures)) in (
       c.loop-i.invariant.0,
       shape-pushed c.args.group.now c.loop-i.i c.loop-i.m c.push.new.self (entries_of c.view-in-loop-i.result) c.loop-i.invariant.1 c.in_ok-push.ensures.pushed,
       (c.write_translate.ensures.prime ∙ c.loop-i.invariant.2.0, T.is_row.length_is),
-      (c.write_combination.ensures.prime ∙ c.loop-i.invariant.3.0, (gained-row (order c.args.group.now.table) _ _ _ C).length_is),
+      (ap (λ (r : RowValue). r.p) c.combine.ensures ∙ c.loop-i.invariant.3.0, C.is_row.length_is),
       rw c.in_ok-push.ensures.pushed (each-pushed (IsTranslateRow c.args.group.now) c.loop-i.m.rows (entries_of c.view-in-loop-i.result) c.loop-i.invariant.4
           (rw (c.loop-i.invariant.1.rows, c.view-in-loop-i.ensures.entries)
           (translate-row c.args.group.now c.args.members.now.rows c.args.elements.now.rows c.loop-i.i (c.loop-i.i / order c.args.group.now.table) (c.loop-i.i % order c.args.group.now.table)
-          c.write_translate.new.out.entries c.write_combination.new.out.entries c.requires.member_rows c.requires.elements.rows c.requires.element_rows s.0 s.2 T C))),
+          c.write_translate.new.out.entries c.combine.new.out.entries c.requires.member_rows c.requires.elements.rows c.requires.element_rows s.0 s.2 T C))),
     )

@@ -12,7 +12,7 @@ use Rattle.group_algebra.specs.Gains.{stepped, GainsImage}
 use Rattle.group_algebra.proofs.BlockSums.{block, entry-block, block-is, block-is-row}
 use Rattle.group_algebra.proofs.LayerRows.{size-is}
 use Rattle.group_algebra.proofs.Members.{residue-row}
-use Rattle.group_algebra.proofs.ImageLemmas.{row-of-ref, inside-blocks, row-back, first_products, products-all, product-gained}
+use Rattle.group_algebra.proofs.ImageLemmas.{row-of-ref, inside-steps, row-back, first_products, products-all, product-gained}
 use Rattle.group_algebra.proofs.algebra.Algebra.add_product.Goals as goal
 
 pub loop-k-init : goal.loop-k-init
@@ -41,7 +41,9 @@ add_image-requires-clause-width c =
 pub add_image-requires-clause-inside : goal.add_image-requires-clause-inside
 add_image-requires-clause-inside c k l =
     let size : size_of c.self.inside.places ≡ order c.self.inside.group.table = ap size_of c.self.invariant.sizes_are ∙ size-is c.self.inside.group in
-    inside-blocks (order c.self.inside.group.table) c.loop-k.k k c.order-n.result (length c.self.inside.products.rows) (subst (λ m. c.loop-k.k < m) c.order-n.ensures.value c.loop-k-test.true) (subst (λ m. k < m) size l) c.order-n.ensures.value c.self.invariant.product_shape.rows
+    inside-steps (order c.self.inside.group.table) k c.loop-k.k c.order-n.result (length c.self.inside.products.rows)
+    (subst (λ m. k < m) size l) (subst (λ m. c.loop-k.k < m) c.order-n.ensures.value c.loop-k-test.true) c.order-n.ensures.value
+    c.self.invariant.product_shape.rows
 
 pub loop-k-preserved : goal.loop-k-preserved
 loop-k-preserved c =
@@ -59,7 +61,7 @@ loop-k-preserved c =
     subst (λ (X : PGroup). c.place.result ≡ place_of (sizes X) c.args.a.count c.args.a.index k) (sym c.self.view_is) c.place.ensures.value in
     let factor : c.get-c.result ≡ entry A k =
     c.get-c.ensures.value ∙ ap (entry x) place ∙ sym (entry-block G c.args.a.count x c.args.a.index k l) in
-    let C : GainsImage G.table.p c.self.inside.places b (stepped c.self.inside.products.rows (k * order G.table) 1) (entry A k) v
+    let C : GainsImage G.table.p c.self.inside.places b (stepped c.self.inside.products.rows k (order G.table)) (entry A k) v
     c.loop-k.out.entries new = rw (p, c.order-n.ensures.value, factor) at c.add_image.ensures.gains in
     let r : IsRow G.table.p (order G.table * b) v =
     row-of-ref v (rw (← c.self.view_is) at c.requires.length) (rw (← c.self.view_is) at c.requires.moduli.1) c.args.v.below in

@@ -1,18 +1,24 @@
-use Rattle.std.proofs.Common.{◌≡◌, replicate}
+use Rattle.std.proofs.Common.{◌≡◌, List, ℕ, ap}
 use Rattle.group_table.specs.Tables.{order}
-use Rattle.linear_algebra.specs.Rows.{IsRow}
+use Rattle.linear_algebra.specs.Rows.{row, IsRow}
 use Rattle.fp_rows.specs.Refs.{entries_of}
-use Rattle.group_algebra.specs.Gains.{stepped, GainsCombination}
+use Rattle.fp_rows.specs.Values.{RowValue}
+use Rattle.p_groups.specs.PGroups.{PGroup}
+use Rattle.group_algebra.proofs.Combined.{IsCombined, combined, positive}
 use Rattle.group_algebra.proofs.ElementRows.{coefficients-of-row}
-use Rattle.group_algebra.proofs.TableLemmas.{members-at}
 use Rattle.group_algebra.proofs.ImageLemmas.{row-of-ref}
 use Rattle.group_algebra.proofs.algebra.Algebra.from_layers.Goals as goal
 
 pub returns-clause-coefficients : goal.returns-clause-coefficients
 returns-clause-coefficients c =
-    let p : c.args.out.now.p ≡ c.self.inside.group.table.p = rw (← c.self.view_is) at c.requires.prime in
-    let C : GainsCombination c.self.inside.group.table.p (entries_of c.args.v) (stepped c.self.inside.members.rows 0 1) (replicate (order c.self.inside.group.table) 0) c.write_combination.new.out.entries
-    = rw (p, c.self.invariant.member_shape.width) at c.write_combination.ensures.combination in
-    let r : IsRow c.self.inside.group.table.p (order c.self.inside.group.table) (entries_of c.args.v) = row-of-ref (entries_of c.args.v) (rw (← c.self.view_is) at c.requires.length) (rw (← c.self.view_is) at c.requires.modulus) c.args.v.below in
-    rw (← c.self.view_is) (coefficients-of-row c.self.inside.group (entries_of c.args.v) c.write_combination.new.out.entries (stepped c.self.inside.members.rows 0 1) r
-    (members-at c.self.inside.group c.self.inside.members.rows c.self.invariant.members_are) C)
+    let G : PGroup = c.self.inside.group in
+    let H = c.self.invariant.member_shape in
+    let x : List ℕ = entries_of c.args.v in
+    let C : IsCombined G.table.p (order G.table) x (row c.self.inside.members.rows) c.combine.new.out.entries =
+    combined x c.self.inside.members.rows _ (positive G)
+    (rw (H.prime, H.width) at c.rows-members.ensures.matrix) H.rows
+    (rw (H.prime, H.width) at (ap (λ (r : RowValue). r.entries) c.combine.ensures)) in
+    let r : IsRow G.table.p (order G.table) x =
+    row-of-ref x (rw (← c.self.view_is) at c.requires.length) (rw (← c.self.view_is) at c.requires.modulus) c.args.v.below in
+    rw (← c.self.view_is) (coefficients-of-row G x c.combine.new.out.entries (row c.self.inside.members.rows) r
+    c.self.invariant.members_are C)

@@ -1,18 +1,25 @@
-use Rattle.std.proofs.Common.{◌≡◌, replicate, ap, ◌∙◌}
+use Rattle.std.proofs.Common.{◌≡◌, ap, ◌∙◌}
 use Rattle.group_table.specs.Tables.{order}
+use Rattle.linear_algebra.specs.Rows.{combination_row, entry, row}
 use Rattle.fp_rows.specs.Refs.{entries_of}
+use Rattle.fp_rows.specs.Values.{RowValue}
+use Rattle.p_groups.specs.PGroups.{PGroup}
 use Rattle.group_algebra.specs.Coordinates.{row_of}
-use Rattle.group_algebra.specs.Gains.{stepped, GainsCombination}
+use Rattle.group_algebra.proofs.Combined.{IsCombined, combined, positive}
 use Rattle.group_algebra.proofs.ElementRows.{one, product-row, times-one-is}
 use Rattle.group_algebra.proofs.TableLemmas.{elements-at}
 use Rattle.group_algebra.proofs.algebra.Algebra.to_layers.Goals as goal
 
 pub returns-clause-layers : goal.returns-clause-layers
 returns-clause-layers c =
-    let p : c.args.out.now.p ≡ c.self.inside.group.table.p = rw (← c.self.view_is) at c.requires.prime in
-    let C : GainsCombination c.self.inside.group.table.p (entries_of c.args.a) (stepped c.self.inside.elements.rows 0 1) (replicate (order c.self.inside.group.table) 0) c.write_combination.new.out.entries
-    = rw (p, c.self.invariant.element_shape.width) at c.write_combination.ensures.combination in
+    let G : PGroup = c.self.inside.group in
+    let H = c.self.invariant.element_shape in
+    let p : c.args.out.now.p ≡ G.table.p = rw (← c.self.view_is) at c.requires.prime in
+    let C : IsCombined G.table.p (order G.table) (entries_of c.args.a) (row c.self.inside.elements.rows) c.combine.new.out.entries =
+    combined (entries_of c.args.a) c.self.inside.elements.rows _ (positive G)
+    (rw (H.prime, H.width) at c.rows-elements.ensures.matrix) H.rows
+    (rw (H.prime, H.width) at (ap (λ (r : RowValue). r.entries) c.combine.ensures)) in
     rw (← c.self.view_is) (λ v A.
-    product-row c.self.inside.group (entries_of c.args.a) v (one c.self.inside.group) (stepped c.self.inside.elements.rows 0 1) c.write_combination.new.out.entries A
-    (elements-at c.self.inside.group c.self.inside.elements.rows c.self.invariant.element_shape.rows c.self.invariant.elements_are) C
-    ∙ ap (row_of c.self.inside.group 1) (times-one-is c.self.inside.group v))
+    product-row G (entries_of c.args.a) v (one G) (row c.self.inside.elements.rows) c.combine.new.out.entries A
+    (elements-at G c.self.inside.elements.rows H.rows c.self.invariant.elements_are) C
+    ∙ ap (row_of G 1) (times-one-is G v))
