@@ -18,8 +18,10 @@ ahead e (suc j) = suc (ahead e j)
 
 -- the maps of basis elements that begin with u, and take x of degree d + 1 to the section of the value at the
 -- boundary of x
-abbrev pub steps : {E : Type 0} (basis : ℕ → Type 0) → ((d : ℕ) → basis (suc d) → List (operations.Term E (basis d)))
-    → (M : ℕ → Ops E) → ((d : ℕ) → (M d).of → (M (suc d)).of) → (basis 0 → (M 0).of) → (d : ℕ) → basis d → (M d).of
+abbrev pub steps : {E : Type 0} (basis : ℕ → Type 0)
+    → ((d : ℕ) → basis (suc d) → List (operations.Term E (basis d)))
+    → (M : ℕ → Ops E) → ((d : ℕ) → (M d).of → (M (suc d)).of) → (basis 0 → (M 0).of) → (d : ℕ) → basis d
+    → (M d).of
 steps basis boundary M s u zero x = u x
 steps basis boundary M s u (suc d) x = s d (linear (M d) (steps basis boundary M s u d) (boundary d x))
 
@@ -37,14 +39,16 @@ module _ {n : ℕ} (q : ℕ) (Γ : Group n) (K : Coordinates q Γ) (S : StageRow
   pair d c v = lin (Fp q (monoid Γ)) c (terms q Γ (rank q Γ S.ranks d) v)
 
   -- the boundary of basis element i of degree d + 1, as a formal sum
-  abbrev pub row_terms : (d : ℕ) → Below (rank q Γ S.ranks (suc d)) → List (Term (monoid Γ) (Below (rank q Γ S.ranks d)))
+  abbrev pub row_terms : (d : ℕ) → Below (rank q Γ S.ranks (suc d))
+      → List (Term (monoid Γ) (Below (rank q Γ S.ranks d)))
   row_terms d i = terms q Γ (rank q Γ S.ranks d) (row_table q Γ K S d i)
 
   -- the lift of a class c of degree e: basis element i of degree e goes to c(i) 1, and the maps of higher
   -- degrees are found by the section
   abbrev pub lift : (e : ℕ) → Class e → (j : ℕ) → Below (rank q Γ S.ranks (ahead e j)) → (free j).of
   lift e c =
-      steps (λ j. Below (rank q Γ S.ranks (ahead e j))) (λ j. row_terms (ahead e j)) (λ j. ops (free j)) (section_table q Γ K S)
+      steps (λ j. Below (rank q Γ S.ranks (ahead e j))) (λ j. row_terms (ahead e j)) (λ j. ops (free j))
+      (section_table q Γ K S)
       (λ i. times (free 0).add (free 0).zero (c i).0 (unit q Γ 1 (residue 0 0)))
 
   -- the product of a class of degree j with c: its value at what the lift of c takes the basis to

@@ -74,9 +74,9 @@ value-at : (f : List Term) → IsOver 2 (degrees gens) 1 f
 value-at [] o = refl
 value-at (t ∷ f) o =
     rw (only t.monomial o.0)
-        (ap₂ (λ (a b : Below 3). residue 2 (a.0 + b.0))
-            (times-at 2 exterior-line.mul t.scalar (evaluate (algebra 2 exterior-line) gens x) 0)
-                (value-at f o.1)
+    (ap₂ (λ (a b : Below 3). residue 2 (a.0 + b.0))
+    (times-at 2 exterior-line.mul t.scalar (evaluate (algebra 2 exterior-line) gens x) 0)
+    (value-at f o.1)
     ∙ plus-residue 2 (t.scalar * 1) (coefficient f x) ∙ ap (residue 2) (omega arith))
 
 standard : IsStandard 2 (algebra 2 exterior-line) gens 1 x

@@ -19,7 +19,8 @@ not-zero {q} h n = n (h.same_remainder ∙ zero-mod (suc q))
 pub cleared : (q a b i : ℕ) → IsCongruent (suc q) (b * i) 1 → IsCongruent (suc q) (a + (q * (i * a)) * b) 0
 cleared q a b i h =
     congruent_trans (congruent_eq (let e : a + (q * (i * a)) * b ≡ a + (q * a) * (b * i) = omega arith in e))
-    (congruent_trans (congruent_add (congruent_refl a) (congruent_mul_left (q * a) h)) (to_congruent 0 a (omega arith)))
+    (congruent_trans (congruent_add (congruent_refl a) (congruent_mul_left (q * a) h))
+    (to_congruent 0 a (omega arith)))
 
 module _ (q n : ℕ) (F : Type 0) (co : F → ℕ → ℕ) where
   -- i is the first place at which a member of S is not 0
@@ -30,13 +31,16 @@ module _ (q n : ℕ) (F : Type 0) (co : F → ℕ → ℕ) where
     pub before : (j : ℕ) → j < i → IsCongruent (suc q) (co member j) 0
 
   -- a member that is 0 wherever the space leads before m is 0 before m
-  pub vanishes-below : (S : F → Type 0) (f : F) → S f → (m : ℕ) → ((k : ℕ) → k < m → IsCongruent (suc q) (co f k) 0 ⊎ (LeadsAt S k → ⊥))
+  pub vanishes-below : (S : F → Type 0) (f : F) → S f → (m : ℕ)
+      → ((k : ℕ) → k < m → IsCongruent (suc q) (co f k) 0 ⊎ (LeadsAt S k → ⊥))
       → (k : ℕ) → k < m → IsCongruent (suc q) (co f k) 0
   vanishes-below S f s zero h k b = absurd (omega arith)
-  vanishes-below S f s (suc m) h k b = go (vanishes-below S f s m (λ j l. h j (omega arith))) (cases_eq k m) (h m (omega arith)) (zero-or-not q (co f m))
+  vanishes-below S f s (suc m) h k b = go (vanishes-below S f s m (λ j l. h j (omega arith))) (cases_eq k m)
+      (h m (omega arith)) (zero-or-not q (co f m))
     where
       go : ((k : ℕ) → k < m → IsCongruent (suc q) (co f k) 0) → (k ≡ m) ⊎ (k ≡ m → ⊥)
-          → IsCongruent (suc q) (co f m) 0 ⊎ (LeadsAt S m → ⊥) → IsCongruent (suc q) (co f m) 0 ⊎ (co f m % suc q ≢ 0) → IsCongruent (suc q) (co f k) 0
+          → IsCongruent (suc q) (co f m) 0 ⊎ (LeadsAt S m → ⊥) → IsCongruent (suc q) (co f m) 0
+          ⊎ (co f m % suc q ≢ 0) → IsCongruent (suc q) (co f k) 0
       go ih (inr d) o z = ih k (omega arith)
       go ih (inl e) (inl o) z = rw e o
       go ih (inl e) (inr o) (inl z) = rw e z
@@ -49,18 +53,22 @@ module _ (q n : ℕ) (F : Type 0) (co : F → ℕ → ℕ) (field : IsFieldModul
     (G-back : (f g : F) (c : ℕ) → G (plus f c g) → G g → G f)
     (G-zero : (f : F) → I f → ((k : ℕ) → k < n → IsCongruent (suc q) (co f k) 0) → G f)
     (status : (k : ℕ) → k < n → (LeadsAt q n F co I k → ⊥) ⊎ LeadsAt q n F co (λ f. I f × G f) k) where
-  from-place : (k i : ℕ) → i + k ≡ n → (f : F) → I f → ((j : ℕ) → j < i → IsCongruent (suc q) (co f j) 0) → G f
+  from-place : (k i : ℕ) → i + k ≡ n → (f : F) → I f → ((j : ℕ) → j < i → IsCongruent (suc q) (co f j) 0)
+      → G f
   from-place zero i e f m b = G-zero f m (λ j l. b j (omega arith))
-  from-place (suc k) i e f m b = go (from-place k (suc i) (omega arith)) (zero-or-not q (co f i)) (status i (omega arith))
+  from-place (suc k) i e f m b = go (from-place k (suc i) (omega arith)) (zero-or-not q (co f i))
+      (status i (omega arith))
     where
-      next : (f : F) → ((j : ℕ) → j < i → IsCongruent (suc q) (co f j) 0) → IsCongruent (suc q) (co f i) 0 → (j : ℕ) → j < suc i → IsCongruent (suc q) (co f j) 0
+      next : (f : F) → ((j : ℕ) → j < i → IsCongruent (suc q) (co f j) 0) → IsCongruent (suc q) (co f i) 0
+          → (j : ℕ) → j < suc i → IsCongruent (suc q) (co f j) 0
       next f b z j l = pick (cases_eq j i)
         where
           pick : (j ≡ i) ⊎ (j ≡ i → ⊥) → IsCongruent (suc q) (co f j) 0
           pick (inl e) = rw e z
           pick (inr d) = b j (omega arith)
 
-      go : ((f : F) → I f → ((j : ℕ) → j < suc i → IsCongruent (suc q) (co f j) 0) → G f) → IsCongruent (suc q) (co f i) 0 ⊎ (co f i % suc q ≢ 0)
+      go : ((f : F) → I f → ((j : ℕ) → j < suc i → IsCongruent (suc q) (co f j) 0) → G f)
+          → IsCongruent (suc q) (co f i) 0 ⊎ (co f i % suc q ≢ 0)
           → (LeadsAt q n F co I i → ⊥) ⊎ LeadsAt q n F co (λ f. I f × G f) i → G f
       go ih (inl z) s = ih f m (next f b z)
       go ih (inr z) (inl s) = absurd (s record { member = f; is_member = m; here = z; before = b })
@@ -69,8 +77,10 @@ module _ (q n : ℕ) (F : Type 0) (co : F → ℕ → ℕ) (field : IsFieldModul
           (ih (plus f c s.member) (I-plus f s.member c m s.is_member.0)
           (next (plus f c s.member)
           (λ j l. congruent_trans (co-plus f s.member c j)
-          (congruent_trans (congruent_add (b j l) (congruent_mul_left c (s.before j l))) (congruent_eq (omega arith))))
-          (congruent_trans (co-plus f s.member c i) (cleared q (co f i) (co s.member i) inverse.0 inverse.1))))
+          (congruent_trans (congruent_add (b j l) (congruent_mul_left c (s.before j l)))
+          (congruent_eq (omega arith))))
+          (congruent_trans (co-plus f s.member c i)
+          (cleared q (co f i) (co s.member i) inverse.0 inverse.1))))
           s.is_member.1
         where
           inverse : (b : ℕ) × IsCongruent (suc q) (co s.member i * b) 1

@@ -37,7 +37,7 @@ module _ (q : ℕ) where
   by-left : (a b c : Below (suc q)) → by (sum a b) c ≡ sum (by a c) (by b c)
   by-left a b c = residue-path
       (congruent_trans (congruent_mul_right c.0 (congruent_mod (a.0 + b.0))) (congruent_eq (omega arith)))
-          ∙ sym (plus-residue q (a.0 * c.0) (b.0 * c.0))
+      ∙ sym (plus-residue q (a.0 * c.0) (b.0 * c.0))
 
   by-comm : (a b : Below (suc q)) → by a b ≡ by b a
   by-comm a b = ap (residue q) (let k : a.0 * b.0 ≡ b.0 * a.0 = omega arith in k)
@@ -45,17 +45,17 @@ module _ (q : ℕ) where
   by-right : (a b c : Below (suc q)) → by a (sum b c) ≡ sum (by a b) (by a c)
   by-right a b c = residue-path
       (congruent_trans (congruent_mul_left a.0 (congruent_mod (b.0 + c.0))) (congruent_eq (omega arith)))
-          ∙ sym (plus-residue q (a.0 * b.0) (a.0 * c.0))
+      ∙ sym (plus-residue q (a.0 * b.0) (a.0 * c.0))
 
   by-assoc : (a b c : Below (suc q)) → by (by a b) c ≡ by a (by b c)
   by-assoc a b c = residue-path (congruent_trans (congruent_mul_right c.0 (congruent_mod (a.0 * b.0)))
       (congruent_trans (congruent_eq (omega arith))
-          (congruent_sym (congruent_mul_left a.0 (congruent_mod (b.0 * c.0))))))
+      (congruent_sym (congruent_mul_left a.0 (congruent_mod (b.0 * c.0))))))
 
   by-one : (a : Below (suc q)) → by a (residue q 1) ≡ a
   by-one a = residue-path
       (congruent_trans (congruent_mul_left a.0 (congruent_mod 1)) (congruent_eq (omega arith)))
-          ∙ residue-self q a
+      ∙ residue-self q a
 
   at-zero-sum : (a b : Below (suc q)) → at-zero (sum a b) ≡ (λ i. sum (at-zero a i) (at-zero b i))
   at-zero-sum a b = fun_ext (λ i. go (eqb i 0))
@@ -91,19 +91,19 @@ module _ (q : ℕ) where
 
     left : (o : Bool) (x y z : Vector q)
         → cond o (at-zero (by (A.add x y 0) (z 0))) Zero ≡ A.add (cond o (at-zero (by (x 0) (z 0))) Zero)
-            (cond o (at-zero (by (y 0) (z 0))) Zero)
+        (cond o (at-zero (by (y 0) (z 0))) Zero)
     left true x y z = ap at-zero (by-left (x 0) (y 0) (z 0)) ∙ at-zero-sum (by (x 0) (z 0)) (by (y 0) (z 0))
     left false x y z = fun_ext (λ i. zero-sum)
 
     right : (o : Bool) (x y z : Vector q)
         → cond o (at-zero (by (x 0) (A.add y z 0))) Zero ≡ A.add (cond o (at-zero (by (x 0) (y 0))) Zero)
-            (cond o (at-zero (by (x 0) (z 0))) Zero)
+        (cond o (at-zero (by (x 0) (z 0))) Zero)
     right true x y z = ap at-zero (by-right (x 0) (y 0) (z 0)) ∙ at-zero-sum (by (x 0) (y 0)) (by (x 0) (z 0))
     right false x y z = fun_ext (λ i. zero-sum)
 
     module _ (zero-on : on 0 ≡ true) (down : (d e : ℕ) → on (d + e) ≡ true → (on d ≡ true) × (on e ≡ true))
         (signs : (d e : ℕ) → on (d + e) ≡ true → sign q (d * e) ≡ 1) (squares : (d : ℕ)
-            → is_exterior q d ≡ true → on (d + d) ≡ false) where
+        → is_exterior q d ≡ true → on (d + d) ≡ false) where
       assoc : (d e f : ℕ) (x y z : Vector q)
           → line-mul (d + e) f (line-mul d e x y) z ≡ line-mul d (e + f) x (line-mul e f y z)
       assoc d e f x y z = go (cases_Bool (on (d + (e + f))))

@@ -21,9 +21,9 @@ module _ (q : ℕ) {V : Type 0} (A : Algebra V) where
   span-generators-unique basis (suc d) gs hs g h =
       let same = span-generators-unique basis d g.0 h.0 g.3 h.3 in
       let monomials = monomials-unique q (degrees h.0) (suc d) g.1 h.1
-          (subst (λ b. IsMonomials q (degrees b) (suc d) g.1) same g.4) h.4 in
+      (subst (λ b. IsMonomials q (degrees b) (suc d) g.1) same g.4) h.4 in
       let chosen = chosen-unique (map (evaluate A h.0) h.1) (basis (suc d)) [] g.2 h.2
       (subst (λ ms. IsChosen q A (map (evaluate A h.0) ms) (basis (suc d)) [] g.2) monomials
-          (subst (λ b. IsChosen q A (map (evaluate A b) g.1) (basis (suc d)) [] g.2) same g.5)) h.5 in
+      (subst (λ b. IsChosen q A (map (evaluate A b) g.1) (basis (suc d)) [] g.2) same g.5)) h.5 in
       g.6 ∙ ap (λ b. b ++ generators_of q A (suc d) g.2) same
-          ∙ ap (λ c. h.0 ++ generators_of q A (suc d) c) chosen ∙ sym h.6
+      ∙ ap (λ c. h.0 ++ generators_of q A (suc d) c) chosen ∙ sym h.6

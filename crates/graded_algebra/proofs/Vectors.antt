@@ -27,7 +27,8 @@ module _ (q : ℕ) (V : Type 0) (A : Algebra V) (S : IsSpace q V A) where
   times-zero (suc n) = ap (A.add A.zero) (times-zero n) ∙ S.add-zero A.zero
 
   pub times-sum : (m n : ℕ) (x : V) → times A (m + n) x ≡ A.add (times A m x) (times A n x)
-  times-sum zero n x = ap (λ k. times A k x) (let e : 0 + n ≡ n = omega arith in e) ∙ sym (zero-add (times A n x))
+  times-sum zero n x = ap (λ k. times A k x) (let e : 0 + n ≡ n = omega arith in e)
+      ∙ sym (zero-add (times A n x))
   times-sum (suc m) n x =
       ap (λ k. times A k x) (let e : suc m + n ≡ suc (m + n) = omega arith in e)
       ∙ ap (A.add x) (times-sum m n x) ∙ sym (S.add-assoc x _ _)
@@ -44,7 +45,8 @@ module _ (q : ℕ) (V : Type 0) (A : Algebra V) (S : IsSpace q V A) where
   -- a number counts modulo p
   pub times-mod : (n : ℕ) (x : V) → times A n x ≡ times A (n % suc q) x
   times-mod n x =
-      ap (λ k. times A k x) (sym (div-add-mod n (suc q)) ∙ (let e : suc q * (n / suc q) + n % suc q ≡ (n / suc q) * suc q + n % suc q = omega arith in e))
+      ap (λ k. times A k x) (sym (div-add-mod n (suc q))
+      ∙ (let e : suc q * (n / suc q) + n % suc q ≡ (n / suc q) * suc q + n % suc q = omega arith in e))
       ∙ times-sum ((n / suc q) * suc q) (n % suc q) x
       ∙ ap (λ y. A.add y (times A (n % suc q) x)) (times-multiple (n / suc q) x) ∙ zero-add _
 
@@ -68,15 +70,19 @@ module _ (q : ℕ) (V : Type 0) (A : Algebra V) (S : IsSpace q V A) where
 
 module _ (q : ℕ) (V : Type 0) (A : Algebra V) (In : ℕ → V → Type 0) (L : IsGradedCommutative q V A In) where
   pub mul-zero : (d e : ℕ) (x : V) → A.mul d e x A.zero ≡ A.zero
-  mul-zero d e x = double-zero q V A L.space (A.mul d e x A.zero) (sym (L.mul-right d e x A.zero A.zero) ∙ ap (A.mul d e x) (L.space.add-zero A.zero))
+  mul-zero d e x = double-zero q V A L.space (A.mul d e x A.zero) (sym (L.mul-right d e x A.zero A.zero)
+      ∙ ap (A.mul d e x) (L.space.add-zero A.zero))
 
   pub zero-mul : (d e : ℕ) (x : V) → A.mul d e A.zero x ≡ A.zero
-  zero-mul d e x = double-zero q V A L.space (A.mul d e A.zero x) (sym (L.mul-left d e A.zero A.zero x) ∙ ap (λ y. A.mul d e y x) (L.space.add-zero A.zero))
+  zero-mul d e x = double-zero q V A L.space (A.mul d e A.zero x) (sym (L.mul-left d e A.zero A.zero x)
+      ∙ ap (λ y. A.mul d e y x) (L.space.add-zero A.zero))
 
   pub mul-times : (d e n : ℕ) (x y : V) → A.mul d e x (times A n y) ≡ times A n (A.mul d e x y)
   mul-times d e zero x y = mul-zero d e x
-  mul-times d e (suc n) x y = L.mul-right d e x y (times A n y) ∙ ap (A.add (A.mul d e x y)) (mul-times d e n x y)
+  mul-times d e (suc n) x y = L.mul-right d e x y (times A n y)
+      ∙ ap (A.add (A.mul d e x y)) (mul-times d e n x y)
 
   pub times-mul : (d e n : ℕ) (x y : V) → A.mul d e (times A n x) y ≡ times A n (A.mul d e x y)
   times-mul d e zero x y = zero-mul d e y
-  times-mul d e (suc n) x y = L.mul-left d e x (times A n x) y ∙ ap (A.add (A.mul d e x y)) (times-mul d e n x y)
+  times-mul d e (suc n) x y = L.mul-left d e x (times A n x) y
+      ∙ ap (A.add (A.mul d e x y)) (times-mul d e n x y)

@@ -58,7 +58,8 @@ pub record IsGradedCommutative (q : ℕ) (V : Type 0) (A : Algebra V) (In : ℕ 
   pub space : IsSpace q V A
   pub mul-left : (d e : ℕ) (x y z : V) → A.mul d e (A.add x y) z ≡ A.add (A.mul d e x z) (A.mul d e y z)
   pub mul-right : (d e : ℕ) (x y z : V) → A.mul d e x (A.add y z) ≡ A.add (A.mul d e x y) (A.mul d e x z)
-  pub mul-assoc : (d e f : ℕ) (x y z : V) → A.mul (d + e) f (A.mul d e x y) z ≡ A.mul d (e + f) x (A.mul e f y z)
+  pub mul-assoc : (d e f : ℕ) (x y z : V)
+      → A.mul (d + e) f (A.mul d e x y) z ≡ A.mul d (e + f) x (A.mul e f y z)
   pub mul-comm : (d e : ℕ) (x y : V) → A.mul d e x y ≡ times A (sign q (d * e)) (A.mul e d y x)
   pub mul-self : (d : ℕ) (x : V) → is_exterior q d ≡ true → A.mul d d x x ≡ A.zero
   pub mul-one : (d : ℕ) (x : V) → In d x → A.mul d 0 x A.one ≡ x

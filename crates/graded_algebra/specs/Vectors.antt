@@ -1,4 +1,5 @@
--- Class vectors: entries modulo p = q + 1, 0 from the rank of the degree on; and graded algebras of such vectors.
+-- Class vectors: entries modulo p = q + 1, 0 from the rank of the degree on; and graded algebras of such
+-- vectors.
 use Rattle.std.specs.Prelude.{◌≡◌, ℕ, zero, suc, ◌+◌, ◌≤◌, cond, eqb, List, [], ◌∷◌}
 use Rattle.graded_algebra.specs.Algebras.{Algebra, IsGradedCommutative}
 pub use Rattle.linear_algebra.specs.Residues.{Below, residue, Vector}
@@ -25,7 +26,8 @@ pub record GradedAlgebra (q : ℕ) : Type 0 where
   pub ranks : ℕ → ℕ
   pub mul : ℕ → ℕ → Vector q → Vector q → Vector q
   pub rank-zero : ranks 0 ≡ 1
-  pub laws : IsGradedCommutative q (Vector q) (vectors q mul) (λ d v. (i : ℕ) → ranks d ≤ i → v i ≡ residue q 0)
+  pub laws : IsGradedCommutative q (Vector q) (vectors q mul) (λ d v. (i : ℕ) → ranks d ≤ i
+      → v i ≡ residue q 0)
 
 -- v is of degree d
 abbrev pub IsOfDegree : (q : ℕ) → GradedAlgebra q → ℕ → Vector q → Type 0

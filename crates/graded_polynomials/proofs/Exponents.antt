@@ -13,7 +13,8 @@ all-zero : (b : List ℕ) → IsTrimmed b → ((i : ℕ) → exponent b i ≡ 0)
 all-zero [] t h = refl
 all-zero (y ∷ b) t h = absurd (t.0 (all-zero b t.1 (λ i. h (suc i))) (h 0))
 
-pub same-exponents : (a b : List ℕ) → IsTrimmed a → IsTrimmed b → ((i : ℕ) → exponent a i ≡ exponent b i) → a ≡ b
+pub same-exponents : (a b : List ℕ) → IsTrimmed a → IsTrimmed b → ((i : ℕ) → exponent a i ≡ exponent b i)
+    → a ≡ b
 same-exponents [] b t u h = sym (all-zero b u (λ i. sym (h i)))
 same-exponents (x ∷ a) [] t u h = all-zero (x ∷ a) t h
 same-exponents (x ∷ a) (y ∷ b) t u h = ap₂ (λ x a. x ∷ a) (h 0) (same-exponents a b t.1 u.1 (λ i. h (suc i)))
@@ -21,7 +22,8 @@ same-exponents (x ∷ a) (y ∷ b) t u h = ap₂ (λ x a. x ∷ a) (h 0) (same-e
 pub joined-cancel : (a m n : List ℕ) → IsTrimmed m → IsTrimmed n → joined a m ≡ joined a n → m ≡ n
 joined-cancel a m n t u e =
     same-exponents m n t u
-    (λ i. let h : exponent (joined a m) i ≡ exponent (joined a n) i = ap (λ l. exponent l i) e in omega (arith, h, exponent-joined a m i, exponent-joined a n i))
+    (λ i. let h : exponent (joined a m) i ≡ exponent (joined a n) i = ap (λ l. exponent l i) e in omega
+    (arith, h, exponent-joined a m i, exponent-joined a n i))
 
 pub joined-greater : (a m n : List ℕ) → IsGreater (joined a m) (joined a n) → IsGreater m n
 joined-greater a m n g = record {
@@ -64,7 +66,8 @@ cases-greater (x ∷ a) (y ∷ b) t u = go (cases_order x y) (cases-greater a b 
         before zero l = e
         before (suc i) l = g.before i (omega arith)
 
-    go : (x ≡ y) ⊎ ((x < y) ⊎ (y < x)) → (a ≡ b) ⊎ IsGreater a b ⊎ IsGreater b a → ((x ∷ a) ≡ (y ∷ b)) ⊎ IsGreater (x ∷ a) (y ∷ b) ⊎ IsGreater (y ∷ b) (x ∷ a)
+    go : (x ≡ y) ⊎ ((x < y) ⊎ (y < x)) → (a ≡ b) ⊎ IsGreater a b ⊎ IsGreater b a → ((x ∷ a) ≡ (y ∷ b))
+        ⊎ IsGreater (x ∷ a) (y ∷ b) ⊎ IsGreater (y ∷ b) (x ∷ a)
     go (inl e) (inl f) = inl (ap₂ (λ x a. x ∷ a) e f)
     go (inl e) (inr (inl g)) = inr (inl (deeper x y a b e g))
     go (inl e) (inr (inr g)) = inr (inr (deeper y x b a (sym e) g))
@@ -80,5 +83,13 @@ greater-trans a b c g h = go (cases_order g.at h.at)
       more = (let k : exponent c g.at < exponent b g.at = rw e h.more in omega (arith, k, g.more));
       before = λ i l. g.before i l ∙ h.before i (omega (arith, e, l));
     }
-    go (inr (inl l)) = record { at = g.at; more = omega (arith, g.more, h.before g.at l); before = λ i b. g.before i b ∙ h.before i (omega (arith, b, l)) }
-    go (inr (inr l)) = record { at = h.at; more = omega (arith, h.more, g.before h.at l); before = λ i b. g.before i (omega (arith, b, l)) ∙ h.before i b }
+    go (inr (inl l)) = record {
+      at = g.at;
+      more = omega (arith, g.more, h.before g.at l);
+      before = λ i b. g.before i b ∙ h.before i (omega (arith, b, l));
+    }
+    go (inr (inr l)) = record {
+      at = h.at;
+      more = omega (arith, h.more, g.before h.at l);
+      before = λ i b. g.before i (omega (arith, b, l)) ∙ h.before i b;
+    }

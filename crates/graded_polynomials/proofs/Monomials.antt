@@ -27,9 +27,13 @@ joined-empty (x ∷ a) (y ∷ b) e = absurd cc
 pub trimmed-joined : (a b : List ℕ) → IsTrimmed a → IsTrimmed b → IsTrimmed (joined a b)
 trimmed-joined [] b h k = k
 trimmed-joined (x ∷ a) [] h k = h
-trimmed-joined (x ∷ a) (y ∷ b) h k = ((λ e z. h.0 (joined-empty a b e) (omega arith)), trimmed-joined a b h.1 k.1)
+trimmed-joined (x ∷ a) (y ∷ b) h k = (
+  (λ e z. h.0 (joined-empty a b e) (omega arith)),
+  trimmed-joined a b h.1 k.1,
+)
 
-pub monomial-joined : (q : ℕ) (ds : List ℕ) (d e f : ℕ) (a b : List ℕ) → IsMonomial q ds d a → IsMonomial q ds e b → d + e ≡ f → fits q ds (joined a b) ≡ true → IsMonomial q ds f (joined a b)
+pub monomial-joined : (q : ℕ) (ds : List ℕ) (d e f : ℕ) (a b : List ℕ) → IsMonomial q ds d a
+    → IsMonomial q ds e b → d + e ≡ f → fits q ds (joined a b) ≡ true → IsMonomial q ds f (joined a b)
 monomial-joined q ds d e f a b h k l o = record {
   within = within-joined ds a b h.within k.within;
   trimmed = trimmed-joined a b h.trimmed k.trimmed;
@@ -37,20 +41,26 @@ monomial-joined q ds d e f a b h k l o = record {
   degree_is = omega (arith, degree-joined ds a b, h.degree_is, k.degree_is);
 }
 
-pub over-multiple : (q : ℕ) (ds : List ℕ) (d e f c : ℕ) (m : List ℕ) (g : List Term) → IsMonomial q ds d m → IsOver q ds e g → d + e ≡ f → IsOver q ds f (multiple q ds c m g)
+pub over-multiple : (q : ℕ) (ds : List ℕ) (d e f c : ℕ) (m : List ℕ) (g : List Term) → IsMonomial q ds d m
+    → IsOver q ds e g → d + e ≡ f → IsOver q ds f (multiple q ds c m g)
 over-multiple q ds d e f c m [] h k l = tt
-over-multiple q ds d e f c m (t ∷ g) h k l = go (cases_Bool (fits q ds (joined m t.monomial))) (over-multiple q ds d e f c m g h k.1 l)
+over-multiple q ds d e f c m (t ∷ g) h k l =
+    go (cases_Bool (fits q ds (joined m t.monomial))) (over-multiple q ds d e f c m g h k.1 l)
   where
-    go : (fits q ds (joined m t.monomial) ≡ true) ⊎ (fits q ds (joined m t.monomial) ≡ false) → IsOver q ds f (multiple q ds c m g) → IsOver q ds f (multiple q ds c m (t ∷ g))
+    go : (fits q ds (joined m t.monomial) ≡ true) ⊎ (fits q ds (joined m t.monomial) ≡ false)
+        → IsOver q ds f (multiple q ds c m g) → IsOver q ds f (multiple q ds c m (t ∷ g))
     go (inl o) r = rw o (monomial-joined q ds d e f m t.monomial h k.0 l o, r)
     go (inr o) r = rw o r
 
-pub over-total : (q : ℕ) (ds : List ℕ) (rs : List Polynomial) (d : ℕ) → ((r : Polynomial) → IsOneOf r rs → IsOver q ds r.degree r.terms)
+pub over-total : (q : ℕ) (ds : List ℕ) (rs : List Polynomial) (d : ℕ)
+    → ((r : Polynomial) → IsOneOf r rs → IsOver q ds r.degree r.terms)
     → (ts : List Multiple) → Each (IsMultiple q ds rs d) ts → IsOver q ds d (total q ds ts)
 over-total q ds rs d o [] h = tt
 over-total q ds rs d o (t ∷ ts) h =
-    each-append (λ (s : Term). IsMonomial q ds d s.monomial) (multiple q ds t.scalar t.by t.of.terms) (total q ds ts)
-    (over-multiple q ds h.0.rest t.of.degree d t.scalar t.by t.of.terms h.0.monomial (o t.of h.0.given) h.0.degree_is)
+    each-append (λ (s : Term). IsMonomial q ds d s.monomial) (multiple q ds t.scalar t.by t.of.terms)
+    (total q ds ts)
+    (over-multiple q ds h.0.rest t.of.degree d t.scalar t.by t.of.terms h.0.monomial
+    (o t.of h.0.given) h.0.degree_is)
     (over-total q ds rs d o ts h.1)
 
 -- only 1 has the degree 0

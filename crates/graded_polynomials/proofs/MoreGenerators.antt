@@ -41,4 +41,8 @@ terms-more q ds es d f h = each-map (λ t. IsMonomial q ds d t.monomial)
 -- a stored polynomial stays one
 pub polynomial-more : (q : ℕ) (ds es : List ℕ) (d : ℕ) (f : List Term) → IsPolynomial q ds d f
     → IsPolynomial q (ds ++ es) d f
-polynomial-more q ds es d f h = record { over = terms-more q ds es d f h.over; coefficients = h.coefficients; descending = h.descending }
+polynomial-more q ds es d f h = record {
+  over = terms-more q ds es d f h.over;
+  coefficients = h.coefficients;
+  descending = h.descending;
+}

@@ -36,20 +36,25 @@ same-equal (x ∷ a) (y ∷ b) h = go (cases_Bool (eqb x y)) (same-equal a b)
 pub cases-same : (a b : List ℕ) → ((same a b ≡ true) × (a ≡ b)) ⊎ ((same a b ≡ false) × (a ≢ b))
 cases-same a b = go (cases_Bool (same a b))
   where
-    go : (same a b ≡ true) ⊎ (same a b ≡ false) → ((same a b ≡ true) × (a ≡ b)) ⊎ ((same a b ≡ false) × (a ≢ b))
+    go : (same a b ≡ true) ⊎ (same a b ≡ false) → ((same a b ≡ true) × (a ≡ b))
+        ⊎ ((same a b ≡ false) × (a ≢ b))
     go (inl e) = inl (e, same-equal a b e)
     go (inr e) = inr (e, (λ p. false≢true (sym e ∙ rw p (same-self b))))
 
-pub coefficient-append : (f g : List Term) (m : List ℕ) → coefficient (f ++ g) m ≡ coefficient f m + coefficient g m
+pub coefficient-append : (f g : List Term) (m : List ℕ)
+    → coefficient (f ++ g) m ≡ coefficient f m + coefficient g m
 coefficient-append [] g m = omega arith
 coefficient-append (t ∷ f) g m = omega (arith, coefficient-append f g m)
 
-pub coefficient-scaled : (c : ℕ) (f : List Term) (m : List ℕ) → coefficient (scaled c f) m ≡ c * coefficient f m
+pub coefficient-scaled : (c : ℕ) (f : List Term) (m : List ℕ)
+    → coefficient (scaled c f) m ≡ c * coefficient f m
 coefficient-scaled c [] m = omega arith
 coefficient-scaled c (t ∷ f) m = go (cases_Bool (same t.monomial m)) (coefficient-scaled c f m)
   where
-    go : (same t.monomial m ≡ true) ⊎ (same t.monomial m ≡ false) → coefficient (scaled c f) m ≡ c * coefficient f m
-        → cond (same t.monomial m) (c * t.scalar) 0 + coefficient (scaled c f) m ≡ c * (cond (same t.monomial m) t.scalar 0 + coefficient f m)
+    go : (same t.monomial m ≡ true) ⊎ (same t.monomial m ≡ false)
+        → coefficient (scaled c f) m ≡ c * coefficient f m
+        → cond (same t.monomial m) (c * t.scalar) 0 + coefficient (scaled c f) m ≡ c *
+        (cond (same t.monomial m) t.scalar 0 + coefficient f m)
     go (inl e) ih = rw e (omega (arith, ih))
     go (inr e) ih = rw e (omega (arith, ih))
 
@@ -76,14 +81,17 @@ coefficient-removed m (t ∷ f) = go (cases_Bool (same t.monomial m)) (coefficie
     go (inl e) ih = rw e ih
     go (inr e) ih = rw (e, e) (omega (arith, ih))
 
-pub coefficient-kept : (m : List ℕ) (f : List Term) (n : List ℕ) → n ≢ m → coefficient (removed m f) n ≡ coefficient f n
+pub coefficient-kept : (m : List ℕ) (f : List Term) (n : List ℕ) → n ≢ m
+    → coefficient (removed m f) n ≡ coefficient f n
 coefficient-kept m [] n d = refl
-coefficient-kept m (t ∷ f) n d = go (cases-same t.monomial m) (cases-same t.monomial n) (coefficient-kept m f n d)
+coefficient-kept m (t ∷ f) n d = go (cases-same t.monomial m) (cases-same t.monomial n)
+    (coefficient-kept m f n d)
   where
     go : ((same t.monomial m ≡ true) × (t.monomial ≡ m)) ⊎ ((same t.monomial m ≡ false) × (t.monomial ≢ m))
         → ((same t.monomial n ≡ true) × (t.monomial ≡ n)) ⊎ ((same t.monomial n ≡ false) × (t.monomial ≢ n))
         → coefficient (removed m f) n ≡ coefficient f n
-        → coefficient (cond (same t.monomial m) (removed m f) (t ∷ removed m f)) n ≡ cond (same t.monomial n) t.scalar 0 + coefficient f n
+        → coefficient (cond (same t.monomial m) (removed m f) (t ∷ removed m f)) n ≡ cond
+        (same t.monomial n) t.scalar 0 + coefficient f n
     go (inl e) (inl k) ih = absurd (d (sym k.1 ∙ e.1))
     go (inl e) (inr k) ih = rw (e.0, k.0) (omega (arith, ih))
     go (inr e) o ih = rw e.0 (ap (λ z. cond (same t.monomial n) t.scalar 0 + z) ih)
@@ -97,7 +105,8 @@ same-sym h = record { at = λ m. congruent_sym (h.at m) }
 pub same-trans : {q : ℕ} {f g h : List Term} → IsSame q f g → IsSame q g h → IsSame q f h
 same-trans a b = record { at = λ m. congruent_trans (a.at m) (b.at m) }
 
-pub same-append : {q : ℕ} {f f' g g' : List Term} → IsSame q f f' → IsSame q g g' → IsSame q (f ++ g) (f' ++ g')
+pub same-append : {q : ℕ} {f f' g g' : List Term} → IsSame q f f' → IsSame q g g'
+    → IsSame q (f ++ g) (f' ++ g')
 same-append {q} {f} {f'} {g} {g'} a b = record {
   at = λ m.
       congruent_trans (congruent_eq (coefficient-append f g m))
@@ -120,7 +129,8 @@ pub each-map : {X : Type 0} (P Q : X → Type 0) (xs : List X) → ((x : X) → 
 each-map P Q [] h a = tt
 each-map P Q (x ∷ xs) h a = (h x a.0, each-map P Q xs h a.1)
 
-pub over-scaled : (q : ℕ) (ds : List ℕ) (d c : ℕ) (f : List Term) → IsOver q ds d f → IsOver q ds d (scaled c f)
+pub over-scaled : (q : ℕ) (ds : List ℕ) (d c : ℕ) (f : List Term) → IsOver q ds d f
+    → IsOver q ds d (scaled c f)
 over-scaled q ds d c [] h = tt
 over-scaled q ds d c (t ∷ f) h = (h.0, over-scaled q ds d c f h.1)
 

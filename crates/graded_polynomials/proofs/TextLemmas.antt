@@ -5,11 +5,14 @@ use Rattle.std.specs.Fmt.{digits}
 use Rattle.std.specs.List.{AllByRecursion as Each}
 use Rattle.graded_polynomials.specs.Texts.{joined_by, polynomial_text}
 
-sample : polynomial_text (1 ∷ 1 ∷ 2 ∷ []) (record { scalar = 2; monomial = 1 ∷ 1 ∷ [] } ∷ record { scalar = 1; monomial = 0 ∷ 0 ∷ 1 ∷ [] } ∷ []) ≡ codes "2*x_1_1*x_1_2+x_2_1"
+sample : polynomial_text (1 ∷ 1 ∷ 2 ∷ [])
+    (record { scalar = 2; monomial = 1 ∷ 1 ∷ [] } ∷ record { scalar = 1; monomial = 0 ∷ 0 ∷ 1 ∷ [] } ∷ [])
+    ≡ codes "2*x_1_1*x_1_2+x_2_1"
 unfolding digits
 sample = refl
 
-sample-power : polynomial_text (1 ∷ 1 ∷ 2 ∷ []) (record { scalar = 1; monomial = 2 ∷ [] } ∷ []) ≡ codes "x_1_1^2"
+sample-power : polynomial_text (1 ∷ 1 ∷ 2 ∷ [])
+    (record { scalar = 1; monomial = 2 ∷ [] } ∷ []) ≡ codes "x_1_1^2"
 unfolding digits
 sample-power = refl
 
@@ -23,11 +26,13 @@ abbrev Without : ℕ → List ℕ → Type 0
 Without s p = Each (λ b. b ≢ s) p
 
 -- the first piece is determined
-split-once : (s : ℕ) (p r u v : List ℕ) → Without s p → Without s r → p ++ s ∷ u ≡ r ++ s ∷ v → (p ≡ r) × (u ≡ v)
+split-once : (s : ℕ) (p r u v : List ℕ) → Without s p → Without s r → p ++ s ∷ u ≡ r ++ s ∷ v → (p ≡ r)
+    × (u ≡ v)
 split-once s [] [] u v h k e = (refl, tail-equal e)
 split-once s [] (y ∷ r) u v h k e = absurd (k.0 (sym (head-equal e)))
 split-once s (x ∷ p) [] u v h k e = absurd (h.0 (head-equal e))
-split-once s (x ∷ p) (y ∷ r) u v h k e = let t = split-once s p r u v h.1 k.1 (tail-equal e) in (ap₂ (λ x p. x ∷ p) (head-equal e) t.0, t.1)
+split-once s (x ∷ p) (y ∷ r) u v h k e = let t = split-once s p r u v h.1 k.1 (tail-equal e) in
+    (ap₂ (λ x p. x ∷ p) (head-equal e) t.0, t.1)
 
 not-one : (s : ℕ) (p r v : List ℕ) → Without s p → p ≡ r ++ s ∷ v → ⊥
 not-one s [] [] v h e = cc
@@ -36,7 +41,8 @@ not-one s (x ∷ p) [] v h e = h.0 (head-equal e)
 not-one s (x ∷ p) (y ∷ r) v h e = not-one s p r v h.1 (tail-equal e)
 
 -- the pieces are determined
-pub joined-unique : (s : ℕ) (ps rs : List (List ℕ)) → ps ≢ [] → rs ≢ [] → Each (Without s) ps → Each (Without s) rs → joined_by s ps ≡ joined_by s rs → ps ≡ rs
+pub joined-unique : (s : ℕ) (ps rs : List (List ℕ)) → ps ≢ [] → rs ≢ [] → Each (Without s) ps
+    → Each (Without s) rs → joined_by s ps ≡ joined_by s rs → ps ≡ rs
 joined-unique s [] rs n m h k e = absurd (n refl)
 joined-unique s (p ∷ ps) [] n m h k e = absurd (m refl)
 joined-unique s (p ∷ []) (r ∷ []) n m h k e = ap (λ p. p ∷ []) e

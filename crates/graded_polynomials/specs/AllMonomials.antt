@@ -2,11 +2,13 @@
 use Rattle.std.specs.Prelude.{ℕ, zero, suc, ◌-◌, ◌*◌, nat_le, if◌then◌else◌, List, [], ◌∷◌, ◌++◌, map}
 use Rattle.graded_polynomials.specs.Monomials.{is_exterior}
 
--- the exponents of the first generator, of degree g, from e down to 0, each before the monomials in the others that fill the degree d
+-- the exponents of the first generator, of degree g, from e down to 0, each before the monomials in the
+-- others that fill the degree d
 abbrev pub with_first : (ℕ → List (List ℕ)) → ℕ → ℕ → ℕ → List (List ℕ)
 with_first others g d zero = map (λ m. 0 ∷ m) (others d)
 with_first others g d (suc e) =
-    (if nat_le (suc e * g) d then map (λ m. suc e ∷ m) (others (d - suc e * g)) else []) ++ with_first others g d e
+    (if nat_le (suc e * g) d then map (λ m. suc e ∷ m)
+    (others (d - suc e * g)) else []) ++ with_first others g d e
 
 -- the monomials of degree d, in descending order
 abbrev pub all_monomials : ℕ → List ℕ → ℕ → List (List ℕ)

@@ -1,4 +1,5 @@
--- Monomials of the free graded commutative algebra (Brown, "Cohomology of Groups", V.6) over generators with the degrees ds, for the prime p = q + 1:
+-- Monomials of the free graded commutative algebra (Brown, "Cohomology of Groups", V.6) over generators with
+-- the degrees ds, for the prime p = q + 1:
 -- lists of exponents without a zero at the end.
 use Rattle.std.specs.Prelude.{◌≡◌, ◌≢◌, ℕ, ◌+◌, ◌*◌, ◌%◌, ◌<◌, Bool, true, false, cond, not, ◌&&◌, ◌||◌, eqb, leb, List, [], ◌∷◌, length, slice_index_or}
 
@@ -50,7 +51,8 @@ pub record IsGreater (a b : List ℕ) : Type 0 where
 pub record IsMonomials (q : ℕ) (ds : List ℕ) (d : ℕ) (ms : List (List ℕ)) : Type 0 where
   pub each : (i : ℕ) → i < length ms → IsMonomial q ds d (slice_index_or ms i [])
   pub all : (m : List ℕ) → IsMonomial q ds d m → (i : ℕ) × (i < length ms) × (slice_index_or ms i [] ≡ m)
-  pub descending : (i j : ℕ) → i < j → j < length ms → IsGreater (slice_index_or ms i []) (slice_index_or ms j [])
+  pub descending : (i j : ℕ) → i < j → j < length ms
+      → IsGreater (slice_index_or ms i []) (slice_index_or ms j [])
 
 -- the exponents added
 abbrev pub joined : List ℕ → List ℕ → List ℕ
@@ -58,7 +60,8 @@ joined [] b = b
 joined (x ∷ a) [] = x ∷ a
 joined (x ∷ a) (y ∷ b) = (x + y) ∷ joined a b
 
--- how often a factor of odd degree changes place with another where the factors of a and then those of b are put in order, modulo 2:
+-- how often a factor of odd degree changes place with another where the factors of a and then those of b are
+-- put in order, modulo 2:
 -- the factors of b at a generator go past what a has at the later generators
 abbrev pub swaps : List ℕ → List ℕ → List ℕ → ℕ
 swaps [] a b = 0

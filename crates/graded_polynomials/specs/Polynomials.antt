@@ -33,12 +33,16 @@ abbrev pub scaled : ℕ → List Term → List Term
 scaled c [] = []
 scaled c (t ∷ f) = record { scalar = c * t.scalar; monomial = t.monomial } ∷ scaled c f
 
--- c times the monomial m times f: a product of monomials has the sign of its exchanges, and is 0 where an odd generator comes twice
+-- c times the monomial m times f: a product of monomials has the sign of its exchanges, and is 0 where an odd
+-- generator comes twice
 abbrev pub multiple : ℕ → List ℕ → ℕ → List ℕ → List Term → List Term
 multiple q ds c m [] = []
 multiple q ds c m (t ∷ f) =
     cond (fits q ds (joined m t.monomial))
-    (record { scalar = c * (sign q (swaps ds m t.monomial) * t.scalar); monomial = joined m t.monomial } ∷ multiple q ds c m f)
+    (record {
+      scalar = c * (sign q (swaps ds m t.monomial) * t.scalar);
+      monomial = joined m t.monomial;
+    } ∷ multiple q ds c m f)
     (multiple q ds c m f)
 
 -- the product, term by term

@@ -61,11 +61,13 @@ power (suc i) e = 0 ∷ power i e
 -- the factors multiplied from left to right
 abbrev pub read_from : ℕ → List ℕ → List Term → List Factor → List Term
 read_from q ds f [] = f
-read_from q ds f (x ∷ xs) = read_from q ds (product q ds f (record { scalar = 1; monomial = power x.generator x.exponent } ∷ [])) xs
+read_from q ds f (x ∷ xs) = read_from q ds
+    (product q ds f (record { scalar = 1; monomial = power x.generator x.exponent } ∷ [])) xs
 
 abbrev pub read_value : ℕ → List ℕ → List ReadTerm → List Term
 read_value q ds [] = []
-read_value q ds (t ∷ ts) = read_from q ds (record { scalar = t.numeral; monomial = [] } ∷ []) t.factors ++ read_value q ds ts
+read_value q ds (t ∷ ts) = read_from q ds
+    (record { scalar = t.numeral; monomial = [] } ∷ []) t.factors ++ read_value q ds ts
 
 -- a stored term as it is written: its coefficient, and the powers of its monomial
 abbrev pub factors_of : ℕ → List ℕ → List Factor

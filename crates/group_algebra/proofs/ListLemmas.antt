@@ -7,7 +7,8 @@ use Rattle.linear_algebra.specs.Kernels.{unit_row}
 use Rattle.linear_algebra.proofs.Spans.{row_before_push}
 
 -- the images of the first rows, after some others
-pub pushed-image : (before : List (List ℕ)) (f : List ℕ → List ℕ) (rows : List (List ℕ)) (i : ℕ) (x : List ℕ) → i < length rows → x ≡ f (row rows i)
+pub pushed-image : (before : List (List ℕ)) (f : List ℕ → List ℕ) (rows : List (List ℕ)) (i : ℕ) (x : List ℕ)
+    → i < length rows → x ≡ f (row rows i)
     → (before ++ map f (take i rows)) ++ x ∷ [] ≡ before ++ map f (take (i + 1) rows)
 pushed-image before f rows i x l e =
     append_assoc before (map f (take i rows)) (x ∷ [])
@@ -16,11 +17,15 @@ pushed-image before f rows i x l e =
 
 -- a unit row with its 1 put back to 0
 pub unit-back : (n i : ℕ) → i < n → slice_set (unit_row n i) i 0 ≡ replicate n 0
-unit-back n i l = set-set (replicate n 0) i 1 0 ∙ ap (λ a. slice_set (replicate n 0) i a) (sym (get_or-replicate n i 0 0 l)) ∙ set-get_or (replicate n 0) i 0
+unit-back n i l = set-set (replicate n 0) i 1 0
+    ∙ ap (λ a. slice_set (replicate n 0) i a) (sym (get_or-replicate n i 0 0 l))
+    ∙ set-get_or (replicate n 0) i 0
 
 -- one more row with a property each
-pub rows-pushed : (P : ℕ → List ℕ → Type 0) (rows : List (List ℕ)) (i : ℕ) (x : List ℕ) → length rows ≡ i → P i x → ((k : ℕ) → k < i → P k (row rows k))
+pub rows-pushed : (P : ℕ → List ℕ → Type 0) (rows : List (List ℕ)) (i : ℕ) (x : List ℕ) → length rows ≡ i
+    → P i x → ((k : ℕ) → k < i → P k (row rows k))
     → (k : ℕ) → k < i + 1 → P k (row (rows ++ x ∷ []) k)
 rows-pushed P rows i x len p h = below_more _ i
-    (λ k l. subst (P k) (sym (row_before_push rows x k (let z : k < length rows = omega (arith, len, l) in z))) (h k l))
+    (λ k l. subst (P k) (sym (row_before_push rows x k
+    (let z : k < length rows = omega (arith, len, l) in z))) (h k l))
     (subst (P i) (sym (get_or_push rows x [] i len)) p)

@@ -96,7 +96,10 @@ pub record PlacedName : Type 0 where
 -- the names of factors of which the first stands at this column
 abbrev pub factor_names : ℕ → List NamedFactor → List PlacedName
 factor_names c [] = []
-factor_names c (f ∷ fs) = record { column = c; name = f.name } ∷ factor_names (c + length (factor_text f) + 1) fs
+factor_names c (f ∷ fs) = record {
+  column = c;
+  name = f.name;
+} ∷ factor_names (c + length (factor_text f) + 1) fs
 
 -- a numeral and the * after it
 abbrev pub numeral_length : Option ℕ → ℕ
@@ -105,7 +108,8 @@ numeral_length (Some c) = length (decimal c) + 1
 
 abbrev pub term_names : ℕ → List NamedTerm → List PlacedName
 term_names c [] = []
-term_names c (t ∷ ts) = factor_names (c + numeral_length t.numeral) t.factors ++ term_names (c + length (term_bytes t) + 1) ts
+term_names c (t ∷ ts) = factor_names (c + numeral_length t.numeral) t.factors ++ term_names
+    (c + length (term_bytes t) + 1) ts
 
 -- the names of a text with their columns, which count from 1
 abbrev pub placed_names : Sum → List PlacedName

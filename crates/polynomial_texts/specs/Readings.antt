@@ -1,4 +1,5 @@
--- What a text is read as, for the prime p = q + 1 and generators with the degrees ds: a polynomial, or its first fault.
+-- What a text is read as, for the prime p = q + 1 and generators with the degrees ds: a polynomial, or its
+-- first fault.
 use Rattle.std.specs.Prelude.{◌≡◌, ◌≢◌, ℕ, ◌+◌, ◌*◌, ◌≤◌, ◌<◌, ◌⊎◌, List, [], ◌∷◌, map, length, get_or, All, Option, None, Some}
 use Rattle.std.specs.List.{AllByRecursion as Each, AllZip}
 use Rattle.limits.specs.declared.TheConstants.{GREATEST_DEGREE}

@@ -13,13 +13,15 @@ use Rattle.power_commutator.proofs.Numbers.{list-below, word-number-list}
 use Rattle.group_table.proofs.Pigeonhole.{Into}
 use Rattle.power_commutator.proofs.OntoMaps.{onto-one}
 
-module _ (q : ℕ) (r : 1 < suc q) (P : Presentation) (v : IsPresentation P) {B : Type 0} {one : B} {mul : B → B → B} (H : IsGroup one mul) (u : ℕ → B) where
+module _ (q : ℕ) (r : 1 < suc q) (P : Presentation) (v : IsPresentation P) {B : Type 0} {one : B} {mul : B → B
+    → B} (H : IsGroup one mul) (u : ℕ → B) where
   abbrev val : (i m : ℕ) → Tuple q m → B
   val = value q P H u
 
   -- the relations, read in the layer after g_d
   pub record Relate (d m : ℕ) : Type 0 where
-    pub power : (j : ℕ) → Among (suc d) m j → pow mul one (u j) (suc q) ≡ val (suc d) m (word q d m (power_word P j))
+    pub power : (j : ℕ) → Among (suc d) m j
+        → pow mul one (u j) (suc q) ≡ val (suc d) m (word q d m (power_word P j))
     pub swap : (j k : ℕ) → Among (suc d) m j → Among (suc d) m k → j < k
         → mul (u k) (u j) ≡ mul (u j) (mul (u k) (val (suc d) m (word q d m (commutator_word P k j))))
 
@@ -32,22 +34,38 @@ module _ (q : ℕ) (r : 1 < suc q) (P : Presentation) (v : IsPresentation P) {B 
   relate-next d m e R = record {
     power = λ j a.
         R.power j (let b = a.0 in omega (arith, b), let b = a.1 in omega (arith, b))
-        ∙ val-step j (power_word P j) (v.power j (let b = a.0 in omega (arith, b)) (let b = a.1 in omega (arith, b, e))) d m (let b = a.0 in omega (arith, b)) e;
+        ∙ val-step j (power_word P j) (v.power j (let b = a.0 in omega (arith, b))
+        (let b = a.1 in omega (arith, b, e))) d m (let b = a.0 in omega (arith, b)) e;
     swap = λ j k a b l.
-        R.swap j k (let c = a.0 in omega (arith, c), let c = a.1 in omega (arith, c)) (let c = b.0 in omega (arith, c), let c = b.1 in omega (arith, c)) l
+        R.swap j k (
+          let c = a.0 in omega (arith, c),
+          let c = a.1 in omega (arith, c),
+        ) (
+          let c = b.0 in omega (arith, c),
+          let c = b.1 in
+              omega (arith, c),
+        ) l
         ∙ ap (λ t. mul (u j) (mul (u k) t))
-        (val-step k (commutator_word P k j) (v.commutator k j (let c = a.0 in omega (arith, c)) l (let c = b.1 in omega (arith, c, e))) d m (let c = b.0 in omega (arith, c)) e);
+        (val-step k (commutator_word P k j)
+        (v.commutator k j (let c = a.0 in omega (arith, c)) l (let c = b.1 in omega (arith, c, e))) d m
+        (let c = b.0 in omega (arith, c)) e);
   }
 
   pub respects : (m d : ℕ) → d + m ≡ P.gens → Relate d m → Respects q P H u (suc d) m
   respects zero d e R = tt
   respects (suc m) d e R = (
     R.power (suc d) (omega arith, omega arith)
-        ∙ val-step (suc d) (power_word P (suc d)) (v.power (suc d) (omega arith) (omega (arith, e))) d m (omega arith) e,
+        ∙ val-step (suc d) (power_word P (suc d)) (v.power (suc d) (omega arith) (omega (arith, e))) d m
+        (omega arith) e,
     λ k a.
-        R.swap (suc d) k (omega arith, omega arith) (let b = a.0 in omega (arith, b), let b = a.1 in omega (arith, b)) a.0
+        R.swap (suc d) k (omega arith, omega arith) (
+          let b = a.0 in omega (arith, b),
+          let b = a.1 in omega (arith, b),
+        ) a.0
         ∙ ap (λ t. mul (u (suc d)) (mul (u k) t))
-        (val-step k (commutator_word P k (suc d)) (v.commutator k (suc d) (omega arith) a.0 (let b = a.1 in omega (arith, b, e))) d m (let b = a.0 in omega (arith, b)) e),
+        (val-step k (commutator_word P k (suc d))
+        (v.commutator k (suc d) (omega arith) a.0 (let b = a.1 in omega (arith, b, e))) d m
+        (let b = a.0 in omega (arith, b)) e),
     respects m (suc d) (omega (arith, e)) (relate-next d m e R),
   )
 
@@ -109,19 +127,26 @@ module _ (q : ℕ) (r : 1 < suc q) (P : Presentation) (v : IsPresentation P) {B 
       power = λ j a. inj _ _
           (on-pow (f (g j)) (suc q)
           ∙ conj-same t (pow mul one (ψ (g j)) (suc q)) _ (ψ (word q (suc d) m (power_word P j))) _
-          (conj-pow H (ψ (g j)) (ψ (f (g j))) t (conj (g j)) (suc q)) (conj (word q (suc d) m (power_word P j)))
+          (conj-pow H (ψ (g j)) (ψ (f (g j))) t (conj (g j)) (suc q))
+          (conj (word q (suc d) m (power_word P j)))
           (ap (λ s. pow mul one s (suc q)) (gen j a) ∙ next.power j a));
       swap = λ j k a b l. inj _ _
           (hom (f (g k)) (f (g j))
           ∙ conj-same t (mul (ψ (g k)) (ψ (g j))) (mul (ψ (f (g k))) (ψ (f (g j))))
-          (mul (mul (ψ (g j)) (ψ (g k))) (ψ (word q (suc d) m (commutator_word P k j)))) (mul (mul (ψ (f (g j))) (ψ (f (g k)))) (ψ (f (word q (suc d) m (commutator_word P k j)))))
+          (mul (mul (ψ (g j)) (ψ (g k))) (ψ (word q (suc d) m (commutator_word P k j))))
+          (mul (mul (ψ (f (g j))) (ψ (f (g k)))) (ψ (f (word q (suc d) m (commutator_word P k j)))))
           (conj-mul t _ _ _ _ (conj (g k)) (conj (g j)))
-          (conj-mul t _ _ _ _ (conj-mul t _ _ _ _ (conj (g j)) (conj (g k))) (conj (word q (suc d) m (commutator_word P k j))))
+          (conj-mul t _ _ _ _ (conj-mul t _ _ _ _ (conj (g j)) (conj (g k)))
+          (conj (word q (suc d) m (commutator_word P k j))))
           (ap₂ mul (gen k b) (gen j a) ∙ next.swap j k a b l
-          ∙ sym (H.mul-assoc _ _ _) ∙ ap (λ s. mul s (ψ (word q (suc d) m (commutator_word P k j)))) (ap₂ mul (sym (gen j a)) (sym (gen k b))))
-          ∙ sym (hom (op (f (g j)) (f (g k))) _ ∙ ap (λ s. mul s (ψ (f (word q (suc d) m (commutator_word P k j))))) (hom (f (g j)) (f (g k)))));
+          ∙ sym (H.mul-assoc _ _ _) ∙ ap (λ s. mul s (ψ (word q (suc d) m (commutator_word P k j))))
+          (ap₂ mul (sym (gen j a)) (sym (gen k b))))
+          ∙ sym (hom (op (f (g j)) (f (g k))) _
+          ∙ ap (λ s. mul s (ψ (f (word q (suc d) m (commutator_word P k j)))))
+          (hom (f (g j)) (f (g k)))));
       fixed = inj _ _
-          (conj-same t (ψ w) (ψ (f w)) (pow mul one t (suc q)) (pow mul one t (suc q)) (conj w) (sym (pow-last H t (suc q))) (sym all.0)
+          (conj-same t (ψ w) (ψ (f w)) (pow mul one t (suc q)) (pow mul one t (suc q)) (conj w)
+          (sym (pow-last H t (suc q))) (sym all.0)
           ∙ all.0);
       twist = λ j a. inj _ _
           (hom w _ ∙ ap (λ s. mul s (ψ (iterate f (suc q) (g j)))) (sym all.0)
@@ -130,7 +155,8 @@ module _ (q : ℕ) (r : 1 < suc q) (P : Presentation) (v : IsPresentation P) {B 
     }
 
   -- the value is one to one on each layer, since it is on the first
-  pub all-tests : (m d : ℕ) → d + m ≡ P.gens → Relate d m → ((x y : Tuple q m) → val (suc d) m x ≡ val (suc d) m y → x ≡ y) → AllHold q P (suc d) m
+  pub all-tests : (m d : ℕ) → d + m ≡ P.gens → Relate d m
+      → ((x y : Tuple q m) → val (suc d) m x ≡ val (suc d) m y → x ≡ y) → AllHold q P (suc d) m
   all-tests zero d e R inj = tt
   all-tests (suc m) d e R inj =
       let below : (x y : Tuple q m) → val (suc (suc d)) m x ≡ val (suc (suc d)) m y → x ≡ y =
@@ -140,22 +166,31 @@ module _ (q : ℕ) (r : 1 < suc q) (P : Presentation) (v : IsPresentation P) {B 
 -- the inverse of (a, x), from inverses in the next layer
 inverse-by : (q : ℕ) (P : Presentation) (i m : ℕ) → (Tuple q m → Tuple q m) → ℕ → Tuple q m → Tuple q (suc m)
 inverse-by q P i m inv zero x = (none q, inv x)
-inverse-by q P i m inv (suc k) x =
-    (residue q (q - k), inv (times q P (suc i) m (word q i m (power_word P i)) (iterate (twisted q P i m (times q P (suc i) m)) (q - k) x)))
+inverse-by q P i m inv (suc k) x = (
+  residue q (q - k),
+  inv (times q P (suc i) m (word q i m (power_word P i))
+      (iterate (twisted q P i m (times q P (suc i) m)) (q - k) x)),
+)
 
-inverse-step : (q : ℕ) (r : 1 < suc q) (P : Presentation) {B : Type 0} {one : B} {mul : B → B → B} (H : IsGroup one mul) (u : ℕ → B) (m i : ℕ)
+inverse-step : (q : ℕ) (r : 1 < suc q) (P : Presentation) {B : Type 0} {one : B} {mul : B → B
+    → B} (H : IsGroup one mul) (u : ℕ → B) (m i : ℕ)
     (t : Respects q P H u i (suc m)) (inv : Tuple q m → Tuple q m)
     → ((x : Tuple q m) → mul (value q P H u (suc i) m x) (value q P H u (suc i) m (inv x)) ≡ one)
     → (k : ℕ) (h : k < suc q) (x : Tuple q m)
     → mul (value q P H u i (suc m) ((k, h), x)) (value q P H u i (suc m) (inverse-by q P i m inv k x)) ≡ one
 unfolding inverse-by
-inverse-step q r P {B} {one = one} {mul = mul} H u m i t inv ok zero h x = ap₂ mul (one-mul H _) (one-mul H _) ∙ ok x
+inverse-step q r P {B} {one = one} {mul = mul} H u m i t inv ok zero h x = ap₂ mul (one-mul H _) (one-mul H _)
+    ∙ ok x
 inverse-step q r P {B} {one = one} {mul = mul} H u m i t inv ok (suc k) h x =
-    ap (λ n. mul (mul (pow mul one (u i) (suc k)) (ψ x)) (mul (pow mul one (u i) n) (ψ (inv z)))) (residue-small q (q - k) (omega arith))
+    ap (λ n. mul (mul (pow mul one (u i) (suc k)) (ψ x)) (mul (pow mul one (u i) n) (ψ (inv z))))
+    (residue-small q (q - k) (omega arith))
     ∙ H.mul-assoc _ _ _
-    ∙ ap (mul (pow mul one (u i) (suc k))) (sym (H.mul-assoc _ _ _) ∙ ap (λ s. mul s (ψ (inv z))) (value-iterate q P H u r i m t ih (q - k) x) ∙ H.mul-assoc _ _ _)
+    ∙ ap (mul (pow mul one (u i) (suc k))) (sym (H.mul-assoc _ _ _)
+    ∙ ap (λ s. mul s (ψ (inv z))) (value-iterate q P H u r i m t ih (q - k) x) ∙ H.mul-assoc _ _ _)
     ∙ sym (H.mul-assoc _ _ _)
-    ∙ ap₂ mul (sym (pow-add H (u i) (suc k) (q - k)) ∙ ap (pow mul one (u i)) (let h' : suc k < suc q = h in let e : suc k + (q - k) ≡ suc q = omega (arith, h') in e) ∙ t.0) refl
+    ∙ ap₂ mul (sym (pow-add H (u i) (suc k) (q - k))
+    ∙ ap (pow mul one (u i)) (let h' : suc k < suc q = h in let e : suc k + (q - k) ≡ suc q = omega
+    (arith, h') in e) ∙ t.0) refl
     ∙ sym (H.mul-assoc _ _ _) ∙ ap (λ s. mul s (ψ (inv z))) (sym (ih _ _)) ∙ ok z
   where
     ψ : Tuple q m → B
@@ -165,7 +200,8 @@ inverse-step q r P {B} {one = one} {mul = mul} H u m i t inv ok (suc k) h x =
     ih = value-hom q P H u r (suc i) m t.2
 
     z : Tuple q m
-    z = times q P (suc i) m (word q i m (power_word P i)) (iterate (twisted q P i m (times q P (suc i) m)) (q - k) x)
+    z = times q P (suc i) m (word q i m (power_word P i))
+        (iterate (twisted q P i m (times q P (suc i) m)) (q - k) x)
 
 -- an element whose value is the inverse of that of x
 pub inverse-tuple : (q : ℕ) (P : Presentation) (i m : ℕ) → Tuple q m → Tuple q m
@@ -173,12 +209,15 @@ inverse-tuple q P i zero x = tt
 inverse-tuple q P i (suc m) x =
     inverse-by q P i m (inverse-tuple q P (suc i) m) x.0.0 x.1
 
-pub value-inverse : (q : ℕ) (r : 1 < suc q) (P : Presentation) {B : Type 0} {one : B} {mul : B → B → B} (H : IsGroup one mul) (u : ℕ → B) (m i : ℕ)
-    → Respects q P H u i m → (x : Tuple q m) → mul (value q P H u i m x) (value q P H u i m (inverse-tuple q P i m x)) ≡ one
+pub value-inverse : (q : ℕ) (r : 1 < suc q) (P : Presentation) {B : Type 0} {one : B} {mul : B → B
+    → B} (H : IsGroup one mul) (u : ℕ → B) (m i : ℕ)
+    → Respects q P H u i m → (x : Tuple q m)
+    → mul (value q P H u i m x) (value q P H u i m (inverse-tuple q P i m x)) ≡ one
 unfolding inverse-tuple
 value-inverse q r P H u zero i t x = H.mul-one _
 value-inverse q r P H u (suc m) i t x =
-    inverse-step q r P H u m i t (inverse-tuple q P (suc i) m) (value-inverse q r P H u m (suc i) t.2) x.0.0 x.0.1 x.1
+    inverse-step q r P H u m i t (inverse-tuple q P (suc i) m)
+    (value-inverse q r P H u m (suc i) t.2) x.0.0 x.0.1 x.1
 
 -- a group of numbers, with its elements as numbers below n
 pub table-elements : (n : ℕ) (mul : ℕ → ℕ → ℕ) (γ : IsTableGroup n mul)
@@ -190,7 +229,8 @@ table-elements n mul γ = record {
   mul-inv = λ a. below-path _ _ ((γ.inverse a.0 a.1).2);
 }
 
-module _ (q : ℕ) (r : 1 < suc q) (P : Presentation) (p-is : P.prime ≡ suc q) (v : IsPresentation P) (R : Realisation P) where
+module _ (q : ℕ) (r : 1 < suc q) (P : Presentation) (p-is : P.prime ≡ suc q) (v : IsPresentation P)
+    (R : Realisation P) where
   abbrev N : ℕ
   N = P.prime ^ P.gens
 
@@ -218,7 +258,8 @@ module _ (q : ℕ) (r : 1 < suc q) (P : Presentation) (p-is : P.prime ≡ suc q)
   φ-word : (j : ℕ) (w : List ℕ) → IsWord P.prime n j w → (φ (word q 0 n w)).0 ≡ ascending R.mul 0 R.h 1 w
   φ-word j w x =
       map-ascending one mul 0 R.mul (λ b. b.0) (λ a b. refl) refl u 1 (list-of q n (word q 0 n w))
-      ∙ ascending-same q 0 R.mul (λ i. (u i).0) R.h 1 n (λ i a. u-is i a.0 (let b = a.1 in omega (arith, b))) (word q 0 n w)
+      ∙ ascending-same q 0 R.mul (λ i. (u i).0) R.h 1 n (λ i a. u-is i a.0 (let b = a.1 in omega (arith, b)))
+      (word q 0 n w)
       ∙ ap (ascending R.mul 0 R.h 1) (list-word q P.prime n j w p-is x 0 n (omega arith))
 
   relate : Relate q r P v H u 0 n
@@ -234,7 +275,8 @@ module _ (q : ℕ) (r : 1 < suc q) (P : Presentation) (p-is : P.prime ≡ suc q)
         let j-in : j ≤ n = let c = a.1 in omega (arith, c) in
         below-path _ _
         (ap₂ R.mul (u-is k b.0 k-in) (u-is j a.0 j-in) ∙ R.commutator k j a.0 s k-in
-        ∙ sym (ap₂ R.mul (u-is j a.0 j-in) (ap₂ R.mul (u-is k b.0 k-in) (φ-word k (commutator_word P k j) (v.commutator k j a.0 s k-in)))));
+        ∙ sym (ap₂ R.mul (u-is j a.0 j-in)
+        (ap₂ R.mul (u-is k b.0 k-in) (φ-word k (commutator_word P k j) (v.commutator k j a.0 s k-in)))));
   }
 
   φ-hom : IsHom (times q P 1 n) mul φ
@@ -242,8 +284,11 @@ module _ (q : ℕ) (r : 1 < suc q) (P : Presentation) (p-is : P.prime ≡ suc q)
 
   onto : (a : ℕ) → Generated R.mul R.h P.gens N a → (x : Tuple q n) × ((φ x).0 ≡ a)
   onto a has_one = (identity-tuple q n, ap (λ b. b.0) (value-identity q P H u 1 n))
-  onto a (has_generator i h l) =
-      (generator-tuple q 1 n i, ap (λ b. b.0) (value-generator q P H u 1 n i (h, omega (arith, l)) r) ∙ u-is i h l)
+  onto a (has_generator i h l) = (
+    generator-tuple q 1 n i,
+    ap (λ b. b.0) (value-generator q P H u 1 n i (h, omega (arith, l)) r)
+        ∙ u-is i h l,
+  )
   onto c (has_product a b g k) =
       let x = onto a g in
       let y = onto b k in
@@ -275,7 +320,8 @@ module _ (q : ℕ) (r : 1 < suc q) (P : Presentation) (p-is : P.prime ≡ suc q)
   back-into : Into back N N
   unfolding back
   back-into a h =
-      let l : number (suc q) (list-of q n (preimage (a % N, mod-lt a R.group.some)).0) < suc q ^ n = list-below q n _ in
+      let l : number (suc q) (list-of q n (preimage (a % N, mod-lt a R.group.some)).0) < suc q ^ n =
+      list-below q n _ in
       let e : P.prime ^ n ≡ suc q ^ n = ap (λ p. p ^ n) p-is in
       omega (arith, l, e)
 
@@ -286,24 +332,28 @@ module _ (q : ℕ) (r : 1 < suc q) (P : Presentation) (p-is : P.prime ≡ suc q)
   by-number-back : (a : ℕ) → a < N → by-number (back a) ≡ a
   unfolding back
   by-number-back a h =
-      by-number-list (preimage (a % N, mod-lt a R.group.some)).0 ∙ (preimage (a % N, mod-lt a R.group.some)).1 ∙ mod-eq_of_lt h
+      by-number-list (preimage (a % N, mod-lt a R.group.some)).0 ∙ (preimage (a % N, mod-lt a R.group.some)).1
+      ∙ mod-eq_of_lt h
 
   number-in : (x : Tuple q n) → number (suc q) (list-of q n x) < N
-  number-in x = let l : number (suc q) (list-of q n x) < suc q ^ n = list-below q n x in let e : P.prime ^ n ≡ suc q ^ n = ap (λ p. p ^ n) p-is in omega (arith, l, e)
+  number-in x = let l : number (suc q) (list-of q n x) < suc q ^ n = list-below q n x in
+      let e : P.prime ^ n ≡ suc q ^ n = ap (λ p. p ^ n) p-is in omega (arith, l, e)
 
   φ-inj : (x y : Tuple q n) → φ x ≡ φ y → x ≡ y
   φ-inj x y h =
       list-inj q n x y
       (sym (word-number-list q n x)
       ∙ ap (word_of (suc q) n)
-      (onto-one N by-number back back-into by-number-back by-number-into (number (suc q) (list-of q n x)) (number (suc q) (list-of q n y)) (number-in x) (number-in y)
+      (onto-one N by-number back back-into by-number-back by-number-into (number (suc q) (list-of q n x))
+      (number (suc q) (list-of q n y)) (number-in x) (number-in y)
       (by-number-list x ∙ ap (λ b. b.0) h ∙ sym (by-number-list y)))
       ∙ word-number-list q n y)
 
   pub realised : first_fault P ≡ None
   realised =
       each-none (tests P 1 n)
-      (hold-all q r P p-is v 1 n (omega arith) (omega arith) (all-tests q r P v H u n 0 (omega arith) relate φ-inj))
+      (hold-all q r P p-is v 1 n (omega arith) (omega arith)
+      (all-tests q r P v H u n 0 (omega arith) relate φ-inj))
 
 pub no-fault : (P : Presentation) → 1 < P.prime → IsPresentation P → Realisation P → first_fault P ≡ None
 no-fault P s v R = realised (pred P.prime) (omega (arith, s)) P (omega (arith, s)) v R

@@ -48,13 +48,15 @@ module _ {A : Type 0} {one : A} {mul : A → A → A} (H : IsGroup one mul) wher
   pub pow-last : (x : A) (e : ℕ) → pow mul one x (suc e) ≡ mul (pow mul one x e) x
   pow-last x e = sym (conj-pow x x x refl e)
 
-module _ {A B : Type 0} (one : A) (mul : A → A → A) (unit : B) (times : B → B → B) (f : A → B) (h : IsHom mul times f) (o : f one ≡ unit) where
+module _ {A B : Type 0} (one : A) (mul : A → A → A) (unit : B) (times : B → B → B) (f : A
+    → B) (h : IsHom mul times f) (o : f one ≡ unit) where
   pub map-pow : (x : A) (e : ℕ) → f (pow mul one x e) ≡ pow times unit (f x) e
   map-pow x zero = o
   map-pow x (suc e) = h x _ ∙ ap (times (f x)) (map-pow x e)
 
 -- f respects products, so f^e does
-pub iterate-hom : {A : Type 0} (mul : A → A → A) (f : A → A) → IsHom mul mul f → (e : ℕ) → IsHom mul mul (iterate f e)
+pub iterate-hom : {A : Type 0} (mul : A → A → A) (f : A → A) → IsHom mul mul f → (e : ℕ)
+    → IsHom mul mul (iterate f e)
 iterate-hom mul f h zero x y = refl
 iterate-hom mul f h (suc e) x y = ap f (iterate-hom mul f h e x y) ∙ h _ _
 
@@ -62,12 +64,14 @@ pub iterate-fixed : {A : Type 0} (f : A → A) (x : A) → f x ≡ x → (e : �
 iterate-fixed f x h zero = refl
 iterate-fixed f x h (suc e) = ap f (iterate-fixed f x h e) ∙ h
 
-pub iterate-add : {A : Type 0} (f : A → A) (a b : ℕ) (x : A) → iterate f a (iterate f b x) ≡ iterate f (a + b) x
+pub iterate-add : {A : Type 0} (f : A → A) (a b : ℕ) (x : A)
+    → iterate f a (iterate f b x) ≡ iterate f (a + b) x
 iterate-add f zero b x = ap (λ k. iterate f k x) (let e : b ≡ 0 + b = omega arith in e)
 iterate-add f (suc a) b x =
     ap f (iterate-add f a b x) ∙ ap (λ k. iterate f k x) (let e : suc (a + b) ≡ suc a + b = omega arith in e)
 
-pub hom-one : {A B : Type 0} {one : A} {mul : A → A → A} {unit : B} {times : B → B → B} → IsGroup one mul → (K : IsGroup unit times)
+pub hom-one : {A B : Type 0} {one : A} {mul : A → A → A} {unit : B} {times : B → B → B} → IsGroup one mul
+    → (K : IsGroup unit times)
     → (f : A → B) → IsHom mul times f → f one ≡ unit
 hom-one {one = one} {unit = unit} H K f h =
     cancel K (f one) (f one) unit (sym (h one one) ∙ ap f (H.mul-one one) ∙ sym (K.mul-one (f one)))

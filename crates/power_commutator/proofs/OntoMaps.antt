@@ -3,7 +3,8 @@ use Rattle.std.proofs.Common.{◌≡◌, ℕ, sym, ◌∙◌, ap, ◌<◌}
 use Rattle.group_table.proofs.Pigeonhole.{Into, OneToOne, preimage}
 
 -- s chooses a preimage under f of each number below n
-module _ (n : ℕ) (f s : ℕ → ℕ) (s-into : Into s n n) (f-s : (a : ℕ) → a < n → f (s a) ≡ a) (f-into : Into f n n) where
+module _ (n : ℕ) (f s : ℕ → ℕ) (s-into : Into s n n) (f-s : (a : ℕ) → a < n
+    → f (s a) ≡ a) (f-into : Into f n n) where
   s-one : OneToOne s n
   s-one i j p q e = sym (f-s i p) ∙ ap f e ∙ f-s j q
 

@@ -1,4 +1,5 @@
--- What a program needs that computes by numbers and tables: a layer's table from the next one's, the tests by numbers, and the
+-- What a program needs that computes by numbers and tables: a layer's table from the next one's, the tests by
+-- numbers, and the
 -- order of the tests.
 use Rattle.std.proofs.Common.{◌≡◌, ℕ, zero, suc, refl, sym, ◌∙◌, ap, ap₂, subst, subst₂, ◌+◌, ◌-◌, ◌*◌, ◌/◌, ◌%◌, ◌^◌, ◌<◌, ◌≤◌, arith, Bool, true, false, eqb, ltb, if◌then◌else◌, List, [], ◌∷◌, ◌++◌, drop, Some, None, lt-ltb, le-ltb, ◌⊎◌, inl, inr, mod-eq_of_lt, zero-lt-suc}
 use Rattle.std.proofs.Math.Nat.{add-mul-mod_self_left, mul-add-div, div-eq_of_lt}
@@ -19,17 +20,20 @@ use Rattle.power_commutator.proofs.Tests.{power-left, power-right, swap-left, sw
 abbrev pub num : (p q m : ℕ) → Tuple q m → ℕ
 num p q m x = number p (list-of q m x)
 
-iterate-map : {A : Type 0} (f : A → A) (h : ℕ → ℕ) (n : A → ℕ) → ((x : A) → n (f x) ≡ h (n x)) → (e : ℕ) (x : A) → n (iterate f e x) ≡ iterate h e (n x)
+iterate-map : {A : Type 0} (f : A → A) (h : ℕ → ℕ) (n : A → ℕ) → ((x : A) → n (f x) ≡ h (n x))
+    → (e : ℕ) (x : A) → n (iterate f e x) ≡ iterate h e (n x)
 iterate-map f h n s zero x = refl
 iterate-map f h n s (suc e) x = s (iterate f e x) ∙ ap h (iterate-map f h n s e x)
 
 -- equal numbers, equal lists
-pub number-inj : (q m : ℕ) (x y : List ℕ) → IsWord (suc q) m 0 x → IsWord (suc q) m 0 y → number (suc q) x ≡ number (suc q) y → x ≡ y
+pub number-inj : (q m : ℕ) (x y : List ℕ) → IsWord (suc q) m 0 x → IsWord (suc q) m 0 y
+    → number (suc q) x ≡ number (suc q) y → x ≡ y
 number-inj q m x y v w e =
     let N = numbering q m in
     sym (N.word-number x v) ∙ ap (word_of (suc q) m) e ∙ N.word-number y w
 
-pub same-number : (q m : ℕ) (x y : List ℕ) → IsWord (suc q) m 0 x → IsWord (suc q) m 0 y → same x y ≡ eqb (number (suc q) x) (number (suc q) y)
+pub same-number : (q m : ℕ) (x y : List ℕ) → IsWord (suc q) m 0 x → IsWord (suc q) m 0 y
+    → same x y ≡ eqb (number (suc q) x) (number (suc q) y)
 same-number q m x y v w = go (eqb_tells (number (suc q) x) (number (suc q) y)) (same x y) refl
   where
     go : ((eqb (number (suc q) x) (number (suc q) y) ≡ true) × (number (suc q) x ≡ number (suc q) y))
@@ -51,7 +55,8 @@ module _ (q : ℕ) (r : 1 < suc q) (P : Presentation) (p-is : P.prime ≡ suc q)
   num-word m x = ap (λ p. word_of p m (number p (list-of q m x))) p-is ∙ word-number-list q m x
 
   num-identity : (m : ℕ) → num P.prime q m (identity-tuple q m) ≡ 0
-  num-identity m = ap (number p) (list-identity q m) ∙ ap (λ p. number p (identity m)) p-is ∙ (numbering q m).one
+  num-identity m = ap (number p) (list-identity q m) ∙ ap (λ p. number p (identity m)) p-is
+      ∙ (numbering q m).one
 
   num-generator : (i m j : ℕ) → Among i m j → num P.prime q m (generator-tuple q i m j) ≡ p ^ (j - i)
   num-generator i m j a = ap (number p) (list-generator q r i m j) ∙ number-generator p i m j a.0 a.1
@@ -66,13 +71,18 @@ module _ (q : ℕ) (r : 1 < suc q) (P : Presentation) (p-is : P.prime ≡ suc q)
     abbrev nm : Tuple q m → ℕ
     nm = num P.prime q m
 
-    pub alpha-number : (x : Tuple q m) → num P.prime q m (twisted q P i m (times q P (suc i) m) x) ≡ step_alpha P t i m (num P.prime q m x)
+    pub alpha-number : (x : Tuple q m) → num P.prime q m
+        (twisted q P i m (times q P (suc i) m) x) ≡ step_alpha P t i m (num P.prime q m x)
     alpha-number x =
-        map-ascending (identity-tuple q m) (times q P (suc i) m) 0 t nm T (num-identity m) (image q P i m (times q P (suc i) m)) (suc i) (list-of q m x)
-        ∙ ascending-same q 0 t (λ j. nm (image q P i m (times q P (suc i) m) j)) (λ j. t (p ^ (j - suc i)) (number p (drop i (commutator_word P j i)))) (suc i) m
+        map-ascending (identity-tuple q m) (times q P (suc i) m) 0 t nm T (num-identity m)
+        (image q P i m (times q P (suc i) m)) (suc i) (list-of q m x)
+        ∙ ascending-same q 0 t (λ j. nm (image q P i m (times q P (suc i) m) j))
+        (λ j. t (p ^ (j - suc i)) (number p (drop i (commutator_word P j i)))) (suc i) m
         (λ j a. T _ _ ∙ ap₂ t (num-generator (suc i) m j a)
-        (ap (number p) (list-word q P.prime P.gens j (commutator_word P j i) p-is (v.commutator j i s a.0 (let b = a.1 in omega (arith, b, n-is))) i m n-is))) x
-        ∙ ap (ascending t 0 (λ j. t (p ^ (j - suc i)) (number p (drop i (commutator_word P j i)))) (suc i)) (sym (num-word m x))
+        (ap (number p) (list-word q P.prime P.gens j (commutator_word P j i) p-is
+        (v.commutator j i s a.0 (let b = a.1 in omega (arith, b, n-is))) i m n-is))) x
+        ∙ ap (ascending t 0 (λ j. t (p ^ (j - suc i)) (number p (drop i (commutator_word P j i)))) (suc i))
+        (sym (num-word m x))
 
     w-number : num P.prime q m (word q i m (power_word P i)) ≡ number p (drop i (power_word P i))
     w-number = ap (number p) (w-is q r P p-is v i m n-is s)
@@ -87,35 +97,48 @@ module _ (q : ℕ) (r : 1 < suc q) (P : Presentation) (p-is : P.prime ≡ suc q)
         let k : ℕ = number (suc q) (list-of q m x.1) in
         ap (λ p. (x.0.0 + p * number p (list-of q m x.1)) / p) p-is
         ∙ ap (λ t. t / suc q) (let e : x.0.0 + suc q * k ≡ suc q * k + x.0.0 = omega arith in e)
-        ∙ mul-add-div (zero-lt-suc q) k x.0.0 ∙ ap (λ t. k + t) (div-eq_of_lt x.0.1) ∙ (let e : k + 0 ≡ k = omega arith in e)
+        ∙ mul-add-div (zero-lt-suc q) k x.0.0 ∙ ap (λ t. k + t) (div-eq_of_lt x.0.1)
+        ∙ (let e : k + 0 ≡ k = omega arith in e)
         ∙ ap (λ p. number p (list-of q m x.1)) (sym p-is)
 
     put-number : (w : Tuple q m) (k : ℕ) (x : Tuple q m) → k < suc q + suc q
-        → num P.prime q (suc m) (put q (times q P (suc i) m) w k x) ≡ (if (ltb k p) then (k + p * nm x) else ((k - p) + p * t (nm w) (nm x)))
+        → num P.prime q (suc m) (put q (times q P (suc i) m) w k x) ≡
+        (if (ltb k p) then (k + p * nm x) else ((k - p) + p * t (nm w) (nm x)))
     put-number w k x h = go (less-or k (suc q))
       where
         go : (k < suc q) ⊎ (suc q ≤ k)
-            → num P.prime q (suc m) (put q (times q P (suc i) m) w k x) ≡ (if (ltb k p) then (k + p * nm x) else ((k - p) + p * t (nm w) (nm x)))
+            → num P.prime q (suc m) (put q (times q P (suc i) m) w k x) ≡
+            (if (ltb k p) then (k + p * nm x) else ((k - p) + p * t (nm w) (nm x)))
         go (inl l) =
             ap (num P.prime q (suc m)) (put-less q (times q P (suc i) m) w k x l)
             ∙ ap (λ a. a + p * nm x) (residue-small q k l)
-            ∙ ap (λ b. if b then (k + p * nm x) else ((k - p) + p * t (nm w) (nm x))) (sym (lt-ltb k p (omega (arith, l, p-is))))
+            ∙ ap (λ b. if b then (k + p * nm x) else ((k - p) + p * t (nm w) (nm x)))
+            (sym (lt-ltb k p (omega (arith, l, p-is))))
         go (inr l) =
             ap (num P.prime q (suc m)) (put-more q (times q P (suc i) m) w k x l)
-            ∙ ap₂ (λ a b. a + p * b) (residue-small q (k - suc q) (omega (arith, h)) ∙ ap (λ a. k - a) (sym p-is)) (T w x)
-            ∙ ap (λ b. if b then (k + p * nm x) else ((k - p) + p * t (nm w) (nm x))) (sym (le-ltb k p (omega (arith, l, p-is))))
+            ∙ ap₂ (λ a b. a + p * b) (residue-small q (k - suc q) (omega (arith, h))
+            ∙ ap (λ a. k - a) (sym p-is)) (T w x)
+            ∙ ap (λ b. if b then (k + p * nm x) else ((k - p) + p * t (nm w) (nm x)))
+            (sym (le-ltb k p (omega (arith, l, p-is))))
 
     -- the table of layer i
-    pub table-step : IsTable i (suc m) (step_table P.prime t (number P.prime (drop i (power_word P i))) (step_alpha P t i m))
+    pub table-step : IsTable i (suc m) (step_table P.prime t (number P.prime (drop i (power_word P i)))
+        (step_alpha P t i m))
     table-step x y =
-        put-number (word q i m (power_word P i)) (x.0.0 + y.0.0) _ (let a : x.0.0 < suc q = x.0.1 in let b : y.0.0 < suc q = y.0.1 in omega (arith, a, b))
-        ∙ ap₂ (λ w z. if (ltb (x.0.0 + y.0.0) p) then (x.0.0 + y.0.0 + p * z) else ((x.0.0 + y.0.0 - p) + p * t w z)) w-number
+        put-number (word q i m (power_word P i)) (x.0.0 + y.0.0) _
+        (let a : x.0.0 < suc q = x.0.1 in let b : y.0.0 < suc q = y.0.1 in omega (arith, a, b))
+        ∙ ap₂ (λ w z. if (ltb (x.0.0 + y.0.0) p) then (x.0.0 + y.0.0 + p * z) else
+        ((x.0.0 + y.0.0 - p) + p * t w z)) w-number
         (T _ _ ∙ ap (λ b. t b (nm y.1)) (iterate-map f A nm alpha-number y.0.0 x.1))
         ∙ sym
-        (ap₂ (λ a b. let c = a + b in let z = t (iterate A b (num P.prime q (suc m) x / p)) (num P.prime q (suc m) y / p) in
-        if (ltb c p) then (c + p * z) else ((c - p) + p * t (number P.prime (drop i (power_word P i))) z)) (first-mod x) (first-mod y)
+        (ap₂ (λ a b. let c = a + b in let z = t (iterate A b (num P.prime q (suc m) x / p))
+        (num P.prime q (suc m) y / p) in
+        if (ltb c p) then (c + p * z) else ((c - p) + p * t (number P.prime (drop i (power_word P i))) z))
+        (first-mod x) (first-mod y)
         ∙ ap₂ (λ a b. let z = t (iterate A y.0.0 a) b in
-        if (ltb (x.0.0 + y.0.0) p) then (x.0.0 + y.0.0 + p * z) else ((x.0.0 + y.0.0 - p) + p * t (number P.prime (drop i (power_word P i))) z)) (rest-div x) (rest-div y))
+        if (ltb (x.0.0 + y.0.0) p) then (x.0.0 + y.0.0 + p * z) else
+        ((x.0.0 + y.0.0 - p) + p * t (number P.prime (drop i (power_word P i))) z)) (rest-div x)
+        (rest-div y))
 
     -- the two sides of each test by numbers
     abbrev op : List ℕ → List ℕ → List ℕ
@@ -128,8 +151,10 @@ module _ (q : ℕ) (r : 1 < suc q) (P : Presentation) (p-is : P.prime ≡ suc q)
     image-number j a = alpha-number (g j) ∙ ap A (num-generator (suc i) m j a)
 
     pub power-numbers : (j : ℕ) → Among (suc i) m j
-        → (number P.prime (power_test P (product P (suc i) m) i m j).left ≡ pow t 0 (step_alpha P t i m (P.prime ^ (j - suc i))) P.prime)
-        × (number P.prime (power_test P (product P (suc i) m) i m j).right ≡ step_alpha P t i m (number P.prime (drop i (power_word P j))))
+        → (number P.prime (power_test P (product P (suc i) m) i m j).left ≡ pow t 0
+        (step_alpha P t i m (P.prime ^ (j - suc i))) P.prime)
+        × (number P.prime (power_test P (product P (suc i) m) i m j).right ≡ step_alpha P t i m
+        (number P.prime (drop i (power_word P j))))
     power-numbers j a = (
       ap (number p) (sym (power-left q r P p-is v i m n-is s j))
           ∙ map-pow (identity-tuple q m) (times q P (suc i) m) 0 t nm T (num-identity m) (f (g j)) (suc q)
@@ -142,26 +167,35 @@ module _ (q : ℕ) (r : 1 < suc q) (P : Presentation) (p-is : P.prime ≡ suc q)
         → (number P.prime (swap_test P (product P (suc i) m) i m j k).left
         ≡ t (step_alpha P t i m (P.prime ^ (k - suc i))) (step_alpha P t i m (P.prime ^ (j - suc i))))
         × (number P.prime (swap_test P (product P (suc i) m) i m j k).right
-        ≡ t (t (step_alpha P t i m (P.prime ^ (j - suc i))) (step_alpha P t i m (P.prime ^ (k - suc i)))) (step_alpha P t i m (number P.prime (drop i (commutator_word P k j)))))
+        ≡ t (t (step_alpha P t i m (P.prime ^ (j - suc i))) (step_alpha P t i m (P.prime ^ (k - suc i))))
+        (step_alpha P t i m (number P.prime (drop i (commutator_word P k j)))))
     swap-numbers j k a b l = (
-      ap (number p) (sym (swap-left q r P p-is v i m n-is s j k)) ∙ T _ _ ∙ ap₂ t (image-number k b) (image-number j a),
+      ap (number p) (sym (swap-left q r P p-is v i m n-is s j k)) ∙ T _ _
+          ∙ ap₂ t (image-number k b) (image-number j a),
       ap (number p) (sym (swap-right q r P p-is v i m n-is s j k a b l)) ∙ T _ _
           ∙ ap₂ t (T _ _ ∙ ap₂ t (image-number j a) (image-number k b))
           (alpha-number _
-          ∙ ap A (ap (number p) (list-word q P.prime P.gens k (commutator_word P k j) p-is (v.commutator k j (let c = a.0 in omega (arith, c)) l (let c = b.1 in omega (arith, c, n-is))) i m n-is))),
+          ∙ ap A (ap (number p) (list-word q P.prime P.gens k (commutator_word P k j) p-is
+          (v.commutator k j (let c = a.0 in omega (arith, c)) l
+          (let c = b.1 in omega (arith, c, n-is))) i m n-is))),
     )
 
-    pub fixed-number : number P.prime (fixed_test P (product P (suc i) m) i m).left ≡ step_alpha P t i m (number P.prime (drop i (power_word P i)))
+    pub fixed-number : number P.prime (fixed_test P (product P (suc i) m) i m).left ≡ step_alpha P t i m
+        (number P.prime (drop i (power_word P i)))
     fixed-number = ap (number p) (sym (fixed-left q r P p-is v i m n-is s)) ∙ alpha-number _ ∙ ap A w-number
 
     pub twist-numbers : (j : ℕ) → Among (suc i) m j
         → (number P.prime (twist_test P (product P (suc i) m) i m j).left
-        ≡ t (number P.prime (drop i (power_word P i))) (iterate (step_alpha P t i m) P.prime (P.prime ^ (j - suc i))))
-        × (number P.prime (twist_test P (product P (suc i) m) i m j).right ≡ t (P.prime ^ (j - suc i)) (number P.prime (drop i (power_word P i))))
+        ≡ t (number P.prime (drop i (power_word P i)))
+        (iterate (step_alpha P t i m) P.prime (P.prime ^ (j - suc i))))
+        × (number P.prime (twist_test P (product P (suc i) m) i m j).right ≡ t (P.prime ^ (j - suc i))
+        (number P.prime (drop i (power_word P i))))
     twist-numbers j a = (
       ap (number p) (sym (twist-left q r P p-is v i m n-is s j)) ∙ T _ _
-          ∙ ap₂ t w-number (iterate-map f A nm alpha-number (suc q) (g j) ∙ ap₂ (iterate A) (sym p-is) (num-generator (suc i) m j a)),
-      ap (number p) (sym (twist-right q r P p-is v i m n-is s j)) ∙ T _ _ ∙ ap₂ t (num-generator (suc i) m j a) w-number,
+          ∙ ap₂ t w-number (iterate-map f A nm alpha-number (suc q) (g j)
+          ∙ ap₂ (iterate A) (sym p-is) (num-generator (suc i) m j a)),
+      ap (number p) (sym (twist-right q r P p-is v i m n-is s j)) ∙ T _ _
+          ∙ ap₂ t (num-generator (suc i) m j a) w-number,
     )
 
 -- the order of the tests: each after those before it
@@ -175,11 +209,13 @@ first-skip (e ∷ es) fs h = go (same e.left e.right) refl h (first-skip es fs)
     go true s h ih = ih h
     go false s h ih = absurd (grind arith)
 
-pub first-stop : (es fs : List Equation) (x : TestName) → first_false es ≡ Some x → first_false (es ++ fs) ≡ Some x
+pub first-stop : (es fs : List Equation) (x : TestName) → first_false es ≡ Some x
+    → first_false (es ++ fs) ≡ Some x
 first-stop [] fs x h = absurd (grind arith)
 first-stop (e ∷ es) fs x h = go (same e.left e.right) h (first-stop es fs x)
   where
-    go : (b : Bool) → (if b then (first_false es) else (Some e.name)) ≡ Some x → (first_false es ≡ Some x → first_false (es ++ fs) ≡ Some x)
+    go : (b : Bool) → (if b then (first_false es) else (Some e.name)) ≡ Some x
+        → (first_false es ≡ Some x → first_false (es ++ fs) ≡ Some x)
         → (if b then (first_false (es ++ fs)) else (Some e.name)) ≡ Some x
     go true h ih = ih h
     go false h ih = h
@@ -187,10 +223,12 @@ first-stop (e ∷ es) fs x h = go (same e.left e.right) h (first-stop es fs x)
 -- a fault of a later layer is the first fault
 pub layer-fault : (P : Presentation) (x : TestName) (d i m k s : ℕ) → k ≡ i + d → s ≡ m + d
     → first_false (tests P k m) ≡ Some x → first_false (tests P i s) ≡ Some x
-layer-fault P x zero i m k s e l h = subst₂ (λ a b. first_false (tests P a b) ≡ Some x) (let z : k ≡ i = omega (arith, e) in z) (let z : m ≡ s = omega (arith, l) in z) h
+layer-fault P x zero i m k s e l h = subst₂ (λ a b. first_false (tests P a b) ≡ Some x)
+    (let z : k ≡ i = omega (arith, e) in z) (let z : m ≡ s = omega (arith, l) in z) h
 layer-fault P x (suc d) i m k s e l h =
     subst (λ b. first_false (tests P i b) ≡ Some x) (let z : suc (m + d) ≡ s = omega (arith, l) in z)
-    (first-stop (tests P (suc i) (m + d)) _ x (layer-fault P x d (suc i) m k (m + d) (omega (arith, e)) refl h))
+    (first-stop (tests P (suc i) (m + d)) _ x
+    (layer-fault P x d (suc i) m k (m + d) (omega (arith, e)) refl h))
 
 module _ (q : ℕ) (r : 1 < suc q) (P : Presentation) (p-is : P.prime ≡ suc q) (v : IsPresentation P) where
   -- the last layer, and the first one
@@ -201,17 +239,22 @@ module _ (q : ℕ) (r : 1 < suc q) (P : Presentation) (p-is : P.prime ≡ suc q)
       → (a b : ℕ) → a < P.prime ^ P.gens → b < P.prime ^ P.gens → table P a b ≡ t a b
   table-first t T a b h k =
       ap (number P.prime)
-      (ap₂ (multiply P) (sym (is-list a)) (sym (is-list b)) ∙ sym (list-times q r P p-is v 1 P.gens (omega arith) (omega arith) (tup a) (tup b)))
+      (ap₂ (multiply P) (sym (is-list a)) (sym (is-list b))
+      ∙ sym (list-times q r P p-is v 1 P.gens (omega arith) (omega arith) (tup a) (tup b)))
       ∙ T (tup a) (tup b) ∙ ap₂ t (tup-number a h) (tup-number b k)
     where
       tup : ℕ → Tuple q P.gens
       tup a = tuple-of q P.gens (word_of P.prime P.gens a)
 
-      is-list : (a : ℕ) → list-of q P.gens (tuple-of q P.gens (word_of P.prime P.gens a)) ≡ word_of P.prime P.gens a
-      is-list a = list-tuple q P.gens _ (subst (λ p. IsWord (suc q) P.gens 0 (word_of p P.gens a)) (sym p-is) ((numbering q P.gens).word-is a))
+      is-list : (a : ℕ) → list-of q P.gens
+          (tuple-of q P.gens (word_of P.prime P.gens a)) ≡ word_of P.prime P.gens a
+      is-list a = list-tuple q P.gens _ (subst (λ p. IsWord (suc q) P.gens 0 (word_of p P.gens a)) (sym p-is)
+          ((numbering q P.gens).word-is a))
 
-      tup-number : (a : ℕ) → a < P.prime ^ P.gens → number P.prime (list-of q P.gens (tuple-of q P.gens (word_of P.prime P.gens a))) ≡ a
+      tup-number : (a : ℕ) → a < P.prime ^ P.gens
+          → number P.prime (list-of q P.gens (tuple-of q P.gens (word_of P.prime P.gens a))) ≡ a
       tup-number a h =
           ap (number P.prime) (is-list a)
           ∙ ap (λ p. number p (word_of p P.gens a)) p-is
-          ∙ (numbering q P.gens).number-word a (let e : P.prime ^ P.gens ≡ suc q ^ P.gens = ap (λ p. p ^ P.gens) p-is in omega (arith, h, e))
+          ∙ (numbering q P.gens).number-word a
+          (let e : P.prime ^ P.gens ≡ suc q ^ P.gens = ap (λ p. p ^ P.gens) p-is in omega (arith, h, e))

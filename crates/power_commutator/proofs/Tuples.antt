@@ -57,30 +57,45 @@ abbrev pub Among : (i m j : ℕ) → Type 0
 Among i m j = (i ≤ j) × j < i + m
 
 -- ascending products of functions that agree in the range
-pub ascending-same : (q : ℕ) {A : Type 0} (one : A) (mul : A → A → A) (u v : ℕ → A) (i m : ℕ) → ((j : ℕ) → Among i m j → u j ≡ v j)
+pub ascending-same : (q : ℕ) {A : Type 0} (one : A) (mul : A → A → A) (u v : ℕ → A) (i m : ℕ)
+    → ((j : ℕ) → Among i m j → u j ≡ v j)
     → (x : Tuple q m) → ascending mul one u i (list-of q m x) ≡ ascending mul one v i (list-of q m x)
 ascending-same q one mul u v i zero h x = refl
 ascending-same q one mul u v i (suc m) h x =
     ap₂ mul (ap (λ t. pow mul one t x.0.0) (h i (omega arith, omega arith)))
-    (ascending-same q one mul u v (suc i) m (λ j a. h j (let b = a.0 in let c = a.1 in omega (arith, b, c), let b = a.0 in let c = a.1 in omega (arith, b, c))) x.1)
+    (ascending-same q one mul u v (suc i) m
+    (λ j a. h j (
+      let b = a.0 in let c = a.1 in omega (arith, b, c),
+      let b = a.0 in let c = a.1 in omega (arith, b, c),
+    )) x.1)
 
 module _ (q : ℕ) {A : Type 0} {one : A} {mul : A → A → A} (H : IsGroup one mul) where
   -- u(j) t = t v(j) for all j gives the same for ascending products
   pub conj-ascending : (u v : ℕ → A) (t : A) (i m : ℕ) → ((j : ℕ) → Among i m j → mul (u j) t ≡ mul t (v j))
-      → (x : Tuple q m) → mul (ascending mul one u i (list-of q m x)) t ≡ mul t (ascending mul one v i (list-of q m x))
+      → (x : Tuple q m) → mul (ascending mul one u i (list-of q m x)) t ≡ mul t
+      (ascending mul one v i (list-of q m x))
   conj-ascending u v t i zero h x = one-mul H t ∙ sym (H.mul-one t)
   conj-ascending u v t i (suc m) h x =
       H.mul-assoc _ _ t
-      ∙ ap (mul _) (conj-ascending u v t (suc i) m (λ j a. h j (let b = a.0 in let c = a.1 in omega (arith, b, c), let b = a.0 in let c = a.1 in omega (arith, b, c))) x.1)
+      ∙ ap (mul _) (conj-ascending u v t (suc i) m
+      (λ j a. h j (
+        let b = a.0 in let c = a.1 in omega (arith, b, c),
+        let b = a.0 in let c = a.1 in omega (arith, b, c),
+      )) x.1)
       ∙ sym (H.mul-assoc _ t _)
-      ∙ ap (λ s. mul s (ascending mul one v (suc i) (list-of q m x.1))) (conj-pow H (u i) (v i) t (h i (omega arith, omega arith)) x.0.0)
+      ∙ ap (λ s. mul s (ascending mul one v (suc i) (list-of q m x.1)))
+      (conj-pow H (u i) (v i) t (h i (omega arith, omega arith)) x.0.0)
       ∙ H.mul-assoc t _ _
 
-  pub ascending-identity : (u : ℕ → A) (i m : ℕ) → ascending mul one u i (list-of q m (identity-tuple q m)) ≡ one
+  pub ascending-identity : (u : ℕ → A) (i m : ℕ)
+      → ascending mul one u i (list-of q m (identity-tuple q m)) ≡ one
   ascending-identity u i zero = refl
   ascending-identity u i (suc m) = one-mul H _ ∙ ascending-identity u (suc i) m
 
-module _ {A B : Type 0} (one : A) (mul : A → A → A) (unit : B) (times : B → B → B) (f : A → B) (h : IsHom mul times f) (o : f one ≡ unit) where
-  pub map-ascending : (u : ℕ → A) (i : ℕ) (xs : List ℕ) → f (ascending mul one u i xs) ≡ ascending times unit (λ j. f (u j)) i xs
+module _ {A B : Type 0} (one : A) (mul : A → A → A) (unit : B) (times : B → B → B) (f : A
+    → B) (h : IsHom mul times f) (o : f one ≡ unit) where
+  pub map-ascending : (u : ℕ → A) (i : ℕ) (xs : List ℕ)
+      → f (ascending mul one u i xs) ≡ ascending times unit (λ j. f (u j)) i xs
   map-ascending u i [] = o
-  map-ascending u i (e ∷ xs) = h _ _ ∙ ap₂ times (map-pow one mul unit times f h o (u i) e) (map-ascending u (suc i) xs)
+  map-ascending u i (e ∷ xs) = h _ _ ∙ ap₂ times (map-pow one mul unit times f h o (u i) e)
+      (map-ascending u (suc i) xs)

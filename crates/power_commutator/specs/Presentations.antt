@@ -1,9 +1,11 @@
--- Power-commutator presentations, the product of their layers, the consistency tests and the numbers of elements: definitions alone.
+-- Power-commutator presentations, the product of their layers, the consistency tests and the numbers of
+-- elements: definitions alone.
 use Rattle.std.specs.Prelude.{◌≡◌, ℕ, zero, suc, ◌+◌, ◌-◌, ◌*◌, ◌/◌, ◌%◌, Bool, true, false, eqb, ltb, ◌&&◌, if◌then◌else◌, List, [], ◌∷◌, ◌++◌, map, drop, Option, Some, None, ◌<◌, ◌≤◌, length, get_or, All}
 use Rattle.power_commutator.specs.declared.TestName.{TestName}
 use Rattle.power_commutator.specs.declared.TestName.TheVariants.{Power, Swap, Fixed, Twist}
 
--- p, n, the words w_1 to w_n, and for each j the words c_{j,1} to c_{j,j-1}. A word is the list of the exponents of g_1 to g_n
+-- p, n, the words w_1 to w_n, and for each j the words c_{j,1} to c_{j,j-1}. A word is the list of the
+-- exponents of g_1 to g_n
 pub record Presentation : Type 0 where
   pub prime : ℕ
   pub gens : ℕ
@@ -24,7 +26,8 @@ pub record IsWord (p n j : ℕ) (w : List ℕ) : Type 0 where
   pub small : All (λ e. e < p) w
   pub later : (k : ℕ) → k < j → get_or w k 0 ≡ 0
 
--- there is one word w_i for each i and one word c_{j,i} for each i < j; w_i has generators after i, and c_{j,i} generators after j
+-- there is one word w_i for each i and one word c_{j,i} for each i < j; w_i has generators after i, and
+-- c_{j,i} generators after j
 pub record IsPresentation (P : Presentation) : Type 0 where
   pub power-count : length P.powers ≡ P.gens
   pub commutator-count : length P.commutators ≡ P.gens
@@ -58,7 +61,8 @@ generator j (suc m) k = (if eqb j k then 1 else 0) ∷ generator (suc j) m k
 
 -- α_i: the product of the powers of g_j c_{j,i} in layer i + 1, which has m generators and the product mul
 abbrev pub alpha : Presentation → (List ℕ → List ℕ → List ℕ) → (i m : ℕ) → List ℕ → List ℕ
-alpha P mul i m x = ascending mul (identity m) (λ j. mul (generator (suc i) m j) (drop i (commutator_word P j i))) (suc i) x
+alpha P mul i m x = ascending mul (identity m)
+    (λ j. mul (generator (suc i) m j) (drop i (commutator_word P j i))) (suc i) x
 
 -- (k, x) where k < p, and (k - p, w x) otherwise
 abbrev pub carry : ℕ → (List ℕ → List ℕ → List ℕ) → List ℕ → ℕ → List ℕ → List ℕ
@@ -73,7 +77,8 @@ extend p mul w f (a ∷ x) (b ∷ y) = carry p mul w (a + b) (mul (iterate f b x
 -- the product of layer i, which has m generators
 abbrev pub product : Presentation → (i m : ℕ) → List ℕ → List ℕ → List ℕ
 product P i zero = λ x y. []
-product P i (suc m) = extend P.prime (product P (suc i) m) (drop i (power_word P i)) (alpha P (product P (suc i) m) i m)
+product P i (suc m) = extend P.prime (product P (suc i) m) (drop i (power_word P i))
+    (alpha P (product P (suc i) m) i m)
 
 -- an equation between two elements, with the name of its test
 pub record Equation : Type 0 where
@@ -94,7 +99,11 @@ pairs f j (suc m) = map (f j) (range (suc j) m) ++ pairs f (suc j) m
 abbrev pub power_test : Presentation → (List ℕ → List ℕ → List ℕ) → (i m j : ℕ) → Equation
 power_test P mul i m j =
     let α = alpha P mul i m in
-    record { name = Power i j; left = pow mul (identity m) (α (generator (suc i) m j)) P.prime; right = α (drop i (power_word P j)) }
+    record {
+      name = Power i j;
+      left = pow mul (identity m) (α (generator (suc i) m j)) P.prime;
+      right = α (drop i (power_word P j));
+    }
 
 abbrev pub swap_test : Presentation → (List ℕ → List ℕ → List ℕ) → (i m j k : ℕ) → Equation
 swap_test P mul i m j k =
@@ -118,7 +127,8 @@ twist_test P mul i m j =
 abbrev pub equations : Presentation → (List ℕ → List ℕ → List ℕ) → (i m : ℕ) → List Equation
 equations P mul i m =
     map (power_test P mul i m) (range (suc i) m)
-    ++ (pairs (swap_test P mul i m) (suc i) m ++ (fixed_test P mul i m ∷ map (twist_test P mul i m) (range (suc i) m)))
+    ++ (pairs (swap_test P mul i m) (suc i) m ++
+    (fixed_test P mul i m ∷ map (twist_test P mul i m) (range (suc i) m)))
 
 -- the tests of the layers of the m generators from g_i on, the last layer first
 abbrev pub tests : Presentation → (i m : ℕ) → List Equation

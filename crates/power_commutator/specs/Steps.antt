@@ -2,7 +2,8 @@
 use Rattle.std.specs.Prelude.{◌≡◌, List, Option, Some, None, ℕ, suc, ◌+◌, ◌-◌, ◌*◌, ◌/◌, ◌%◌, ◌^◌, ltb, if◌then◌else◌, drop}
 use Rattle.power_commutator.specs.Presentations.{Presentation, IsWord, iterate, ascending, product, number, word_of, commutator_word}
 
--- the product of a layer by numbers, from the product t, the number w of w_i and the table f of α_i in the next layer
+-- the product of a layer by numbers, from the product t, the number w of w_i and the table f of α_i in the
+-- next layer
 abbrev pub step_table : ℕ → (ℕ → ℕ → ℕ) → ℕ → (ℕ → ℕ) → ℕ → ℕ → ℕ
 step_table p t w f a b =
     let c = a % p + b % p in
@@ -12,7 +13,8 @@ step_table p t w f a b =
 -- α_i by numbers
 abbrev pub step_alpha : Presentation → (ℕ → ℕ → ℕ) → (i m : ℕ) → ℕ → ℕ
 step_alpha P t i m k =
-    ascending t 0 (λ j. t (P.prime ^ (j - suc i)) (number P.prime (drop i (commutator_word P j i)))) (suc i) (word_of P.prime m k)
+    ascending t 0 (λ j. t (P.prime ^ (j - suc i)) (number P.prime (drop i (commutator_word P j i)))) (suc i)
+    (word_of P.prime m k)
 
 -- t is the product of layer i, which has m generators, by numbers
 abbrev pub IsLayerTable : Presentation → (i m : ℕ) → (ℕ → ℕ → ℕ) → Type 0

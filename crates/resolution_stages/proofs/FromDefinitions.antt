@@ -35,10 +35,12 @@ prime-of-field {p} F = record {
   where
     go : (a b : ℕ) → (a * b) % p ≡ 0 → (a % p ≡ 0) ⊎ (a % p ≡ 0 → ⊥) → (a % p ≡ 0) ⊎ (b % p ≡ 0)
     go a b h (inl e) = inl e
-    go a b h (inr e) = inr ((no_zero_divisors F a b (record { same_remainder = h ∙ sym (zero-mod p) }) e).same_remainder ∙ zero-mod p)
+    go a b h (inr e) = inr ((no_zero_divisors F a b
+        (record { same_remainder = h ∙ sym (zero-mod p) }) e).same_remainder ∙ zero-mod p)
 
 -- what a linear map takes to 0 is a submodule
-pub kernel-submodule : {p : ℕ} {G : Monoid} (M N : Module p G) (f : M.of → N.of) → IsLinear M N f → IsSubmodule M (λ v. f v ≡ N.zero)
+pub kernel-submodule : {p : ℕ} {G : Monoid} (M N : Module p G) (f : M.of → N.of) → IsLinear M N f
+    → IsSubmodule M (λ v. f v ≡ N.zero)
 kernel-submodule M N f l = record {
   zero-in = map-zero M N f l.on-add;
   add-in = λ x y h k. l.on-add x y ∙ ap₂ N.add h k ∙ N.add-zero N.zero;
@@ -48,7 +50,8 @@ kernel-submodule M N f l = record {
 alone : (i j : Below 1) → i ≡ j
 alone i j = below-path i j (let a : i.0 < 1 = i.1 in let b : j.0 < 1 = j.1 in omega (arith, a, b))
 
-module _ {n : ℕ} (q : ℕ) (F : IsFieldModulo (suc q)) (Γ : Group n) (K : Coordinates q Γ) (S : StageRows) (A : AreStages q Γ K S) where
+module _ {n : ℕ} (q : ℕ) (F : IsFieldModulo (suc q)) (Γ : Group n) (K : Coordinates q Γ) (S : StageRows)
+    (A : AreStages q Γ K S) where
   abbrev pub r : ℕ → ℕ
   r d = rank q Γ S.ranks d
 
@@ -60,38 +63,51 @@ module _ {n : ℕ} (q : ℕ) (F : IsFieldModulo (suc q)) (Γ : Group n) (K : Coo
   rows d i = (K (r d)).table (row (images S d) i.0)
 
   pub kernel-is-submodule : (d : ℕ) → IsSubmodule (T d) (InKernel q Γ K S d)
-  kernel-is-submodule zero = subst (λ f. IsSubmodule (T 0) (λ v. f v ≡ residue q 0)) (fun_ext (λ v. augment-sum q Γ v))
-      (kernel-submodule (T 0) (Fp q (monoid Γ)) (λ v. lin (Fp q (monoid Γ)) (λ i. residue q 1) (terms q Γ 1 v)) (terms-linear q Γ 1 (Fp q (monoid Γ)) (λ i. residue q 1)))
-  kernel-is-submodule (suc d) = kernel-submodule (T (suc d)) (T d) (boundary q Γ K S d) (terms-linear q Γ (r (suc d)) (T d) (rows d))
+  kernel-is-submodule zero = subst (λ f. IsSubmodule (T 0) (λ v. f v ≡ residue q 0))
+      (fun_ext (λ v. augment-sum q Γ v))
+      (kernel-submodule (T 0) (Fp q (monoid Γ))
+      (λ v. lin (Fp q (monoid Γ)) (λ i. residue q 1) (terms q Γ 1 v))
+      (terms-linear q Γ 1 (Fp q (monoid Γ)) (λ i. residue q 1)))
+  kernel-is-submodule (suc d) = kernel-submodule (T (suc d)) (T d) (boundary q Γ K S d)
+      (terms-linear q Γ (r (suc d)) (T d) (rows d))
 
   in-row : (d : ℕ) (v : (T d).of) → InKernel q Γ K S d v → RowInKernel q Γ K S d ((K (r d)).row v)
   in-row d v k = ((K (r d)).row-is v, subst (InKernel q Γ K S d) (sym ((K (r d)).table-row v)) k)
 
-  spans : (d : ℕ) (v : (T d).of) → InKernel q Γ K S d v → IsInSpan (suc q) (S.kernel d) (at q Γ (n * r d) (T d) (K (r d)) v)
+  spans : (d : ℕ) (v : (T d).of) → InKernel q Γ K S d v
+      → IsInSpan (suc q) (S.kernel d) (at q Γ (n * r d) (T d) (K (r d)) v)
   spans d v k = (A.kernel_is d).spans ((K (r d)).row v) (in-row d v k)
 
   -- the rows are a basis of the kernel modulo the span of all (g - 1) v
   pub stage-basis : (d : ℕ) → IsBasisModuloMoved (T d) (InKernel q Γ K S d) (r (suc d)) (rows d)
-  stage-basis d = basis q F Γ (n * r d) (T d) (K (r d)) (InKernel q Γ K S d) (S.kernel d) (A.kernel_is d).matrix (λ i l. ((A.kernel_is d).members i l).1)
+  stage-basis d = basis q F Γ (n * r d) (T d) (K (r d)) (InKernel q Γ K S d) (S.kernel d)
+      (A.kernel_is d).matrix (λ i l. ((A.kernel_is d).members i l).1)
       (spans d) (S.positions d) (A.rows_are d) (r (suc d)) (A.rank_is d)
 
   -- a table in the kernel with 0 at its pivots is 0
   pub zero-in-kernel : (d : ℕ) (v : (T d).of) → InKernel q Γ K S d v
-      → ((i : ℕ) → i < length (S.kernel d) → IsCongruent (suc q) (at q Γ (n * r d) (T d) (K (r d)) v (pivot (row (S.kernel d) i))) 0) → v ≡ (T d).zero
+      → ((i : ℕ) → i < length (S.kernel d)
+      → IsCongruent (suc q) (at q Γ (n * r d) (T d) (K (r d)) v (pivot (row (S.kernel d) i))) 0)
+      → v ≡ (T d).zero
   zero-in-kernel d v k z = same-table q Γ (n * r d) (T d) (K (r d)) v (T d).zero (λ j. congruent_trans
-      (zero_at_pivots (suc q) (length (S.kernel d)) (spans d v k).0 (λ i j. entry (row (S.kernel d) i) j) (λ i. pivot (row (S.kernel d) i)) (at q Γ (n * r d) (T d) (K (r d)) v)
+      (zero_at_pivots (suc q) (length (S.kernel d)) (spans d v k).0 (λ i j. entry (row (S.kernel d) i) j)
+      (λ i. pivot (row (S.kernel d) i)) (at q Γ (n * r d) (T d) (K (r d)) v)
       (HasPivots-from_echelon (A.kernel_is d).echelon) (Combines-from_combination (spans d v k).1) z j)
       (congruent_sym (at-zero q Γ (n * r d) (T d) (K (r d)) j)))
 
-  pub section-at : (d : ℕ) (v : (T d).of) → InKernel q Γ K S d v → IsSectionAt q Γ K S d ((K (r d)).row v) (S.section d ((K (r d)).row v))
+  pub section-at : (d : ℕ) (v : (T d).of) → InKernel q Γ K S d v
+      → IsSectionAt q Γ K S d ((K (r d)).row v) (S.section d ((K (r d)).row v))
   section-at d v k = A.section_is d ((K (r d)).row v) (in-row d v k)
 
-  section-right : (d : ℕ) (v : (T d).of) → InKernel q Γ K S d v → boundary q Γ K S d ((K (r (suc d))).table (S.section d ((K (r d)).row v))) ≡ v
+  section-right : (d : ℕ) (v : (T d).of) → InKernel q Γ K S d v
+      → boundary q Γ K S d ((K (r (suc d))).table (S.section d ((K (r d)).row v))) ≡ v
   section-right d v k = (section-at d v k).boundary_is ∙ (K (r d)).table-row v
 
   section-zero : (d : ℕ) → (K (r (suc d))).table (S.section d ((K (r d)).row (T d).zero)) ≡ (T (suc d)).zero
-  section-zero d = zero-in-kernel (suc d) ((K (r (suc d))).table u) (section-right d (T d).zero (kernel-is-submodule d).zero-in)
-      (λ i l. congruent_eq (ap (λ x. entry x (pivot (row (S.kernel (suc d)) i))) ((K (r (suc d))).row-table u s.is_row) ∙ s.zero_at_pivots i l))
+  section-zero d = zero-in-kernel (suc d) ((K (r (suc d))).table u)
+      (section-right d (T d).zero (kernel-is-submodule d).zero-in)
+      (λ i l. congruent_eq (ap (λ x. entry x (pivot (row (S.kernel (suc d)) i)))
+      ((K (r (suc d))).row-table u s.is_row) ∙ s.zero_at_pivots i l))
     where
       u : List ℕ
       u = S.section d ((K (r d)).row (T d).zero)
@@ -101,7 +117,8 @@ module _ {n : ℕ} (q : ℕ) (F : IsFieldModulo (suc q)) (Γ : Group n) (K : Coo
 
   minimal : (d : ℕ) (i : Below (r (suc d))) (j : Below (r d)) → block-sum q Γ (r d) (rows d i) j ≡ residue q 0
   minimal zero i j = ap (block-sum q Γ 1 (rows 0 i)) (alone j (residue 0 0)) ∙ (stage-basis 0).members i
-  minimal (suc d) i j = kernel-minimal q Γ (T d) (InKernel q Γ K S d) (r (suc d)) (rows d) (stage-basis d) (rows (suc d) i) ((stage-basis (suc d)).members i) j
+  minimal (suc d) i j = kernel-minimal q Γ (T d) (InKernel q Γ K S d) (r (suc d)) (rows d) (stage-basis d)
+      (rows (suc d) i) ((stage-basis (suc d)).members i) j
 
   -- the stages are a resolution
   pub resolution : Resolution q Γ
@@ -127,11 +144,14 @@ module _ {n : ℕ} (q : ℕ) (F : IsFieldModulo (suc q)) (Γ : Group n) (K : Coo
   module _ (P : IsPrimePower q n) where
     -- each member of K_d is a boundary
     pub onto : (d : ℕ) → Generate q Γ (T d) (InKernel q Γ K S d) (r (suc d)) (rows d)
-    onto d = generate q Γ (T d) (InKernel q Γ K S d) (r (suc d)) (rows d) (stage-basis d) P.exponent P.prime P.power (finite-table q Γ (r d))
+    onto d = generate q Γ (T d) (InKernel q Γ K S d) (r (suc d)) (rows d)
+        (stage-basis d) P.exponent P.prime P.power (finite-table q Γ (r d))
 
     -- no fewer vectors than the rank generate K_d
-    pub fewest-rows : (d l : ℕ) (s : Below l → (T d).of) → ((i : Below l) → InKernel q Γ K S d (s i)) → Generate q Γ (T d) (InKernel q Γ K S d) l s → r (suc d) ≤ l
-    fewest-rows d = fewest q Γ (T d) (InKernel q Γ K S d) (r (suc d)) (rows d) (stage-basis d) P.prime.above-one (kernel-is-submodule d)
+    pub fewest-rows : (d l : ℕ) (s : Below l → (T d).of) → ((i : Below l) → InKernel q Γ K S d (s i))
+        → Generate q Γ (T d) (InKernel q Γ K S d) l s → r (suc d) ≤ l
+    fewest-rows d = fewest q Γ (T d) (InKernel q Γ K S d) (r (suc d)) (rows d)
+        (stage-basis d) P.prime.above-one (kernel-is-submodule d)
 
     pub minimality-claims : MinimalityClaims q Γ K S
     minimality-claims = record { generate = onto; fewest = fewest-rows }

@@ -17,7 +17,8 @@ use Rattle.radical_layers.proofs.Bridge.{from-span}
 use Rattle.resolution_stages.proofs.FromDefinitions.{kernel-submodule}
 use Rattle.radical_layers.proofs.Blocks.{block-is-linear}
 
-module _ {n : ℕ} (q : ℕ) (Γ : Group n) (K : Coordinates q Γ) (b : ℕ) (L : (Table q Γ b).of → Type 0) (U : IsSubmodule (Table q Γ b) L)
+module _ {n : ℕ} (q : ℕ) (Γ : Group n) (K : Coordinates q Γ) (b : ℕ) (L : (Table q Γ b).of
+    → Type 0) (U : IsSubmodule (Table q Γ b) L)
     (E : List (List ℕ)) (e : IsEchelonFor (suc q) (n * b) (RowIn (K b) L) E) where
   abbrev T : Module (suc q) (monoid Γ)
   T = Table q Γ b
@@ -28,7 +29,8 @@ module _ {n : ℕ} (q : ℕ) (Γ : Group n) (K : Coordinates q Γ) (b : ℕ) (L 
   to-span : (v : T.of) → L v → InE v
   to-span v h = e.spans ((K b).row v) ((K b).row-is v, subst L (sym ((K b).table-row v)) h)
 
-  total-in : {A : Type 0} (xs : List A) (u : A → ℕ) (f : A → T.of) → ((a : A) → L (f a)) → L (total T xs (λ a. times T.add T.zero (u a) (f a)))
+  total-in : {A : Type 0} (xs : List A) (u : A → ℕ) (f : A → T.of) → ((a : A) → L (f a))
+      → L (total T xs (λ a. times T.add T.zero (u a) (f a)))
   total-in [] u f h = U.zero-in
   total-in (x ∷ xs) u f h = U.add-in _ _ (times-in T L U (u x) (f x) (h x)) (total-in xs u f h)
 
@@ -48,14 +50,19 @@ module _ {n : ℕ} (q : ℕ) (Γ : Group n) (K : Coordinates q Γ) (b : ℕ) (L 
     };
   }
 
-pub next-list : {n : ℕ} (q : ℕ) (Γ : Group n) (K : Coordinates q Γ) (b : ℕ) (E : List (List ℕ)) (Q : StageParts) → IsNextStage q Γ K b E Q
+pub next-list : {n : ℕ} (q : ℕ) (Γ : Group n) (K : Coordinates q Γ) (b : ℕ) (E : List (List ℕ))
+    (Q : StageParts) → IsNextStage q Γ K b E Q
     → IsSubmoduleList q Γ K (length Q.positions) Q.kernel
-next-list q Γ K b E Q N = list-of-submodule q Γ K (length Q.positions) (λ u. del q Γ K b E Q u ≡ (Table q Γ b).zero)
-    (kernel-submodule (Table q Γ (length Q.positions)) (Table q Γ b) (λ u. del q Γ K b E Q u) (terms-linear q Γ (length Q.positions) (Table q Γ b) (chosen_row q Γ K b E Q)))
+next-list q Γ K b E Q N = list-of-submodule q Γ K (length Q.positions)
+    (λ u. del q Γ K b E Q u ≡ (Table q Γ b).zero)
+    (kernel-submodule (Table q Γ (length Q.positions)) (Table q Γ b) (λ u. del q Γ K b E Q u)
+    (terms-linear q Γ (length Q.positions) (Table q Γ b) (chosen_row q Γ K b E Q)))
     Q.kernel N.kernel_is
 
 -- the list of the tables of sum 0
 pub first-list : {n : ℕ} (q : ℕ) (Γ : Group n) (K : Coordinates q Γ) (E : List (List ℕ))
-    → IsEchelonFor (suc q) (n * 1) (RowIn (K 1) (λ v. block-sum q Γ 1 v (residue 0 0) ≡ residue q 0)) E → IsSubmoduleList q Γ K 1 E
+    → IsEchelonFor (suc q) (n * 1) (RowIn (K 1) (λ v. block-sum q Γ 1 v (residue 0 0) ≡ residue q 0)) E
+    → IsSubmoduleList q Γ K 1 E
 first-list q Γ K E e = list-of-submodule q Γ K 1 (λ v. block-sum q Γ 1 v (residue 0 0) ≡ residue q 0)
-    (kernel-submodule (Table q Γ 1) (Fp q (monoid Γ)) (λ v. block-sum q Γ 1 v (residue 0 0)) (block-is-linear q Γ 1 (residue 0 0))) E e
+    (kernel-submodule (Table q Γ 1) (Fp q (monoid Γ)) (λ v. block-sum q Γ 1 v (residue 0 0))
+    (block-is-linear q Γ 1 (residue 0 0))) E e

@@ -20,7 +20,8 @@ use Rattle.linear_algebra.proofs.EchelonLists.{HasPivots-from_echelon, Combines-
 use Rattle.resolution_stages.specs.Checks.{StageParts, IsNextStage, del, chosen_row}
 use Rattle.resolution_stages.specs.Chain.{section_row}
 
-module _ {n : ℕ} (q : ℕ) (F : IsFieldModulo (suc q)) (Γ : Group n) (K : Coordinates q Γ) (b : ℕ) (E : List (List ℕ)) (M : IsMatrix (suc q) (n * b) E) (e : IsEchelon E)
+module _ {n : ℕ} (q : ℕ) (F : IsFieldModulo (suc q)) (Γ : Group n) (K : Coordinates q Γ) (b : ℕ)
+    (E : List (List ℕ)) (M : IsMatrix (suc q) (n * b) E) (e : IsEchelon E)
     (Q : StageParts) (N : IsNextStage q Γ K b E Q) where
   abbrev m : ℕ
   m = length Q.positions
@@ -38,28 +39,39 @@ module _ {n : ℕ} (q : ℕ) (F : IsFieldModulo (suc q)) (Γ : Group n) (K : Coo
   positive = omega arith
 
   -- two rows with the same boundary, 0 at the pivots of the kernel, are equal
-  pub values-one : (u w : List ℕ) → IsRow (suc q) (n * m) u → IsRow (suc q) (n * m) w → ∂ ((K m).table u) ≡ ∂ ((K m).table w)
-      → ((i : ℕ) → i < length Q.kernel → entry u (pivot (row Q.kernel i)) ≡ 0) → ((i : ℕ) → i < length Q.kernel → entry w (pivot (row Q.kernel i)) ≡ 0) → u ≡ w
+  pub values-one : (u w : List ℕ) → IsRow (suc q) (n * m) u → IsRow (suc q) (n * m) w
+      → ∂ ((K m).table u) ≡ ∂ ((K m).table w)
+      → ((i : ℕ) → i < length Q.kernel → entry u (pivot (row Q.kernel i)) ≡ 0)
+      → ((i : ℕ) → i < length Q.kernel → entry w (pivot (row Q.kernel i)) ≡ 0) → u ≡ w
   values-one u w r s h a z = sym ((K m).row-table u r) ∙ ap (K m).row tables-same ∙ (K m).row-table w s
     where
       d : (Table q Γ (length Q.positions)).of
-      d = sub (Table q Γ (length Q.positions)) ((K (length Q.positions)).table u) ((K (length Q.positions)).table w)
+      d = sub (Table q Γ (length Q.positions)) ((K (length Q.positions)).table u)
+          ((K (length Q.positions)).table w)
 
       d-zero : ∂ d ≡ T.zero
-      d-zero = map-sub T' T (λ v. del q Γ K b E Q v) (terms-linear q Γ m T (chosen_row q Γ K b E Q)).on-add ((K m).table u) ((K m).table w)
+      d-zero = map-sub T' T (λ v. del q Γ K b E Q v) (terms-linear q Γ m T (chosen_row q Γ K b E Q)).on-add
+          ((K m).table u) ((K m).table w)
           ∙ ap (sub T (∂ ((K m).table u))) (sym h) ∙ sub-self T (∂ ((K m).table u))
 
       c : IsInSpan (suc q) Q.kernel (entry ((K m).row d))
-      c = N.kernel_is.spans ((K m).row d) ((K m).row-is d, subst (λ v. ∂ v ≡ T.zero) (sym ((K m).table-row d)) d-zero)
+      c = N.kernel_is.spans ((K m).row d) (
+        (K m).row-is d,
+        subst (λ v. ∂ v ≡ T.zero) (sym ((K m).table-row d)) d-zero,
+      )
 
-      at-pivots : (j : ℕ) → j < length Q.kernel → IsCongruent (suc q) (entry ((K m).row d) (pivot (row Q.kernel j))) 0
-      at-pivots j l = congruent_trans (at-sub q Γ (n * m) T' (K m) ((K m).table u) ((K m).table w) (pivot (row Q.kernel j)))
-          (congruent_eq (ap₂ (λ x y. entry x (pivot (row Q.kernel j)) + q * entry y (pivot (row Q.kernel j))) ((K m).row-table u r) ((K m).row-table w s)
+      at-pivots : (j : ℕ) → j < length Q.kernel
+          → IsCongruent (suc q) (entry ((K m).row d) (pivot (row Q.kernel j))) 0
+      at-pivots j l = congruent_trans (at-sub q Γ (n * m) T' (K m) ((K m).table u) ((K m).table w)
+          (pivot (row Q.kernel j)))
+          (congruent_eq (ap₂ (λ x y. entry x (pivot (row Q.kernel j)) + q * entry y (pivot (row Q.kernel j)))
+          ((K m).row-table u r) ((K m).row-table w s)
           ∙ ap₂ (λ x y. x + q * y) (a j l) (z j l) ∙ (let o : ◌≡◌ {A = ℕ} (0 + q * 0) 0 = omega arith in o)))
 
       tables-same : (K m).table u ≡ (K m).table w
       tables-same = sub-eq T' ((K m).table u) ((K m).table w) (same-table q Γ (n * m) T' (K m) d T'.zero
-          (λ j. congruent_trans (zero_at_pivots (suc q) (length Q.kernel) c.0 (λ i j. entry (row Q.kernel i) j) (λ i. pivot (row Q.kernel i)) (entry ((K m).row d))
+          (λ j. congruent_trans (zero_at_pivots (suc q) (length Q.kernel) c.0
+          (λ i j. entry (row Q.kernel i) j) (λ i. pivot (row Q.kernel i)) (entry ((K m).row d))
           (HasPivots-from_echelon N.kernel_is.echelon) (Combines-from_combination c.1) at-pivots j)
           (congruent_sym (at-zero q Γ (n * m) T' (K m) j))))
 
@@ -75,34 +87,53 @@ module _ {n : ℕ} (q : ℕ) (F : IsFieldModulo (suc q)) (Γ : Group n) (K : Coo
 
     pub value-zero : (i : ℕ) → i < length Q.kernel → entry u (pivot (row Q.kernel i)) ≡ 0
     value-zero i l = same_below
-        (congruent_trans (combination_row-each (suc q) (n * m) positive c Q.sections N.section_rows (pivot (row Q.kernel i)))
-        (sum_below-vanishes (suc q) (length Q.sections) (λ k. c k * entry (row Q.sections k) (pivot (row Q.kernel i)))
-        (λ k h. congruent_eq (ap (λ y. c k * y) (N.zero_at_pivots k i (subst (λ y. k < y) N.section_count h) l) ∙ (let z : c k * 0 ≡ 0 = omega arith in z)))))
-        (value-is_row.below (pivot (row Q.kernel i)) (let a : pivot (row Q.kernel i) < length (row Q.kernel i) = N.kernel_is.echelon.not_zero i l in let w : length (row Q.kernel i) ≡ n * m = (N.kernel_is.matrix i l).length_is in omega (arith, a, w)))
+        (congruent_trans (combination_row-each (suc q) (n * m) positive c Q.sections N.section_rows
+        (pivot (row Q.kernel i)))
+        (sum_below-vanishes (suc q) (length Q.sections)
+        (λ k. c k * entry (row Q.sections k) (pivot (row Q.kernel i)))
+        (λ k h. congruent_eq (ap (λ y. c k * y)
+        (N.zero_at_pivots k i (subst (λ y. k < y) N.section_count h) l)
+        ∙ (let z : c k * 0 ≡ 0 = omega arith in z)))))
+        (value-is_row.below (pivot (row Q.kernel i))
+        (let a : pivot (row Q.kernel i) < length
+        (row Q.kernel i) = N.kernel_is.echelon.not_zero i l in
+        let w : length (row Q.kernel i) ≡ n * m = (N.kernel_is.matrix i l).length_is in
+        omega (arith, a, w)))
         positive
 
     -- x is the combination of the rows of E with its entries at the pivots
     x-each : (j : ℕ) → IsCongruent (suc q) (combination c E j) (entry x j)
     x-each j = congruent_trans
-        (sum_below-congruent (suc q) (length E) (λ k. c k * entry (row E k) j) (λ k. s.0 k * entry (row E k) j)
-        (λ k l. congruent_mul_right (entry (row E k) j) (congruent_sym (coefficient_at_pivot (suc q) (length E) s.0 (λ i j. entry (row E i) j) (λ i. pivot (row E i)) (entry x) (HasPivots-from_echelon e) (Combines-from_combination s.1) k l))))
+        (sum_below-congruent (suc q) (length E) (λ k. c k * entry (row E k) j)
+        (λ k. s.0 k * entry (row E k) j)
+        (λ k l. congruent_mul_right (entry (row E k) j)
+        (congruent_sym (coefficient_at_pivot (suc q) (length E) s.0 (λ i j. entry (row E i) j)
+        (λ i. pivot (row E i)) (entry x) (HasPivots-from_echelon e)
+        (Combines-from_combination s.1) k l))))
         (s.1.each j)
 
     table-of-u : (K m).table u ≡ tabs q Γ (n * m) T' (K m) Q.sections c (length E)
-    table-of-u = same-table q Γ (n * m) T' (K m) ((K m).table u) (tabs q Γ (n * m) T' (K m) Q.sections c (length E)) (λ j.
+    table-of-u = same-table q Γ (n * m) T' (K m) ((K m).table u)
+        (tabs q Γ (n * m) T' (K m) Q.sections c (length E)) (λ j.
         congruent_trans (congruent_eq (ap (λ y. entry y j) ((K m).row-table u value-is_row)))
         (congruent_trans (combination_row-each (suc q) (n * m) positive c Q.sections N.section_rows j)
-        (congruent_sym (at-tabs q Γ (n * m) T' (K m) Q.sections N.section_rows c (length E) (sym N.section_count) j))))
+        (congruent_sym (at-tabs q Γ (n * m) T' (K m) Q.sections N.section_rows c (length E)
+        (sym N.section_count) j))))
 
     table-of-x : (K b).table x ≡ tabs q Γ (n * b) T (K b) E c (length E)
-    table-of-x = same-table q Γ (n * b) T (K b) ((K b).table x) (tabs q Γ (n * b) T (K b) E c (length E)) (λ j.
+    table-of-x = same-table q Γ (n * b) T (K b) ((K b).table x) (tabs q Γ (n * b) T (K b) E c (length E))
+        (λ j.
         congruent_trans (congruent_eq (ap (λ y. entry y j) ((K b).row-table x r)))
-        (congruent_trans (congruent_sym (x-each j)) (congruent_sym (at-tabs q Γ (n * b) T (K b) E M c (length E) refl j))))
+        (congruent_trans (congruent_sym (x-each j))
+        (congruent_sym (at-tabs q Γ (n * b) T (K b) E M c (length E) refl j))))
 
     pub value-boundary : ∂ ((K m).table u) ≡ (K b).table x
     value-boundary = ap ∂ table-of-u
-        ∙ map-total T' T (λ v. del q Γ K b E Q v) on-add (below (length E)) (λ i. times T'.add T'.zero (c i.0) ((K m).table (row Q.sections i.0)))
-        ∙ ap (total T (below (length E))) (fun_ext (λ (i : Below (length E)). map-times T' T (λ v. del q Γ K b E Q v) on-add (c i.0) ((K m).table (row Q.sections i.0))
+        ∙ map-total T' T (λ v. del q Γ K b E Q v) on-add (below (length E))
+        (λ i. times T'.add T'.zero (c i.0) ((K m).table (row Q.sections i.0)))
+        ∙ ap (total T (below (length E)))
+        (fun_ext (λ (i : Below (length E)). map-times T' T (λ v. del q Γ K b E Q v) on-add (c i.0)
+        ((K m).table (row Q.sections i.0))
         ∙ ap (times T.add T.zero (c i.0)) (N.sections_to_rows i.0 i.1)))
         ∙ sym table-of-x
       where

@@ -1,4 +1,5 @@
--- Finite sequences of coefficients: sums whose last terms are 0, sequences cut off, and sequences by their number.
+-- Finite sequences of coefficients: sums whose last terms are 0, sequences cut off, and sequences by their
+-- number.
 use Rattle.std.proofs.Common.{◌≡◌, ℕ, zero, suc, ◌<◌, ◌≤◌, ◌⊎◌, inl, inr, arith, ap, refl}
 use Rattle.std.proofs.lemmas.Bool.{cases_lt}
 use Rattle.group_modules.specs.Field.{Below}
@@ -7,13 +8,18 @@ use Rattle.linear_algebra.specs.Modular.{IsCongruent, sum_below}
 use Rattle.linear_algebra.proofs.Congruences.{congruent_add, congruent_trans, congruent_eq}
 
 -- terms that are 0 may be left out at the end
-pub sum_below-prefix : (p k m : ℕ) (g : ℕ → ℕ) → k ≤ m → ((i : ℕ) → k ≤ i → i < m → IsCongruent p (g i) 0) → IsCongruent p (sum_below m g) (sum_below k g)
-sum_below-prefix p k zero g l h = congruent_eq (ap (λ x. sum_below x g) (let e : 0 ≡ k = omega (arith, l) in e))
-sum_below-prefix p k (suc m) g l h = go (cases_lt m k) (λ d. sum_below-prefix p k m g d (λ i c e. h i c (let x : i < suc m = omega (arith, e) in x)))
+pub sum_below-prefix : (p k m : ℕ) (g : ℕ → ℕ) → k ≤ m → ((i : ℕ) → k ≤ i → i < m → IsCongruent p (g i) 0)
+    → IsCongruent p (sum_below m g) (sum_below k g)
+sum_below-prefix p k zero g l h = congruent_eq
+    (ap (λ x. sum_below x g) (let e : 0 ≡ k = omega (arith, l) in e))
+sum_below-prefix p k (suc m) g l h = go (cases_lt m k)
+    (λ d. sum_below-prefix p k m g d (λ i c e. h i c (let x : i < suc m = omega (arith, e) in x)))
   where
-    go : (m < k) ⊎ (k ≤ m) → (k ≤ m → IsCongruent p (sum_below m g) (sum_below k g)) → IsCongruent p (sum_below (suc m) g) (sum_below k g)
+    go : (m < k) ⊎ (k ≤ m) → (k ≤ m → IsCongruent p (sum_below m g) (sum_below k g))
+        → IsCongruent p (sum_below (suc m) g) (sum_below k g)
     go (inl d) ih = congruent_eq (ap (λ x. sum_below x g) (let e : suc m ≡ k = omega (arith, l, d) in e))
-    go (inr d) ih = congruent_trans (congruent_add (ih d) (h m d (let x : m < suc m = omega arith in x))) (congruent_eq (omega arith))
+    go (inr d) ih = congruent_trans (congruent_add (ih d) (h m d (let x : m < suc m = omega arith in x)))
+        (congruent_eq (omega arith))
 
 -- u below k, and 0 from k on
 masked-by : (k : ℕ) (u : ℕ → ℕ) (i : ℕ) → (i < k) ⊎ (k ≤ i) → ℕ

@@ -18,7 +18,11 @@ section_row p width E sections x = combination_row p width (λ k. entry x (pivot
 
 -- the parts of the stage of degree d + 1
 abbrev pub parts_of : StageRows → ℕ → StageParts
-parts_of S d = record { positions = S.positions d; kernel = S.kernel (suc d); sections = map (S.section d) (S.kernel d) }
+parts_of S d = record {
+  positions = S.positions d;
+  kernel = S.kernel (suc d);
+  sections = map (S.section d) (S.kernel d);
+}
 
 -- those of c stages, from degree d + 1 on
 abbrev pub parts_from : StageRows → ℕ → ℕ → List StageParts
@@ -37,7 +41,8 @@ end_list E (Q ∷ Qs) = end_list Q.kernel Qs
 module _ {n : ℕ} (q : ℕ) (Γ : Group n) (K : Coordinates q Γ) where
   -- E is the list of K_0, the tables of sum 0
   abbrev pub IsFirstList : List (List ℕ) → Type 0
-  IsFirstList E = IsEchelonFor (suc q) (n * 1) (RowIn (K 1) (λ v. block-sum q Γ 1 v (residue 0 0) ≡ residue q 0)) E
+  IsFirstList E = IsEchelonFor (suc q) (n * 1)
+      (RowIn (K 1) (λ v. block-sum q Γ 1 v (residue 0 0) ≡ residue q 0)) E
 
   -- each of these parts is the next stage
   abbrev pub IsChain : ℕ → List (List ℕ) → List StageParts → Type 0
@@ -56,12 +61,15 @@ module _ {n : ℕ} (q : ℕ) (Γ : Group n) (K : Coordinates q Γ) where
   pub record StageClaims (S : StageRows) : Type 0 where
     pub are : AreStages q Γ K S
     pub by_table : (d : ℕ) (x : List ℕ) → RowInKernel q Γ K S d x
-        → S.section d x ≡ section_row (suc q) (n * rank q Γ S.ranks (suc d)) (S.kernel d) (map (S.section d) (S.kernel d)) x
+        → S.section d x ≡ section_row (suc q) (n * rank q Γ S.ranks (suc d)) (S.kernel d)
+        (map (S.section d) (S.kernel d)) x
     pub one : (S' : StageRows) → AreStages q Γ K S' → AreSameStages S S'
     pub first_list : (E : List (List ℕ)) → IsFirstList E → E ≡ S.kernel 0
     pub chain : (E : List (List ℕ)) (Qs : List StageParts) → IsFirstList E → IsChain 1 E Qs
-        → (Qs ≡ parts_from S 0 (length Qs)) × (end_rank 1 Qs ≡ rank q Γ S.ranks (length Qs)) × (end_list E Qs ≡ S.kernel (length Qs))
-    pub chain_at : (E : List (List ℕ)) (Qs : List StageParts) → IsFirstList E → IsChain 1 E Qs → (i : ℕ) (Q : StageParts) → i < length Qs → get_or Qs i Q ≡ parts_of S i
+        → (Qs ≡ parts_from S 0 (length Qs)) × (end_rank 1 Qs ≡ rank q Γ S.ranks (length Qs))
+        × (end_list E Qs ≡ S.kernel (length Qs))
+    pub chain_at : (E : List (List ℕ)) (Qs : List StageParts) → IsFirstList E → IsChain 1 E Qs
+        → (i : ℕ) (Q : StageParts) → i < length Qs → get_or Qs i Q ≡ parts_of S i
     -- and the stages of S are such parts
     pub chains : (c : ℕ) → IsChain 1 (S.kernel 0) (parts_from S 0 c)
 
@@ -75,13 +83,17 @@ pub record IsUnitList (p width : ℕ) (E : List (List ℕ)) : Type 0 where
 -- the list of K_0 is that of J^1; and where a row begins with the sum of its table, it is the unit rows but
 -- the first
 pub record FirstListClaims {n : ℕ} (q : ℕ) (Γ : Group n) (K : Coordinates q Γ) : Type 0 where
-  pub of_power : (E : List (List ℕ)) → IsEchelonFor (suc q) (n * 1) (RowIn (K 1) (Radical (Table q Γ 1) 1)) E → IsFirstList q Γ K E
-  pub of_units : ((v : (Table q Γ 1).of) → entry ((K 1).row v) 0 ≡ (block-sum q Γ 1 v (residue 0 0)).0) → (E : List (List ℕ)) → IsUnitList (suc q) (n * 1) E → IsFirstList q Γ K E
+  pub of_power : (E : List (List ℕ)) → IsEchelonFor (suc q) (n * 1) (RowIn (K 1) (Radical (Table q Γ 1) 1)) E
+      → IsFirstList q Γ K E
+  pub of_units : ((v : (Table q Γ 1).of) → entry ((K 1).row v) 0 ≡ (block-sum q Γ 1 v (residue 0 0)).0)
+      → (E : List (List ℕ)) → IsUnitList (suc q) (n * 1) E → IsFirstList q Γ K E
 
 -- parts that follow each other from the list of K_0: they are the first ones of the stages, one more may
 -- follow, and the next step can be taken
-pub record ChainClaims {n : ℕ} (q : ℕ) (Γ : Group n) (K : Coordinates q Γ) (E : List (List ℕ)) (Qs : List StageParts) : Type 0 where
+pub record ChainClaims {n : ℕ} (q : ℕ) (Γ : Group n) (K : Coordinates q Γ) (E : List (List ℕ))
+    (Qs : List StageParts) : Type 0 where
   pub of_stages : (S : StageRows) × AreStages q Γ K S × (E ≡ S.kernel 0) × (Qs ≡ parts_from S 0 (length Qs))
-  pub push : (Q : StageParts) → IsNextStage q Γ K (end_rank 1 Qs) (end_list E Qs) Q → IsChain q Γ K 1 E (Qs ++ Q ∷ [])
+  pub push : (Q : StageParts) → IsNextStage q Γ K (end_rank 1 Qs) (end_list E Qs) Q
+      → IsChain q Γ K 1 E (Qs ++ Q ∷ [])
   pub ready : IsSubmoduleList q Γ K (end_rank 1 Qs) (end_list E Qs)
   pub next : (Q : StageParts) × IsNextStage q Γ K (end_rank 1 Qs) (end_list E Qs) Q

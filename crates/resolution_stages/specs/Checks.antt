@@ -18,13 +18,15 @@ pub record StageParts : Type 0 where
   pub sections : List (List ℕ)
 
 -- E is the reduced echelon list of a submodule
-pub record IsSubmoduleList {n : ℕ} (q : ℕ) (Γ : Group n) (K : Coordinates q Γ) (b : ℕ) (E : List (List ℕ)) : Type 0 where
+pub record IsSubmoduleList {n : ℕ} (q : ℕ) (Γ : Group n) (K : Coordinates q Γ) (b : ℕ)
+    (E : List (List ℕ)) : Type 0 where
   pub matrix : IsMatrix (suc q) (n * b) E
   pub echelon : IsEchelon E
   pub submodule : IsSubmodule (Table q Γ b) (λ v. IsInSpan (suc q) E (entry ((K b).row v)))
 
 -- E is the echelon list of the kernel of the stage before, of rank b
-module _ {n : ℕ} (q : ℕ) (Γ : Group n) (K : Coordinates q Γ) (b : ℕ) (E : List (List ℕ)) (Q : StageParts) where
+module _ {n : ℕ} (q : ℕ) (Γ : Group n) (K : Coordinates q Γ) (b : ℕ) (E : List (List ℕ))
+    (Q : StageParts) where
   abbrev pub m : ℕ
   m = length Q.positions
 
@@ -53,12 +55,16 @@ module _ {n : ℕ} (q : ℕ) (Γ : Group n) (K : Coordinates q Γ) (b : ℕ) (E 
   -- the six checks
   pub record PassesChecks : Type 0 where
     pub echelon : IsEchelon Q.kernel
-    pub kernel_to_zero : (k : ℕ) → k < length Q.kernel → del (new_table (row Q.kernel k)) ≡ (λ i g. residue q 0)
+    pub kernel_to_zero : (k : ℕ) → k < length Q.kernel
+        → del (new_table (row Q.kernel k)) ≡ (λ i g. residue q 0)
     pub sections_to_rows : (k : ℕ) → k < length E → del (new_table (row Q.sections k)) ≡ (K b).table (row E k)
-    pub zero_at_pivots : (k i : ℕ) → k < length E → i < length Q.kernel → entry (row Q.sections k) (pivot (row Q.kernel i)) ≡ 0
-    pub kernel_minimal : (k : ℕ) → k < length Q.kernel → (i : Below m) → block-sum q Γ m (new_table (row Q.kernel k)) i ≡ residue q 0
+    pub zero_at_pivots : (k i : ℕ) → k < length E → i < length Q.kernel
+        → entry (row Q.sections k) (pivot (row Q.kernel i)) ≡ 0
+    pub kernel_minimal : (k : ℕ) → k < length Q.kernel → (i : Below m)
+        → block-sum q Γ m (new_table (row Q.kernel k)) i ≡ residue q 0
     pub sections_before : (k : ℕ) → k < length E → ((i : Below m) → get_or Q.positions i.0 0 ≢ k)
-        → (i : Below m) → k < get_or Q.positions i.0 0 → block-sum q Γ m (new_table (row Q.sections k)) i ≡ residue q 0
+        → (i : Below m) → k < get_or Q.positions i.0 0
+        → block-sum q Γ m (new_table (row Q.sections k)) i ≡ residue q 0
 
   -- the parts are those of the next stage
   pub record IsNextStage : Type 0 where
@@ -67,4 +73,5 @@ module _ {n : ℕ} (q : ℕ) (Γ : Group n) (K : Coordinates q Γ) (b : ℕ) (E 
     pub section_count : length Q.sections ≡ length E
     pub section_rows : IsMatrix (suc q) (n * m) Q.sections
     pub sections_to_rows : (k : ℕ) → k < length E → del (new_table (row Q.sections k)) ≡ (K b).table (row E k)
-    pub zero_at_pivots : (k i : ℕ) → k < length E → i < length Q.kernel → entry (row Q.sections k) (pivot (row Q.kernel i)) ≡ 0
+    pub zero_at_pivots : (k i : ℕ) → k < length E → i < length Q.kernel
+        → entry (row Q.sections k) (pivot (row Q.kernel i)) ≡ 0

@@ -26,12 +26,15 @@ module _ {n : ℕ} (q : ℕ) (Γ : Group n) (K : Coordinates q Γ) (S : StageRow
   -- the laws of a resolution
   pub record ResolutionClaims : Type 0 where
     pub section_zero : (d : ℕ) → section_table d (λ i g. residue q 0) ≡ (λ i g. residue q 0)
-    pub minimal : (d : ℕ) (i : Below (r (suc d))) (j : Below (r d)) → block-sum q Γ (r d) (row_table d i) j ≡ residue q 0
-    pub complex : (d : ℕ) (i : Below (r (suc (suc d)))) → boundary q Γ K S d (row_table (suc d) i) ≡ (λ i g. residue q 0)
+    pub minimal : (d : ℕ) (i : Below (r (suc d))) (j : Below (r d))
+        → block-sum q Γ (r d) (row_table d i) j ≡ residue q 0
+    pub complex : (d : ℕ) (i : Below (r (suc (suc d))))
+        → boundary q Γ K S d (row_table (suc d) i) ≡ (λ i g. residue q 0)
     pub exact : (d : ℕ) (v : P d) → InKernel q Γ K S d v → boundary q Γ K S d (section_table d v) ≡ v
 
   -- the rows of each boundary generate the kernel before, and no fewer vectors do
   pub record MinimalityClaims : Type 0 where
     pub generate : (d : ℕ) (v : P d) → InKernel q Γ K S d v → (u : P (suc d)) × (boundary q Γ K S d u ≡ v)
     pub fewest : (d l : ℕ) (s : Below l → P d) → ((i : Below l) → InKernel q Γ K S d (s i))
-        → ((v : P d) → InKernel q Γ K S d v → (u : (Table q Γ l).of) × (lin (Table q Γ (r d)) s (terms q Γ l u) ≡ v)) → r (suc d) ≤ l
+        → ((v : P d) → InKernel q Γ K S d v → (u : (Table q Γ l).of)
+        × (lin (Table q Γ (r d)) s (terms q Γ l u) ≡ v)) → r (suc d) ≤ l

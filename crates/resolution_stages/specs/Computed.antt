@@ -11,12 +11,14 @@ use Rattle.radical_layers.specs.Moves.{moves}
 use Rattle.resolution_stages.specs.Checks.{StageParts, IsNextStage, del}
 
 -- row j is the row of the value of f at the table of the unit row j
-pub record IsMatrixOf {q width' width : ℕ} {G : Monoid} {M' M : Module (suc q) G} (K' : RowForm width' M') (K : RowForm width M) (f : M'.of → M.of) (rows : List (List ℕ)) : Type 0 where
+pub record IsMatrixOf {q width' width : ℕ} {G : Monoid} {M' M : Module (suc q) G} (K' : RowForm width' M')
+    (K : RowForm width M) (f : M'.of → M.of) (rows : List (List ℕ)) : Type 0 where
   pub count : length rows ≡ width'
   pub each : (j : ℕ) → j < width' → row rows j ≡ K.row (f (K'.table (unit_row width' j)))
 
 -- greedy positions, the kernel of the matrix of the boundary, and preimages of the rows of E
-pub record IsComputed {n : ℕ} (q : ℕ) (Γ : Group n) (K : Coordinates q Γ) (b : ℕ) (E : List (List ℕ)) (Q : StageParts) (matrix : List (List ℕ)) : Type 0 where
+pub record IsComputed {n : ℕ} (q : ℕ) (Γ : Group n) (K : Coordinates q Γ) (b : ℕ) (E : List (List ℕ))
+    (Q : StageParts) (matrix : List (List ℕ)) : Type 0 where
   pub positions_are : IsGreedy (suc q) E (moves Γ (Table q Γ b) (K b) E) Q.positions
   pub matrix_is : IsMatrixOf (K (length Q.positions)) (K b) (λ u. del q Γ K b E Q u) matrix
   pub kernel_is : IsKernelOf (suc q) matrix Q.kernel
@@ -25,6 +27,8 @@ pub record IsComputed {n : ℕ} (q : ℕ) (Γ : Group n) (K : Coordinates q Γ) 
 
 -- the parts that elimination finds are the next stage; the preimages exist, since each row of E is in the
 -- span of the matrix
-pub record ComputedClaims {n : ℕ} (q : ℕ) (Γ : Group n) (K : Coordinates q Γ) (b : ℕ) (E : List (List ℕ)) (Q : StageParts) (matrix : List (List ℕ)) : Type 0 where
-  pub targets : IsGreedy (suc q) E (moves Γ (Table q Γ b) (K b) E) Q.positions → IsMatrixOf (K (length Q.positions)) (K b) (λ u. del q Γ K b E Q u) matrix → AreInSpan (suc q) matrix E
+pub record ComputedClaims {n : ℕ} (q : ℕ) (Γ : Group n) (K : Coordinates q Γ) (b : ℕ) (E : List (List ℕ))
+    (Q : StageParts) (matrix : List (List ℕ)) : Type 0 where
+  pub targets : IsGreedy (suc q) E (moves Γ (Table q Γ b) (K b) E) Q.positions
+      → IsMatrixOf (K (length Q.positions)) (K b) (λ u. del q Γ K b E Q u) matrix → AreInSpan (suc q) matrix E
   pub next : IsComputed q Γ K b E Q matrix → IsNextStage q Γ K b E Q

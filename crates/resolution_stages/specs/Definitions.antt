@@ -23,7 +23,8 @@ images S d = rows_at (S.kernel d) (S.positions d)
 module _ {n : ℕ} (q : ℕ) (Γ : Group n) (K : Coordinates q Γ) where
   module _ (S : StageRows) where
     -- the boundary of degree d + 1, on tables: basis element i goes to row i
-    abbrev pub boundary : (d : ℕ) → (Table q Γ (rank q Γ S.ranks (suc d))).of → (Table q Γ (rank q Γ S.ranks d)).of
+    abbrev pub boundary : (d : ℕ) → (Table q Γ (rank q Γ S.ranks (suc d))).of
+        → (Table q Γ (rank q Γ S.ranks d)).of
     boundary = map-of q Γ S.ranks (λ d i. (K (rank q Γ S.ranks d)).table (row (images S d) i.0))
 
     -- v is in K_d: its sum is 0 for d = 0, and its boundary is 0 for d > 0
@@ -38,11 +39,13 @@ module _ {n : ℕ} (q : ℕ) (Γ : Group n) (K : Coordinates q Γ) where
     pub record IsSectionAt (d : ℕ) (x u : List ℕ) : Type 0 where
       pub is_row : IsRow (suc q) (n * rank q Γ S.ranks (suc d)) u
       pub boundary_is : boundary d ((K (rank q Γ S.ranks (suc d))).table u) ≡ (K (rank q Γ S.ranks d)).table x
-      pub zero_at_pivots : (i : ℕ) → i < length (S.kernel (suc d)) → entry u (pivot (row (S.kernel (suc d)) i)) ≡ 0
+      pub zero_at_pivots : (i : ℕ) → i < length (S.kernel (suc d))
+          → entry u (pivot (row (S.kernel (suc d)) i)) ≡ 0
 
     -- the stages of the group
     pub record AreStages : Type 0 where
       pub kernel_is : (d : ℕ) → IsEchelonFor (suc q) (n * rank q Γ S.ranks d) (RowInKernel d) (S.kernel d)
-      pub rows_are : (d : ℕ) → IsGreedy (suc q) (S.kernel d) (moves Γ (Table q Γ (rank q Γ S.ranks d)) (K (rank q Γ S.ranks d)) (S.kernel d)) (S.positions d)
+      pub rows_are : (d : ℕ) → IsGreedy (suc q) (S.kernel d)
+          (moves Γ (Table q Γ (rank q Γ S.ranks d)) (K (rank q Γ S.ranks d)) (S.kernel d)) (S.positions d)
       pub rank_is : (d : ℕ) → S.ranks d ≡ length (S.positions d)
       pub section_is : (d : ℕ) (x : List ℕ) → RowInKernel d x → IsSectionAt d x (S.section d x)

@@ -8,4 +8,5 @@ pub returns-clause-answer : goal.returns-clause-answer
 returns-clause-answer c = text-reads-back
 
 pub returns-clause-only : goal.returns-clause-only
-returns-clause-only c q ds f a l g n low high p A = one-answer q ds (polynomial_text ds f.terms) l g a (reads f) A (text-reads-back q ds f g n low high p)
+returns-clause-only c q ds f a l g n low high p A =
+    one-answer q ds (polynomial_text ds f.terms) l g a (reads f) A (text-reads-back q ds f g n low high p)

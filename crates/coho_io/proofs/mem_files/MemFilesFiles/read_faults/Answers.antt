@@ -8,11 +8,17 @@ use Rattle.coho_io.proofs.mem_files.MemFilesFiles.read_faults.Goals as goal
 
 pub returns-in-None : goal.returns-in-None
 returns-in-None c =
-    let place = ap (position (λ f. is_at c.args.path.now (entry_of f))) (sym c.deref.ensures.value) ∙ sym c.in-None.ensures in
-    ap (λ o. option_map_or (λ e. e.read_faults) o c.self.inside.outside_faults) (sym (find_None entry_of (is_at c.args.path.now) c.self.inside.files.items place)) ∙ ap (λ s. read_count s c.args.path.now) c.self.view_is
+    let place = ap (position (λ f. is_at c.args.path.now (entry_of f))) (sym c.deref.ensures.value)
+    ∙ sym c.in-None.ensures in
+    ap (λ o. option_map_or (λ e. e.read_faults) o c.self.inside.outside_faults)
+    (sym (find_None entry_of (is_at c.args.path.now) c.self.inside.files.items place))
+    ∙ ap (λ s. read_count s c.args.path.now) c.self.view_is
 
 pub returns-in-Some : goal.returns-in-Some
 returns-in-Some c =
-    let place = ap (position (λ f. is_at c.args.path.now (entry_of f))) (sym c.deref.ensures.value) ∙ sym c.in-Some.ensures in
+    let place = ap (position (λ f. is_at c.args.path.now (entry_of f))) (sym c.deref.ensures.value)
+    ∙ sym c.in-Some.ensures in
     ap (λ f. f.read_faults) c.index.ensures
-    ∙ ap (λ o. option_map_or (λ e. e.read_faults) o c.self.inside.outside_faults) (sym (at_Some entry_of (is_at c.args.path.now) c.self.inside.files.items c.in-Some.i c.index.result.now place)) ∙ ap (λ s. read_count s c.args.path.now) c.self.view_is
+    ∙ ap (λ o. option_map_or (λ e. e.read_faults) o c.self.inside.outside_faults)
+    (sym (at_Some entry_of (is_at c.args.path.now) c.self.inside.files.items c.in-Some.i
+    c.index.result.now place)) ∙ ap (λ s. read_count s c.args.path.now) c.self.view_is
