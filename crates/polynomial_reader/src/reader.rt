@@ -143,7 +143,7 @@ fn read_sum(alloc: Global, gens: &Gens, text: &[u8]) -> Result<Vec<ReadTerm>, Po
     read_terms(alloc, gens, &names, &pieces(alloc, text, b'+')?)
 }
 
-/// The polynomial of a text, or the text's first fault. The text has at most 65,536 bytes: `0`, `1`, or terms joined by `+`,
+/// The polynomial of a text, or the text's first fault. The text has at most `LONGEST_TEXT` bytes: `0`, `1`, or terms joined by `+`,
 /// in any order. A term is an optional numeral from 1 to p - 1 with `*`, and factors joined by `*`, multiplied from left to right.
 /// A factor is a name, alone or with `^` and a numeral from 1 to `GREATEST_DEGREE`.
 pub fn read_poly(alloc: Global, gens: &Gens, text: &[u8]) -> Result<Poly, PolyFault>
