@@ -24,7 +24,8 @@ use Rattle.chain_lift.proofs.Stages.{image-is-row}
 use Rattle.chain_lift.proofs.LiftRows.{next-map}
 
 -- the map at a place
-pub level-at : (v : LiftValue) (p : ℕ) (levels : List Level) → IsLiftStore v p levels → (j : ℕ) (l : Level) → j ≤ v.height → l ≡ get_or levels j l
+pub level-at : (v : LiftValue) (p : ℕ) (levels : List Level) → IsLiftStore v p levels → (j : ℕ) (l : Level)
+    → j ≤ v.height → l ≡ get_or levels j l
     → IsLevel v.group v.degree v.class j l
 level-at v p levels S j l m e = subst (λ (x : Level). IsLevel v.group v.degree v.class j x) (sym e)
     (S.each j l (let c : length levels ≡ suc v.height = S.count in omega (arith, c, m)))
@@ -41,7 +42,10 @@ module _ (V : PGroup) (e j : ℕ) (c : List ℕ) (l : Level) (L : IsLevel V e c 
     (b-is : b ≡ l.target.value.rank) where
   source-at : IsStageAt V (suc (ahead e j)) s
   source-at = subst (λ d. IsStageAt V d s)
-      (let z : ahead e j ≡ j + e = ahead-is e j in let w : e + (j + 1) ≡ suc (ahead e j) = omega (arith, z) in w) at-source
+      (let z : ahead e j ≡ j + e = ahead-is e j in let w : e + (j + 1) ≡ suc (ahead e j) = omega (
+        arith,
+        z,
+      ) in w) at-source
 
   target-at : IsStageAt V (suc j) t
   target-at = subst (λ d. IsStageAt V d t) (let w : j + 1 ≡ suc j = omega arith in w) at-target
@@ -58,7 +62,8 @@ module _ (V : PGroup) (e j : ℕ) (c : List ℕ) (l : Level) (L : IsLevel V e c 
     target_prime = prime V j t target-at;
     before_width = L.rows_are.width ∙ ap (λ k. order V.table * k) (sym rank-is);
     target_width = source-width V j t target-at ∙ ap (λ k. order V.table * k) (sym rank-is);
-    fits = subst (λ k. k < 2 ^ 64) (ap (λ (m : MatrixValue). m.width) L.source_is.kernel_is ∙ ap (λ k. order V.table * k) (sym count)) w;
+    fits = subst (λ k. k < 2 ^ 64) (ap (λ (m : MatrixValue). m.width) L.source_is.kernel_is
+        ∙ ap (λ k. order V.table * k) (sym count)) w;
     images = λ i k. subst (λ n. IsRow V.table.p (order V.table * n) (image_row s i)) (sym L.rows_are.count)
         (image-is-row V (ahead e j) s source-at i k);
   }
@@ -66,8 +71,10 @@ module _ (V : PGroup) (e j : ℕ) (c : List ℕ) (l : Level) (L : IsLevel V e c 
       count : length l.rows.rows ≡ rank_of V (e + j)
       count = L.rows_are.count ∙ ap (rank_of V) (ahead-is e j ∙ (let w : j + e ≡ e + j = omega arith in w))
 
-  pub next-rows-are : (new : MatrixValue) → new.p ≡ V.table.p → new.width ≡ t.kernel.width → length new.rows ≡ s.rank
-      → ((i : ℕ) → i < s.rank → row new.rows i ≡ section_of t (map_row V b l.rows.rows (image_row s i))) → IsLiftMap V e c (suc j) new
+  pub next-rows-are : (new : MatrixValue) → new.p ≡ V.table.p → new.width ≡ t.kernel.width
+      → length new.rows ≡ s.rank
+      → ((i : ℕ) → i < s.rank → row new.rows i ≡ section_of t (map_row V b l.rows.rows (image_row s i)))
+      → IsLiftMap V e c (suc j) new
   next-rows-are new p w n r = next-map V e c j l.rows L.rows_are s t b new source-at target-at rank-is p w n r
 
 pub first-level : (A G : PGroup) → A ≡ G → (e : ℕ) (xs c : List ℕ) → xs ≡ c → (l : Level) → IsLevel A e xs 0 l
@@ -76,7 +83,8 @@ first-level A G g e xs c f l = subst (λ G. IsLevel A e xs 0 l → IsLevel G e c
     (λ L. subst (λ y. IsLevel A e y 0 l) f L)
 
 pub same-value : (g g' : PGroup) (d : ℕ) (c c' : List ℕ) (m n : ℕ) → g ≡ g' → c ≡ c' → m ≡ n
-    → ◌≡◌ {A = LiftValue} (record { group = g; degree = d; class = c; height = m }) (record { group = g'; degree = d; class = c'; height = n })
+    → ◌≡◌ {A = LiftValue} (record { group = g; degree = d; class = c; height = m })
+    (record { group = g'; degree = d; class = c'; height = n })
 same-value g g' d c c' m n e f k =
     ap (λ (x : PGroup). record { group = x; degree = d; class = c; height = m }) e
     ∙ ap₂ (λ (x : List ℕ) (y : ℕ). record { group = g'; degree = d; class = x; height = y }) f k
@@ -90,7 +98,10 @@ added p (suc n) (x ∷ xs) r =
     ap₂ (λ y ys. y ∷ ys) (ap (λ z. z % p) (let z : 0 + 1 * x ≡ x = omega arith in z)
     ∙ mod-eq_of_lt (r.below 0 (let z : 0 < suc n = omega arith in z)))
     (added p n xs (record {
-      length_is = (let l : length (x ∷ xs) ≡ suc n = r.length_is in let z : length xs ≡ n = omega (arith, l) in z);
+      length_is = (let l : length (x ∷ xs) ≡ suc n = r.length_is in let z : length xs ≡ n = omega (
+        arith,
+        l,
+      ) in z);
       below = λ j l. r.below (suc j) (let z : suc j < suc n = omega (arith, l) in z);
     }))
 
@@ -98,55 +109,70 @@ added p (suc n) (x ∷ xs) r =
 pub store-start : (v : LiftValue) (p : ℕ) (old new : List Level) (l : Level) → p ≡ v.group.table.p
     → length v.class ≡ rank_of v.group v.degree → IsLevel v.group v.degree v.class 0 l
     → v.height ≡ 0 → old ≡ [] → new ≡ old ++ l ∷ [] → IsLiftStore v p new
-store-start v p old new l e c L z o n = subst (λ ls. IsLiftStore v p ls) (sym (n ∙ ap (λ (x : List Level). x ++ l ∷ []) o)) (record {
-  prime = e;
-  entries = c;
-  count = omega (arith, z);
-  few = omega arith;
-  each = at;
-})
+store-start v p old new l e c L z o n = subst (λ ls. IsLiftStore v p ls)
+    (sym (n ∙ ap (λ (x : List Level). x ++ l ∷ []) o)) (record {
+      prime = e;
+      entries = c;
+      count = omega (arith, z);
+      few = omega arith;
+      each = at;
+    })
   where
     at : (j : ℕ) (x : Level) → j < length (l ∷ []) → IsLevel v.group v.degree v.class j (get_or (l ∷ []) j x)
     at zero x m = L
     at (suc j) x m = absurd (omega (arith, m))
 
 -- one more map
-pub store-push : (v : LiftValue) (p n : ℕ) (levels new : List Level) (l : Level) → IsLiftStore v p levels → suc v.height < 2 ^ 32
+pub store-push : (v : LiftValue) (p n : ℕ) (levels new : List Level) (l : Level) → IsLiftStore v p levels
+    → suc v.height < 2 ^ 32
     → IsLevel v.group v.degree v.class (suc v.height) l → new ≡ levels ++ l ∷ [] → n ≡ length new - 1
     → IsLiftStore (record v { height = n }) p new
-store-push v p n levels new l S few L e f = subst (λ ls. IsLiftStore (record v { height = n }) p ls) (sym e) (record {
-  prime = S.prime;
-  entries = S.entries;
-  count = omega (arith, count, f, ap (λ (x : List Level). length x) e);
-  few = omega (arith, count, few);
-  each = λ j x k. at j x (cases_lt j (length levels)) k;
-})
+store-push v p n levels new l S few L e f =
+    subst (λ ls. IsLiftStore (record v { height = n }) p ls) (sym e) (record {
+      prime = S.prime;
+      entries = S.entries;
+      count = omega (arith, count, f, ap (λ (x : List Level). length x) e);
+      few = omega (arith, count, few);
+      each = λ j x k. at j x (cases_lt j (length levels)) k;
+    })
   where
     count : length (levels ++ l ∷ []) ≡ suc (suc v.height)
-    count = let a : length (levels ++ l ∷ []) ≡ length levels + 1 = length_push levels l in let b : length levels ≡ suc v.height = S.count in
+    count = let a : length (levels ++ l ∷ []) ≡ length levels + 1 = length_push levels l in
+        let b : length levels ≡ suc v.height = S.count in
         omega (arith, a, b)
 
     at : (j : ℕ) (x : Level) → (j < length levels) ⊎ (length levels ≤ j) → j < length (levels ++ l ∷ [])
         → IsLevel v.group v.degree v.class j (get_or (levels ++ l ∷ []) j x)
-    at j x (inl k) m = subst (IsLevel v.group v.degree v.class j) (sym (get_or_append_left levels (l ∷ []) x j k)) (S.each j x k)
-    at j x (inr k) m = let here : j ≡ suc v.height = (let b : length levels ≡ suc v.height = S.count in omega (arith, b, k, m, count)) in
+    at j x (inl k) m = subst (IsLevel v.group v.degree v.class j)
+        (sym (get_or_append_left levels (l ∷ []) x j k)) (S.each j x k)
+    at j x (inr k) m = let here : j ≡ suc v.height =
+        (let b : length levels ≡ suc v.height = S.count in omega (arith, b, k, m, count)) in
         subst (IsLevel v.group v.degree v.class j)
         (sym (get_or_push levels l x j
-        (let b : length levels ≡ suc v.height = S.count in let z : length levels ≡ j = omega (arith, b, here) in z)))
+        (let b : length levels ≡ suc v.height = S.count in let z : length levels ≡ j = omega (
+          arith,
+          b,
+          here,
+        ) in z)))
         (subst (λ d. IsLevel v.group v.degree v.class d l) (sym here) L)
 
 -- the first maps
-pub store-take : (v : LiftValue) (p k n : ℕ) (levels new : List Level) → IsLiftStore v p levels → k ≤ v.height → new ≡ take (k + 1) levels
+pub store-take : (v : LiftValue) (p k n : ℕ) (levels new : List Level) → IsLiftStore v p levels → k ≤ v.height
+    → new ≡ take (k + 1) levels
     → n ≡ length new - 1
     → IsLiftStore (record v { height = n }) p new
-store-take v p k n levels new S l e f = subst (λ ls. IsLiftStore (record v { height = n }) p ls) (sym e) (record {
-  prime = S.prime;
-  entries = S.entries;
-  count = omega (arith, count, f, ap (λ (x : List Level). length x) e);
-  few = let b : length levels ≤ 2 ^ 32 = S.few in let a : length levels ≡ suc v.height = S.count in omega (arith, count, a, b, l);
-  each = λ j x m. subst (IsLevel v.group v.degree v.class j) (sym (get_or-take (k + 1) levels j x (omega (arith, m, count))))
-      (S.each j x (let a : length levels ≡ suc v.height = S.count in omega (arith, m, count, a, l)));
-})
+store-take v p k n levels new S l e f = subst (λ ls. IsLiftStore (record v { height = n }) p ls) (sym e)
+    (record {
+      prime = S.prime;
+      entries = S.entries;
+      count = omega (arith, count, f, ap (λ (x : List Level). length x) e);
+      few = let b : length levels ≤ 2 ^ 32 = S.few in let a : length levels ≡ suc v.height = S.count in
+          omega (arith, count, a, b, l);
+      each = λ j x m. subst (IsLevel v.group v.degree v.class j)
+          (sym (get_or-take (k + 1) levels j x (omega (arith, m, count))))
+          (S.each j x (let a : length levels ≡ suc v.height = S.count in omega (arith, m, count, a, l)));
+    })
   where
     count : length (take (k + 1) levels) ≡ k + 1
-    count = length-take-le (k + 1) levels (let a : length levels ≡ suc v.height = S.count in omega (arith, a, l))
+    count = length-take-le (k + 1) levels
+        (let a : length levels ≡ suc v.height = S.count in omega (arith, a, l))

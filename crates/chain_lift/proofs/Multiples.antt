@@ -21,8 +21,10 @@ use Rattle.chain_lift.specs.RowMaps.{multiple_of_one}
 first-set : (xs ys : List ℕ) (c : ℕ) → ys ≡ set xs 0 c → 0 < length xs → entry ys 0 ≡ c
 first-set xs ys c e l = ap (λ z. entry z 0) e ∙ get_or-set_same xs 0 c 0 l
 
-pub others-stay : (xs ys : List ℕ) (c : ℕ) → ys ≡ set xs 0 c → ((k : ℕ) → 1 ≤ k → entry xs k ≡ 0) → (k : ℕ) → 1 ≤ k → entry ys k ≡ 0
-others-stay xs ys c e z k l = ap (λ z. entry z k) e ∙ get_or-set_other xs 0 k c 0 (λ d. absurd (omega (arith, d, l))) ∙ z k l
+pub others-stay : (xs ys : List ℕ) (c : ℕ) → ys ≡ set xs 0 c → ((k : ℕ) → 1 ≤ k → entry xs k ≡ 0) → (k : ℕ)
+    → 1 ≤ k → entry ys k ≡ 0
+others-stay xs ys c e z k l = ap (λ z. entry z k) e
+    ∙ get_or-set_other xs 0 k c 0 (λ d. absurd (omega (arith, d, l))) ∙ z k l
 
 module _ (G : PGroup) where
   abbrev q : ℕ
@@ -31,7 +33,8 @@ module _ (G : PGroup) where
   abbrev Γ : Group (order G.table)
   Γ = group G
 
-  pub multiple-coefficients : (a : List ℕ) (c : ℕ) → IsRow G.table.p (order G.table) a → entry a 0 ≡ c → ((k : ℕ) → 1 ≤ k → entry a k ≡ 0) → c < G.table.p
+  pub multiple-coefficients : (a : List ℕ) (c : ℕ) → IsRow G.table.p (order G.table) a → entry a 0 ≡ c
+      → ((k : ℕ) → 1 ≤ k → entry a k ≡ 0) → c < G.table.p
       → AreCoefficients G a (multiple_of_one G c)
   multiple-coefficients a c r first others l = record { is_row = r; each = λ g. go g (eqb_tells g.0 0) }
     where
@@ -45,25 +48,34 @@ module _ (G : PGroup) where
       go : (g : Below (order G.table)) → ((eqb g.0 0 ≡ true) × (g.0 ≡ 0)) ⊎ ((eqb g.0 0 ≡ false) × (g.0 ≢ 0))
           → entry a g.0 ≡ (multiple_of_one G c (residue 0 0) g).0
       go g (inl k) = ap (entry a) k.1 ∙ first
-          ∙ sym (value g ∙ ap (λ (x : Below (suc q)). x.0) (ap (λ t. times (plus q) (residue q 0) c (mark q Γ t)) (ap₂ ◌&&◌ same k.0) ∙ times-one q c)
+          ∙ sym (value g ∙ ap (λ (x : Below (suc q)). x.0)
+          (ap (λ t. times (plus q) (residue q 0) c (mark q Γ t)) (ap₂ ◌&&◌ same k.0) ∙ times-one q c)
           ∙ mod-eq_of_lt (subst (λ p. c < p) (sym (residues G)) l))
       go g (inr k) = others g.0 (let d : g.0 ≢ 0 = k.1 in omega (arith, d))
-          ∙ sym (value g ∙ ap (λ (x : Below (suc q)). x.0) (ap (λ t. times (plus q) (residue q 0) c (mark q Γ t)) (ap₂ ◌&&◌ same k.0)
+          ∙ sym (value g ∙ ap (λ (x : Below (suc q)). x.0)
+          (ap (λ t. times (plus q) (residue q 0) c (mark q Γ t)) (ap₂ ◌&&◌ same k.0)
           ∙ times-zero (Fp q (monoid Γ)) c)
           ∙ zero-mod (suc q))
 
   -- those of the row that had zeros after its first place, once c is there
-  pub coefficients-of : (xs ys a : List ℕ) (c : ℕ) → length xs ≡ order G.table → ((k : ℕ) → 1 ≤ k → entry xs k ≡ 0) → ys ≡ set xs 0 c → a ≡ ys → c < G.table.p
+  pub coefficients-of : (xs ys a : List ℕ) (c : ℕ) → length xs ≡ order G.table
+      → ((k : ℕ) → 1 ≤ k → entry xs k ≡ 0) → ys ≡ set xs 0 c → a ≡ ys → c < G.table.p
       → AreCoefficients G a (multiple_of_one G c)
   coefficients-of xs ys a c n z e f l =
-      subst (λ x. AreCoefficients G x (multiple_of_one G c)) (sym f) (multiple-coefficients ys c r first (others-stay xs ys c e z) l)
+      subst (λ x. AreCoefficients G x (multiple_of_one G c)) (sym f)
+      (multiple-coefficients ys c r first (others-stay xs ys c e z) l)
     where
       first : entry ys 0 ≡ c
       first = first-set xs ys c e (subst (λ k. 0 < k) (sym n) G.law.law.some)
 
       below : (k : ℕ) → entry ys k < G.table.p
       below zero = subst (λ x. x < G.table.p) (sym first) l
-      below (suc k) = subst (λ x. x < G.table.p) (sym (others-stay xs ys c e z (suc k) (omega arith))) (omega (arith, l))
+      below (suc k) = subst (λ x. x < G.table.p) (sym (others-stay xs ys c e z (suc k) (omega arith)))
+          (omega (arith, l))
 
       r : IsRow G.table.p (order G.table) ys
-      r = record { length_is = ap (λ (x : List ℕ). length x) e ∙ length-set xs 0 c ∙ n; below = λ k m. below k }
+      r = record {
+        length_is = ap (λ (x : List ℕ). length x) e ∙ length-set xs 0 c
+            ∙ n;
+        below = λ k m. below k;
+      }

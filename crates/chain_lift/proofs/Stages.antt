@@ -19,10 +19,12 @@ use Rattle.chain_lift.specs.RowMaps.{image_row}
 
 module _ (G : PGroup) (d : ℕ) where
   -- a row of the boundary of degree d + 1
-  pub boundary-row : (i : ℕ) → i < rank_of G (suc d) → IsRow (suc (largest_residue G)) (order G.table * rank_of G d) (row (images (stage_rows G) d) i)
+  pub boundary-row : (i : ℕ) → i < rank_of G (suc d)
+      → IsRow (suc (largest_residue G)) (order G.table * rank_of G d) (row (images (stage_rows G) d) i)
   boundary-row i l = subst (λ x. IsRow (suc (largest_residue G)) (order G.table * rank_of G d) x)
       (sym (get_or-map (row ((stage_rows G).kernel d)) ((stage_rows G).positions d) i 0 [] l))
-      (((stage_rows_are G).kernel_is d).matrix (get_or ((stage_rows G).positions d) i 0) (positions-inside G d i l))
+      (((stage_rows_are G).kernel_is d).matrix (get_or ((stage_rows G).positions d) i 0)
+      (positions-inside G d i l))
 
   module _ (s : StageValue) (L : IsStageAt G (suc d) s) where
     pub image-is : (i : ℕ) → image_row s i ≡ row (images (stage_rows G) d) i

@@ -12,12 +12,14 @@ ghost use Rattle.chain_maps.specs.Claims.{LiftClaims, ProductClaims, VectorClaim
 
 /// The lift of a class is a chain map that begins with it, and each argument of a section lies in the kernel.
 pub fn lift_law()
-    ensures { (n q : ℕ) (Γ : Group n) (K : Coordinates q Γ) (S : StageRows) → IsFieldModulo (suc q) → AreStages q Γ K S → LiftClaims q Γ K S }
+    ensures { (n q : ℕ) (Γ : Group n) (K : Coordinates q Γ) (S : StageRows) → IsFieldModulo (suc q)
+        → AreStages q Γ K S → LiftClaims q Γ K S }
 {}
 
 /// The product of vectors is that of their classes.
 pub fn product_law()
-    ensures { (n q : ℕ) (Γ : Group n) (K : Coordinates q Γ) (S : StageRows) (d e : ℕ) (v w : Vector q) → ProductClaims q Γ K S d e v w }
+    ensures { (n q : ℕ) (Γ : Group n) (K : Coordinates q Γ) (S : StageRows) (d e : ℕ) (v w : Vector q)
+        → ProductClaims q Γ K S d e v w }
 {}
 
 /// Rows and vectors are the same.

@@ -39,7 +39,8 @@ is_name name known e = (bytes_eq-Decides name known).0 e
 
 -- ---- words of which none is empty or begins with a dash
 
-group_at : (rest : List Text) → list_all is_path rest ≡ true → command (codes "group" ∷ rest) ≡ option_map Group (one_operand (codes "group" ∷ rest))
+group_at : (rest : List Text) → list_all is_path rest ≡ true
+    → command (codes "group" ∷ rest) ≡ option_map Group (one_operand (codes "group" ∷ rest))
 group_at [] h = refl
 group_at (a ∷ []) h = rw (both (is_path a) _ h).0 refl
 group_at (a ∷ b ∷ []) h = refl
@@ -49,37 +50,54 @@ group_at (a ∷ b ∷ c ∷ rest) h = refl
 abbrev pub of_degree : (Text → ℕ → Command) → Option (Text × ℕ) → Option Command
 of_degree make o = option_map (λ p. make p.0 p.1) o
 
-same_degree : (make : Text → ℕ → Command) (a : Text) (o : Option ℕ) → option_map (make a) o ≡ of_degree make (option_map (λ n. (a, n)) o)
+same_degree : (make : Text → ℕ → Command) (a : Text) (o : Option ℕ)
+    → option_map (make a) o ≡ of_degree make (option_map (λ n. (a, n)) o)
 same_degree make a None = refl
 same_degree make a (Some n) = refl
 
-resolve_at : (rest : List Text) → list_all is_path rest ≡ true → command (codes "resolve" ∷ rest) ≡ of_degree Resolve (file_and_degree (codes "resolve" ∷ rest))
+resolve_at : (rest : List Text) → list_all is_path rest ≡ true
+    → command (codes "resolve" ∷ rest) ≡ of_degree Resolve (file_and_degree (codes "resolve" ∷ rest))
 resolve_at [] h = refl
 resolve_at (a ∷ []) h = refl
 resolve_at (a ∷ b ∷ []) h = rw (both (is_path a) _ h).0 (same_degree Resolve a (numeral 1 GREATEST_DEGREE b))
 resolve_at (a ∷ b ∷ c ∷ rest) h = refl
 
-ring_at : (rest : List Text) → list_all is_path rest ≡ true → command (codes "ring" ∷ rest) ≡ of_degree Ring (file_and_degree (codes "ring" ∷ rest))
+ring_at : (rest : List Text) → list_all is_path rest ≡ true
+    → command (codes "ring" ∷ rest) ≡ of_degree Ring (file_and_degree (codes "ring" ∷ rest))
 ring_at [] h = refl
 ring_at (a ∷ []) h = refl
 ring_at (a ∷ b ∷ []) h = rw (both (is_path a) _ h).0 (same_degree Ring a (numeral 1 GREATEST_DEGREE b))
 ring_at (a ∷ b ∷ c ∷ rest) h = refl
 
-pub group_is : (name : Text) (rest : List Text) → list_all is_path (name ∷ rest) ≡ true → bytes_eq name (codes "group") ≡ true → command (name ∷ rest) ≡ option_map Group (one_operand (name ∷ rest))
+pub group_is : (name : Text) (rest : List Text) → list_all is_path (name ∷ rest) ≡ true
+    → bytes_eq name (codes "group") ≡ true
+    → command (name ∷ rest) ≡ option_map Group (one_operand (name ∷ rest))
 group_is name rest h e =
-    subst (λ n. list_all is_path (n ∷ rest) ≡ true → command (n ∷ rest) ≡ option_map Group (one_operand (n ∷ rest))) (sym (is_name name (codes "group") e)) (group_at rest) h
+    subst (λ n. list_all is_path (n ∷ rest) ≡ true
+    → command (n ∷ rest) ≡ option_map Group (one_operand (n ∷ rest)))
+    (sym (is_name name (codes "group") e)) (group_at rest) h
 
-pub resolve_is : (name : Text) (rest : List Text) → list_all is_path (name ∷ rest) ≡ true → bytes_eq name (codes "resolve") ≡ true → command (name ∷ rest) ≡ of_degree Resolve (file_and_degree (name ∷ rest))
+pub resolve_is : (name : Text) (rest : List Text) → list_all is_path (name ∷ rest) ≡ true
+    → bytes_eq name (codes "resolve") ≡ true
+    → command (name ∷ rest) ≡ of_degree Resolve (file_and_degree (name ∷ rest))
 resolve_is name rest h e =
-    subst (λ n. list_all is_path (n ∷ rest) ≡ true → command (n ∷ rest) ≡ of_degree Resolve (file_and_degree (n ∷ rest))) (sym (is_name name (codes "resolve") e)) (resolve_at rest) h
+    subst (λ n. list_all is_path (n ∷ rest) ≡ true
+    → command (n ∷ rest) ≡ of_degree Resolve (file_and_degree (n ∷ rest)))
+    (sym (is_name name (codes "resolve") e)) (resolve_at rest) h
 
-pub ring_is : (name : Text) (rest : List Text) → list_all is_path (name ∷ rest) ≡ true → bytes_eq name (codes "ring") ≡ true → command (name ∷ rest) ≡ of_degree Ring (file_and_degree (name ∷ rest))
+pub ring_is : (name : Text) (rest : List Text) → list_all is_path (name ∷ rest) ≡ true
+    → bytes_eq name (codes "ring") ≡ true
+    → command (name ∷ rest) ≡ of_degree Ring (file_and_degree (name ∷ rest))
 ring_is name rest h e =
-    subst (λ n. list_all is_path (n ∷ rest) ≡ true → command (n ∷ rest) ≡ of_degree Ring (file_and_degree (n ∷ rest))) (sym (is_name name (codes "ring") e)) (ring_at rest) h
+    subst (λ n. list_all is_path (n ∷ rest) ≡ true
+    → command (n ∷ rest) ≡ of_degree Ring (file_and_degree (n ∷ rest)))
+    (sym (is_name name (codes "ring") e)) (ring_at rest) h
 
 -- ---- words of no command
 
-pub other_is : (name : Text) (rest : List Text) → bytes_eq name (codes "group") ≡ false → bytes_eq name (codes "resolve") ≡ false → bytes_eq name (codes "ring") ≡ false → command (name ∷ rest) ≡ None
+pub other_is : (name : Text) (rest : List Text) → bytes_eq name (codes "group") ≡ false
+    → bytes_eq name (codes "resolve") ≡ false → bytes_eq name (codes "ring") ≡ false
+    → command (name ∷ rest) ≡ None
 other_is name [] g r s = refl
 other_is name (a ∷ []) g r s = rw g refl
 other_is name (a ∷ b ∷ []) g r s = rw (r, s) refl
@@ -96,16 +114,19 @@ dash_first (b ∷ bs) h = subst (λ b. numeral 1 GREATEST_DEGREE (b ∷ bs) ≡ 
     at [] = refl
     at (c ∷ bs) = refl
 
-unless : {A : Type 0} (t p : Bool) (x y : Option A) → (t ≡ true → p ≡ true → x ≡ None) → y ≡ None → cond (t && p) x y ≡ None
+unless : {A : Type 0} (t p : Bool) (x y : Option A) → (t ≡ true → p ≡ true → x ≡ None) → y ≡ None
+    → cond (t && p) x y ≡ None
 unless true true x y h k = h refl refl
 unless true false x y h k = k
 unless false p x y h k = k
 
 -- of the words after a plain name, and after a plain file, the next is not plain
-after_name : (name known : Text) (rest : List Text) → list_all is_path (name ∷ rest) ≡ false → is_path known ≡ true → bytes_eq name known ≡ true → list_all is_path rest ≡ false
+after_name : (name known : Text) (rest : List Text) → list_all is_path (name ∷ rest) ≡ false
+    → is_path known ≡ true → bytes_eq name known ≡ true → list_all is_path rest ≡ false
 after_name name known rest h k e = rw (is_name name known e, k) at h
 
-after_file : (a : Text) (rest : List Text) → list_all is_path (a ∷ rest) ≡ false → is_path a ≡ true → list_all is_path rest ≡ false
+after_file : (a : Text) (rest : List Text) → list_all is_path (a ∷ rest) ≡ false → is_path a ≡ true
+    → list_all is_path rest ≡ false
 after_file a rest h p = rw p at h
 
 ends : (b : Text) → list_all is_path (b ∷ []) ≡ false → is_path b ≡ false
@@ -119,29 +140,42 @@ pub dashed_is : (words : List Text) → list_all is_path words ≡ false → com
 dashed_is [] h = refl
 dashed_is (name ∷ []) h = refl
 dashed_is (name ∷ a ∷ []) h =
-    unless (bytes_eq name (codes "group")) (is_path a) (Some (Group a)) None (λ e p. absurd (true≢false (after_file a [] (after_name name (codes "group") (a ∷ []) h refl e) p))) refl
+    unless (bytes_eq name (codes "group")) (is_path a) (Some (Group a)) None
+    (λ e p. absurd (true≢false (after_file a [] (after_name name (codes "group") (a ∷ []) h refl e) p)))
+    refl
 dashed_is (name ∷ a ∷ b ∷ []) h =
     let no_degree = λ (known : Text) (k : is_path known ≡ true) (e : bytes_eq name known ≡ true) (p : is_path a ≡ true). dash_first b (ends b (after_file a (b ∷ []) (after_name name known (a ∷ b ∷ []) h k e) p)) in
-    unless (bytes_eq name (codes "resolve")) (is_path a) (option_map (Resolve a) (numeral 1 GREATEST_DEGREE b)) _ (λ e p. ap (option_map (Resolve a)) (no_degree (codes "resolve") refl e p))
-    (unless (bytes_eq name (codes "ring")) (is_path a) (option_map (Ring a) (numeral 1 GREATEST_DEGREE b)) None (λ e p. ap (option_map (Ring a)) (no_degree (codes "ring") refl e p)) refl)
+    unless (bytes_eq name (codes "resolve")) (is_path a)
+    (option_map (Resolve a) (numeral 1 GREATEST_DEGREE b)) _
+    (λ e p. ap (option_map (Resolve a)) (no_degree (codes "resolve") refl e p))
+    (unless (bytes_eq name (codes "ring")) (is_path a)
+    (option_map (Ring a) (numeral 1 GREATEST_DEGREE b)) None
+    (λ e p. ap (option_map (Ring a)) (no_degree (codes "ring") refl e p)) refl)
 dashed_is (name ∷ a ∷ b ∷ c ∷ rest) h = refl
 
 -- ---- so the words are read as their command says
 
-some_asked : (o : Option Command) (found : Named) → o ≡ Some (asked found) → Settles asked (OrRefuse words_refused o) (Ok found)
-some_asked o found e = subst (λ o. Settles asked (OrRefuse words_refused o) (Ok found)) (sym e) (λ files. (refl, refl))
+some_asked : (o : Option Command) (found : Named) → o ≡ Some (asked found)
+    → Settles asked (OrRefuse words_refused o) (Ok found)
+some_asked o found e = subst (λ o. Settles asked (OrRefuse words_refused o) (Ok found)) (sym e)
+    (λ files. (refl, refl))
 
-none_asked : (o : Option Command) → o ≡ None → Settles asked (OrRefuse words_refused o) (Err (stop.Refused cause.Words))
-none_asked o e = subst (λ o. Settles asked (OrRefuse words_refused o) (Err (stop.Refused cause.Words))) (sym e) (λ files. (refl, refl))
+none_asked : (o : Option Command) → o ≡ None
+    → Settles asked (OrRefuse words_refused o) (Err (stop.Refused cause.Words))
+none_asked o e = subst (λ o. Settles asked (OrRefuse words_refused o) (Err (stop.Refused cause.Words)))
+    (sym e) (λ files. (refl, refl))
 
-pub reads : (words : List Text) (found : Named) → command words ≡ Some (asked found) → Settles asked (Ask words) (Ok found)
+pub reads : (words : List Text) (found : Named) → command words ≡ Some (asked found)
+    → Settles asked (Ask words) (Ok found)
 reads words found e = some_asked (command words) found e
 
-pub refuses : (words : List Text) → command words ≡ None → Settles asked (Ask words) (Err (stop.Refused cause.Words))
+pub refuses : (words : List Text) → command words ≡ None
+    → Settles asked (Ask words) (Err (stop.Refused cause.Words))
 refuses words e = none_asked (command words) e
 
 -- a parse that fails is refused by the words, or for want of memory
-pub unread : (words : List Text) (k : ErrorKind) → (k ≡ kind.OutOfMemory) ⊎ (command words ≡ None) → Settles asked (Ask words) (Err (parse_stop k))
+pub unread : (words : List Text) (k : ErrorKind) → (k ≡ kind.OutOfMemory) ⊎ (command words ≡ None)
+    → Settles asked (Ask words) (Err (parse_stop k))
 unread words k (inl e) = rw e tt
 unread words k (inr e) = go k
   where
@@ -158,7 +192,8 @@ unread_words P k (inr p) = go k
     go _ = p
 
 -- a call stopped at the words
-pub stopped : (words : List Text) (P : Type 0) (s : Stop) → IsWordsStop P s → (P → command words ≡ None) → Settles asked (Ask words) (Err s)
+pub stopped : (words : List Text) (P : Type 0) (s : Stop) → IsWordsStop P s → (P → command words ≡ None)
+    → Settles asked (Ask words) (Err s)
 stopped words P (stop.Refused cause.Words) h none = refuses words (none h)
 stopped words P (stop.Refused cause.Length) h none = absurd h
 stopped words P (stop.Refused (cause.Text kind line column)) h none = absurd h
@@ -170,38 +205,52 @@ stopped words P (stop.Read path) h none = absurd h
 stopped words P stop.Write h none = absurd h
 stopped words P stop.Memory h none = tt
 
-pub degree_found : (words : List Text) (path word : Text) (n : ℕ) → two_operands words ≡ Some (path, word) → numeral 1 GREATEST_DEGREE word ≡ Some n → file_and_degree words ≡ Some (path, n)
-degree_found words path word n is number = ap (option_and_then with_degree) is ∙ ap (option_map (λ n. (path, n))) number
+pub degree_found : (words : List Text) (path word : Text) (n : ℕ) → two_operands words ≡ Some (path, word)
+    → numeral 1 GREATEST_DEGREE word ≡ Some n → file_and_degree words ≡ Some (path, n)
+degree_found words path word n is number = ap (option_and_then with_degree) is
+    ∙ ap (option_map (λ n. (path, n))) number
 
-pub degree_none : (words : List Text) (path word : Text) → two_operands words ≡ Some (path, word) → numeral 1 GREATEST_DEGREE word ≡ None → file_and_degree words ≡ None
-degree_none words path word is number = ap (option_and_then with_degree) is ∙ ap (option_map (λ n. (path, n))) number
+pub degree_none : (words : List Text) (path word : Text) → two_operands words ≡ Some (path, word)
+    → numeral 1 GREATEST_DEGREE word ≡ None → file_and_degree words ≡ None
+degree_none words path word is number = ap (option_and_then with_degree) is
+    ∙ ap (option_map (λ n. (path, n))) number
 
-pub operands_none : (words : List Text) (k : ErrorKind) → (k ≡ kind.OutOfMemory) ⊎ (two_operands words ≡ None) → (k ≡ kind.OutOfMemory) ⊎ (file_and_degree words ≡ None)
+pub operands_none : (words : List Text) (k : ErrorKind) → (k ≡ kind.OutOfMemory) ⊎ (two_operands words ≡ None)
+    → (k ≡ kind.OutOfMemory) ⊎ (file_and_degree words ≡ None)
 operands_none words k (inl m) = inl m
 operands_none words k (inr none) = inr (ap (option_and_then with_degree) none)
 
 -- ---- the same of the words as they are given
 
-pub named : (words : List (String Global)) (name : String Global) → 1 ≤ length words → name ≡ slice_index_or words 0 name → texts words ≡ string_bytes name ∷ drop 1 (texts words)
+pub named : (words : List (String Global)) (name : String Global) → 1 ≤ length words
+    → name ≡ slice_index_or words 0 name → texts words ≡ string_bytes name ∷ drop 1 (texts words)
 named [] name some is = absurd (omega arith)
 named (x ∷ xs) name some is = ap (λ (n : String Global). string_bytes n ∷ texts xs) (sym is)
 
-module _ (words rest : List Text) (plain : list_all is_path words ≡ true) (name : Text) (first : words ≡ name ∷ rest) where
+module _ (words rest : List Text) (plain : list_all is_path words ≡ true) (name : Text)
+    (first : words ≡ name ∷ rest) where
   at_group : bytes_eq name (codes "group") ≡ true → command words ≡ option_map Group (one_operand words)
-  at_group e = subst (λ ws. command ws ≡ option_map Group (one_operand ws)) (sym first) (group_is name rest (subst (λ ws. list_all is_path ws ≡ true) first plain) e)
+  at_group e = subst (λ ws. command ws ≡ option_map Group (one_operand ws)) (sym first)
+      (group_is name rest (subst (λ ws. list_all is_path ws ≡ true) first plain) e)
 
-  pub group_found : bytes_eq name (codes "group") ≡ true → (path : Text) → one_operand words ≡ Some path → command words ≡ Some (Group path)
+  pub group_found : bytes_eq name (codes "group") ≡ true → (path : Text) → one_operand words ≡ Some path
+      → command words ≡ Some (Group path)
   group_found e path is = at_group e ∙ ap (option_map Group) is
 
-  pub group_none : (k : ErrorKind) → bytes_eq name (codes "group") ≡ true → (k ≡ kind.OutOfMemory) ⊎ (one_operand words ≡ None) → (k ≡ kind.OutOfMemory) ⊎ (command words ≡ None)
+  pub group_none : (k : ErrorKind) → bytes_eq name (codes "group") ≡ true → (k ≡ kind.OutOfMemory)
+      ⊎ (one_operand words ≡ None) → (k ≡ kind.OutOfMemory) ⊎ (command words ≡ None)
   group_none k e (inl m) = inl m
   group_none k e (inr none) = inr (at_group e ∙ ap (option_map Group) none)
 
-  pub at_resolve : bytes_eq name (codes "resolve") ≡ true → command words ≡ of_degree Resolve (file_and_degree words)
-  at_resolve e = subst (λ ws. command ws ≡ of_degree Resolve (file_and_degree ws)) (sym first) (resolve_is name rest (subst (λ ws. list_all is_path ws ≡ true) first plain) e)
+  pub at_resolve : bytes_eq name (codes "resolve") ≡ true
+      → command words ≡ of_degree Resolve (file_and_degree words)
+  at_resolve e = subst (λ ws. command ws ≡ of_degree Resolve (file_and_degree ws)) (sym first)
+      (resolve_is name rest (subst (λ ws. list_all is_path ws ≡ true) first plain) e)
 
   pub at_ring : bytes_eq name (codes "ring") ≡ true → command words ≡ of_degree Ring (file_and_degree words)
-  at_ring e = subst (λ ws. command ws ≡ of_degree Ring (file_and_degree ws)) (sym first) (ring_is name rest (subst (λ ws. list_all is_path ws ≡ true) first plain) e)
+  at_ring e = subst (λ ws. command ws ≡ of_degree Ring (file_and_degree ws)) (sym first)
+      (ring_is name rest (subst (λ ws. list_all is_path ws ≡ true) first plain) e)
 
-  pub other_none : bytes_eq name (codes "group") ≡ false → bytes_eq name (codes "resolve") ≡ false → bytes_eq name (codes "ring") ≡ false → command words ≡ None
+  pub other_none : bytes_eq name (codes "group") ≡ false → bytes_eq name (codes "resolve") ≡ false
+      → bytes_eq name (codes "ring") ≡ false → command words ≡ None
   other_none g r s = ap command first ∙ other_is name rest g r s

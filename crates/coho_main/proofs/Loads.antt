@@ -30,31 +30,50 @@ after_present P = FitOrder P >>= after_order P
 abbrev pub after_length : List ℕ → Unit {0} → Step Presentation
 after_length text _ = Present text >>= after_present
 
-pub length_then : (text : List ℕ) (r : Result Presentation Stop) → Settles unit (FitLength text) (Ok tt) → Settles itself (after_length text tt) r → Settles itself (Describe text) r
+pub length_then : (text : List ℕ) (r : Result Presentation Stop) → Settles unit (FitLength text) (Ok tt)
+    → Settles itself (after_length text tt) r → Settles itself (Describe text) r
 length_then text r h k = settled_after_ok unit itself (FitLength text) (after_length text) tt r h k
 
-pub present_then : (text : List ℕ) (P : Presentation) (r : Result Presentation Stop) → Settles itself (Present text) (Ok P) → Settles itself (after_present P) r → Settles itself (after_length text tt) r
+pub present_then : (text : List ℕ) (P : Presentation) (r : Result Presentation Stop)
+    → Settles itself (Present text) (Ok P) → Settles itself (after_present P) r
+    → Settles itself (after_length text tt) r
 present_then text P r h k = settled_after_ok itself itself (Present text) after_present P r h k
 
-pub present_stop : (text : List ℕ) (s : Stop) → Settles itself (Present text) (Err s) → Settles itself (after_length text tt) (Err s)
+pub present_stop : (text : List ℕ) (s : Stop) → Settles itself (Present text) (Err s)
+    → Settles itself (after_length text tt) (Err s)
 present_stop text s h = settled_at_stop itself itself (Present text) after_present s h
 
-pub order_then : (P : Presentation) (r : Result Presentation Stop) → Settles unit (FitOrder P) (Ok tt) → Settles itself (Test P) r → Settles itself (after_present P) r
+pub order_then : (P : Presentation) (r : Result Presentation Stop) → Settles unit (FitOrder P) (Ok tt)
+    → Settles itself (Test P) r → Settles itself (after_present P) r
 order_then P r h k = settled_after_ok unit itself (FitOrder P) (after_order P) tt r h k
 
-pub order_stop : (P : Presentation) (s : Stop) → Settles unit (FitOrder P) (Err s) → Settles itself (after_present P) (Err s)
+pub order_stop : (P : Presentation) (s : Stop) → Settles unit (FitOrder P) (Err s)
+    → Settles itself (after_present P) (Err s)
 order_stop P s h = settled_at_stop unit itself (FitOrder P) (after_order P) s h
 
 abbrev items : Vec ℕ Global → List ℕ
 items v = v.items
 
 module _ (known : Option Content) (path : List ℕ) where
-  pub load_stop : (before now : List ℕ → ℕ) (s : Stop) → IsReadStop path before now s → OfFiles known (λ files. Meets itself (Load path) files files (Err s))
+  pub load_stop : (before now : List ℕ → ℕ) (s : Stop) → IsReadStop path before now s
+      → OfFiles known (λ files. Meets itself (Load path) files files (Err s))
   load_stop before now s h =
-      let some = some_files known in
-      (some.0, some.1, at_stop items itself (ReadFront path) Describe some.0 some.0 s (fault_meets items (ReadFront path) some.0 some.0 path before now s h))
+      let some = some_files known in (
+        some.0,
+        some.1,
+        at_stop items itself (ReadFront path) Describe some.0 some.0 s
+            (fault_meets items (ReadFront path) some.0 some.0 path before now s h),
+      )
 
-  pub load_then : (text : List ℕ) (r : Result Presentation Stop) → ((told : Content) → known ≡ Some told → ReadFront path told (Ok text) told) → length text ≤ LONGEST_TEXT + 1 → Settles itself (Describe text) r → OfFiles known (λ files. Meets itself (Load path) files files r)
+  pub load_then : (text : List ℕ) (r : Result Presentation Stop)
+      → ((told : Content) → known ≡ Some told → ReadFront path told (Ok text) told)
+      → length text ≤ LONGEST_TEXT + 1 → Settles itself (Describe text) r
+      → OfFiles known (λ files. Meets itself (Load path) files files r)
   load_then text r read bound h =
-      let some = read_of_some_files known path text read bound in
-      (some.0, some.1, after_ok (λ (text : List ℕ). text) itself (ReadFront path) Describe some.0 some.0 some.0 text r some.2 (settled_meets itself (Describe text) some.0 r h))
+      let some = read_of_some_files known path text read bound in (
+        some.0,
+        some.1,
+        after_ok (λ (text : List ℕ). text) itself
+            (ReadFront path) Describe some.0 some.0 some.0 text r some.2
+            (settled_meets itself (Describe text) some.0 r h),
+      )

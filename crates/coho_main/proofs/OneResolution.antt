@@ -8,7 +8,8 @@ use Rattle.coho_main.proofs.OneTable.{one_table}
 module _ (P : Presentation) (n : ℕ) where
   pub one_list : (xs ys : List Summary) → AreStagesOf P n xs → AreStagesOf P n ys → xs ≡ ys
   one_list xs ys a b =
-      a.are ∙ sym (subst (λ G. ys ≡ stages_below G (suc n)) (sym (one_table P a.group b.group a.is_table b.is_table)) b.are)
+      a.are ∙ sym (subst (λ G. ys ≡ stages_below G (suc n))
+      (sym (one_table P a.group b.group a.is_table b.is_table)) b.are)
 
   -- what does not fit for the one table does not fit for the other
   moved : (G H : PGroup) (d X : ℕ) → G ≡ H → IsFirstAbove H n d X → IsFirstAbove G n d X

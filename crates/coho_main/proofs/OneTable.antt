@@ -18,18 +18,24 @@ module _ (P : Presentation) (G H : PGroup) (g : IsTableOf P G) (h : IsTableOf P 
   same_rank = g.group.rank-is ∙ sym h.group.rank-is
 
   same_order : order G.table ≡ order H.table
-  same_order = order_is G.table ∙ ap (λ p. p ^ G.table.n) same_prime ∙ ap (λ n. H.table.p ^ n) same_rank ∙ sym (order_is H.table)
+  same_order = order_is G.table ∙ ap (λ p. p ^ G.table.n) same_prime ∙ ap (λ n. H.table.p ^ n) same_rank
+      ∙ sym (order_is H.table)
 
   same_product : (a b : ℕ) → a < order G.table → b < order G.table → product G.table a b ≡ product H.table a b
-  same_product a b l m = g.group.product-is a b l m ∙ sym (h.group.product-is a b (subst (λ n. a < n) same_order l) (subst (λ n. b < n) same_order m))
+  same_product a b l m = g.group.product-is a b l m
+      ∙ sym (h.group.product-is a b (subst (λ n. a < n) same_order l) (subst (λ n. b < n) same_order m))
 
-  at : (a b : ℕ) → a < order G.table → b < order G.table → get_or G.table.entries (a * order G.table + b) 0 ≡ get_or H.table.entries (a * order G.table + b) 0
-  at a b l m = sym (product_is G.table a b) ∙ same_product a b l m ∙ product_is H.table a b ∙ ap (λ n. get_or H.table.entries (a * n + b) 0) (sym same_order)
+  at : (a b : ℕ) → a < order G.table → b < order G.table
+      → get_or G.table.entries (a * order G.table + b) 0 ≡ get_or H.table.entries (a * order G.table + b) 0
+  at a b l m = sym (product_is G.table a b) ∙ same_product a b l m ∙ product_is H.table a b
+      ∙ ap (λ n. get_or H.table.entries (a * n + b) 0) (sym same_order)
 
-  same_entry : (i : ℕ) → i < order G.table * order G.table → get_or G.table.entries i 0 ≡ get_or H.table.entries i 0
+  same_entry : (i : ℕ) → i < order G.table * order G.table
+      → get_or G.table.entries i 0 ≡ get_or H.table.entries i 0
   same_entry i l =
       let above : 0 < order G.table = grind arith in
-      subst (λ k. get_or G.table.entries k 0 ≡ get_or H.table.entries k 0) (div-add-mod' i (order G.table)) (at (i / order G.table) (i % order G.table) ((div-lt_iff_lt-mul above).1 l) (mod-lt i above))
+      subst (λ k. get_or G.table.entries k 0 ≡ get_or H.table.entries k 0) (div-add-mod' i (order G.table))
+      (at (i / order G.table) (i % order G.table) ((div-lt_iff_lt-mul above).1 l) (mod-lt i above))
 
   same_entries : G.table.entries ≡ H.table.entries
   same_entries = same_number_lists G.table.entries H.table.entries

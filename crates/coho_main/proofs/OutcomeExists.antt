@@ -64,7 +64,8 @@ describe : (text : List ℕ) (old : Content) → Ends (Describe text) old
 describe text old =
     then (FitLength text) (after_length text) old (refuse_if _ _ old) (λ _ mid h.
     then (Present text) after_present mid (or_fault (read text) mid) (λ P mid h.
-    then (FitOrder P) (after_order P) mid (refuse_if _ _ mid) (λ _ mid h. unless_false P (first_fault P) mid)))
+    then (FitOrder P) (after_order P) mid (refuse_if _ _ mid)
+    (λ _ mid h. unless_false P (first_fault P) mid)))
 
 load : (path : List ℕ) (old : Content) → Ends (Load path) old
 load path old = then (ReadFront path) Describe old (or_refuse _ _ old) (λ text mid h. describe text mid)
@@ -75,21 +76,25 @@ record IsLoaded (P : Presentation) : Type 0 where
   given : IsGiven P
   consistent : first_fault P ≡ None
 
-read_is : (r : Result Presentation Fault) (P : Presentation) (old new : Content) → OrFault r old (Ok P) new → r ≡ Ok P
+read_is : (r : Result Presentation Fault) (P : Presentation) (old new : Content) → OrFault r old (Ok P) new
+    → r ≡ Ok P
 read_is (Ok Q) P old new h = let e : Q ≡ P = let d = h.0 in cc in ap (λ P. Ok P) e
 read_is (Err fault) P old new h = absurd (let no = h.0 in cc)
 
-none_is : (P Q : Presentation) (o : Option TestName) (old new : Content) → UnlessFalse P o old (Ok Q) new → (o ≡ None) × (P ≡ Q)
+none_is : (P Q : Presentation) (o : Option TestName) (old new : Content) → UnlessFalse P o old (Ok Q) new
+    → (o ≡ None) × (P ≡ Q)
 none_is P Q None old new h = (refl, (let e = h.0 in cc))
 none_is P Q (Some name) old new h = absurd (let no = h.0 in cc)
 
-tested : (text : List ℕ) (P Q : Presentation) (old new : Content) → read text ≡ Ok P → after_present P old (Ok Q) new → IsLoaded Q
+tested : (text : List ℕ) (P Q : Presentation) (old new : Content) → read text ≡ Ok P
+    → after_present P old (Ok Q) new → IsLoaded Q
 tested text P Q old new is (inl h) =
     let e = none_is P Q (first_fault P) h.1 new h.3 in
     subst IsLoaded e.1 (record { given = read_given text P is; consistent = e.0 })
 tested text P Q old new is (inr h) = absurd (let no = h.2 in cc)
 
-presents : (text : List ℕ) (Q : Presentation) (old new : Content) → after_length text tt old (Ok Q) new → IsLoaded Q
+presents : (text : List ℕ) (Q : Presentation) (old new : Content) → after_length text tt old (Ok Q) new
+    → IsLoaded Q
 presents text Q old new (inl h) = tested text h.0 Q h.1 new (read_is (read text) h.0 old h.1 h.2) h.3
 presents text Q old new (inr h) = absurd (let no = h.2 in cc)
 
@@ -105,7 +110,8 @@ loaded path Q old new (inr h) = absurd (let no = h.2 in cc)
 
 module _ (P : Presentation) (is : IsLoaded P) where
   table : (G : PGroup) × IsTableOf P G
-  table = let four = prime_listed P.prime is.given.prime in table_exists P four (above_one P.prime four) is.given.valid is.consistent
+  table = let four = prime_listed P.prime is.given.prime in
+      table_exists P four (above_one P.prime four) is.given.valid is.consistent
 
   abbrev G : PGroup
   G = table.0
@@ -115,26 +121,43 @@ module _ (P : Presentation) (is : IsLoaded P) where
 
   stages : (n : ℕ) (old : Content) → Ends (Stages P n) old
   stages n old = elim (fit_or_first G n) [
-    | inl fit ↦ (Ok (stages_below G (suc n)), old, (record { group = G; is_table = table.1; fit = fit; are = refl }, refl))
-    | inr one ↦ (Err (stage_refused one.0 (dimension G one.0)), old, ((one.0, dimension G one.0, record { group = G; is_table = table.1; is_first = one.1 }, refl), refl))
+    | inl fit ↦ (
+      Ok (stages_below G (suc n)),
+      old,
+      (record { group = G; is_table = table.1; fit = fit; are = refl }, refl),
+    )
+    | inr one ↦ (
+      Err (stage_refused one.0 (dimension G one.0)),
+      old,
+      ((one.0, dimension G one.0, record { group = G; is_table = table.1; is_first = one.1 }, refl), refl),
+    )
   ]
 
   fit_stages : (n : ℕ) (old : Content) → Ends (FitStages P n) old
   fit_stages n old = elim (fit_or_first G n) [
     | inl fit ↦ (Ok tt, old, (record { group = G; is_table = table.1; fit = fit }, refl))
-    | inr one ↦ (Err (stage_refused one.0 (dimension G one.0)), old, ((one.0, dimension G one.0, record { group = G; is_table = table.1; is_first = one.1 }, refl), refl))
+    | inr one ↦ (
+      Err (stage_refused one.0 (dimension G one.0)),
+      old,
+      ((one.0, dimension G one.0, record { group = G; is_table = table.1; is_first = one.1 }, refl), refl),
+    )
   ]
 
   report : (n : ℕ) (old : Content) → Ends (Report P n) old
   report n old = elim (report_or_refusal G n MOST_MONOMIALS) [
     | inl r ↦ (Ok r.0, old, (record { group = G; is_table = table.1; few = r.2; is = r.1 }, refl))
-    | inr one ↦ (Err (monomials_refused one.0 one.1), old, ((one.0, one.1, record { group = G; is_table = table.1; is_first = one.2 }, refl), refl))
+    | inr one ↦ (
+      Err (monomials_refused one.0 one.1),
+      old,
+      ((one.0, one.1, record { group = G; is_table = table.1; is_first = one.2 }, refl), refl),
+    )
   ]
 
 reply : (asked : Command) (old : Content) → Ends (Reply asked) old
 reply (Group path) old =
     then (Load path) after_load old (load path old) (λ P mid h. let is = loaded path P old mid h in
-    then (Layers P) (group_answer P) mid (layers P is mid) (λ dimensions mid h. gives (group_lines P dimensions) mid))
+    then (Layers P) (group_answer P) mid (layers P is mid)
+    (λ dimensions mid h. gives (group_lines P dimensions) mid))
 reply (Resolve path n) old =
     then (Load path) (after_load_of n) old (load path old) (λ P mid h. let is = loaded path P old mid h in
     then (Stages P n) stage_answer mid (stages P is n mid) (λ found mid h. gives (stage_lines found) mid))
@@ -144,7 +167,8 @@ reply (Ring path n) old =
     then (Report P n) report_answer mid (report P is n mid) (λ found mid h. gives (report_lines found) mid)))
 
 comes : (words : List (List ℕ)) (old : Content) → Ends (Comes words) old
-comes words old = then (Ask words) Reply old (or_refuse _ (command words) old) (λ asked mid h. reply asked mid)
+comes words old = then (Ask words) Reply old (or_refuse _ (command words) old)
+    (λ asked mid h. reply asked mid)
 
 pub outcome_exists : (words : List (List ℕ)) (files : Content) → (e : Ending) × Outcome words files e
 outcome_exists words files = let c = comes words files in (ending c.0 c.1, (c.0, c.1, c.2, refl))

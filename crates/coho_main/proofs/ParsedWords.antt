@@ -49,11 +49,13 @@ abbrev at : Held → ℕ → Walk
 at h place = record { held = h; waiting = idle; position = place; is_trailing = false; stopped = None }
 
 module _ (word : Text) (plain : is_path word ≡ true) where
-  walked_is : (c : List Rule) (h : Held) (place : ℕ) → walked c [] (at h place) word ≡ to_positional c (arg_by_index c place) word (at h place) h
+  walked_is : (c : List Rule) (h : Held) (place : ℕ)
+      → walked c [] (at h place) word ≡ to_positional c (arg_by_index c place) word (at h place) h
   unfolding walked
   walked_is c h place = rw (no_dashes word plain, no_long word plain, no_short word plain) refl
 
-  turn_is : (s : Shape) (h : Held) (place : ℕ) → turn_fault s [] (at h place) word ≡ step_fault s place h value
+  turn_is : (s : Shape) (h : Held) (place : ℕ)
+      → turn_fault s [] (at h place) word ≡ step_fault s place h value
   turn_is s h place = rw (no_dashes word plain, no_long word plain, no_short word plain) refl
 
 -- ---- a command with one positional, and one with two
@@ -73,46 +75,64 @@ two = with_rule one (positional (codes "degree"))
 abbrev first_held : Text → Held
 first_held a = record { rows = []; pending = Some (codes "file", a ∷ []); skip = 0 }
 
-first_walk : (a : Text) → is_path a ≡ true → walked (built one).top.rules [] (at nothing_held 1) a ≡ at (first_held a) 2
+first_walk : (a : Text) → is_path a ≡ true
+    → walked (built one).top.rules [] (at nothing_held 1) a ≡ at (first_held a) 2
 first_walk a plain = walked_is a plain (built one).top.rules nothing_held 1
 
 one_taken : (name a : Text) → is_path a ≡ true → fault_of one (name ∷ a ∷ []) ≡ []
 unfolding walk_fault defaults_fault
 one_taken name a plain = rw (first_walk a plain, turn_is a plain (built one).top nothing_held 1) refl
 
-one_found : (name a : Text) → is_path a ≡ true → first_of (codes "file") (matches_of one (name ∷ a ∷ [])) ≡ Some a
+one_found : (name a : Text) → is_path a ≡ true
+    → first_of (codes "file") (matches_of one (name ∷ a ∷ [])) ≡ Some a
 one_found name a plain = rw (first_walk a plain) refl
 
-one_more : (name a b : Text) (rest : List Text) → is_path a ≡ true → is_path b ≡ true → fault_of one (name ∷ a ∷ b ∷ rest) ≡ UnknownArgument ∷ []
+one_more : (name a b : Text) (rest : List Text) → is_path a ≡ true → is_path b ≡ true
+    → fault_of one (name ∷ a ∷ b ∷ rest) ≡ UnknownArgument ∷ []
 unfolding walk_fault defaults_fault
 one_more name a b rest plain other =
-    rw (first_walk a plain, turn_is a plain (built one).top nothing_held 1, turn_is b other (built one).top (first_held a) 2) refl
+    rw (
+      first_walk a plain,
+      turn_is a plain (built one).top nothing_held 1,
+      turn_is b other (built one).top (first_held a) 2,
+    ) refl
 
-two_first : (a : Text) → is_path a ≡ true → walked (built two).top.rules [] (at nothing_held 1) a ≡ at (first_held a) 2
+two_first : (a : Text) → is_path a ≡ true
+    → walked (built two).top.rules [] (at nothing_held 1) a ≡ at (first_held a) 2
 two_first a plain = walked_is a plain (built two).top.rules nothing_held 1
 
 abbrev second_held : Text → Text → Held
-second_held a b = (to_positional (built two).top.rules (arg_by_index (built two).top.rules 2) b (at (first_held a) 2) (first_held a)).held
+second_held a b = (to_positional (built two).top.rules (arg_by_index (built two).top.rules 2) b
+    (at (first_held a) 2) (first_held a)).held
 
-two_second : (a b : Text) → is_path b ≡ true → walked (built two).top.rules [] (at (first_held a) 2) b ≡ at (second_held a b) 3
+two_second : (a b : Text) → is_path b ≡ true
+    → walked (built two).top.rules [] (at (first_held a) 2) b ≡ at (second_held a b) 3
 two_second a b plain = walked_is b plain (built two).top.rules (first_held a) 2
 
 two_taken : (name a b : Text) → is_path a ≡ true → is_path b ≡ true → fault_of two (name ∷ a ∷ b ∷ []) ≡ []
 unfolding walk_fault defaults_fault
 two_taken name a b plain other =
-    rw (two_first a plain, two_second a b other, turn_is a plain (built two).top nothing_held 1, turn_is b other (built two).top (first_held a) 2) refl
+    rw (
+      two_first a plain,
+      two_second a b other,
+      turn_is a plain (built two).top nothing_held 1,
+      turn_is b other (built two).top (first_held a) 2,
+    ) refl
 
-two_files : (name a b : Text) → is_path a ≡ true → is_path b ≡ true → first_of (codes "file") (matches_of two (name ∷ a ∷ b ∷ [])) ≡ Some a
+two_files : (name a b : Text) → is_path a ≡ true → is_path b ≡ true
+    → first_of (codes "file") (matches_of two (name ∷ a ∷ b ∷ [])) ≡ Some a
 two_files name a b plain other = rw (two_first a plain, two_second a b other) refl
 
-two_degrees : (name a b : Text) → is_path a ≡ true → is_path b ≡ true → first_of (codes "degree") (matches_of two (name ∷ a ∷ b ∷ [])) ≡ Some b
+two_degrees : (name a b : Text) → is_path a ≡ true → is_path b ≡ true
+    → first_of (codes "degree") (matches_of two (name ∷ a ∷ b ∷ [])) ≡ Some b
 two_degrees name a b plain other = rw (two_first a plain, two_second a b other) refl
 
 two_fewer : (name a : Text) → is_path a ≡ true → fault_of two (name ∷ a ∷ []) ≡ MissingRequiredArgument ∷ []
 unfolding walk_fault defaults_fault
 two_fewer name a plain = rw (two_first a plain, turn_is a plain (built two).top nothing_held 1) refl
 
-two_more : (name a b c : Text) (rest : List Text) → is_path a ≡ true → is_path b ≡ true → is_path c ≡ true → fault_of two (name ∷ a ∷ b ∷ c ∷ rest) ≡ UnknownArgument ∷ []
+two_more : (name a b c : Text) (rest : List Text) → is_path a ≡ true → is_path b ≡ true → is_path c ≡ true
+    → fault_of two (name ∷ a ∷ b ∷ c ∷ rest) ≡ UnknownArgument ∷ []
 unfolding walk_fault defaults_fault
 two_more name a b c rest plain other more =
     rw (
@@ -128,7 +148,8 @@ two_more name a b c rest plain other more =
 wanting : (k : ErrorKind) → ◌≡◌ {A = Kinds} (k ∷ []) [] → ⊥
 wanting k e = absurd (cc)
 
-pub one_is : (words : List Text) → list_all is_path words ≡ true → fault_of one words ≡ [] → (path : Text) × (one_operand words ≡ Some path) × (first_of (codes "file") (matches_of one words) ≡ Some path)
+pub one_is : (words : List Text) → list_all is_path words ≡ true → fault_of one words ≡ [] → (path : Text)
+    × (one_operand words ≡ Some path) × (first_of (codes "file") (matches_of one words) ≡ Some path)
 unfolding walk_fault defaults_fault
 one_is [] h e = absurd (wanting MissingRequiredArgument e)
 one_is (name ∷ []) h e = absurd (wanting MissingRequiredArgument e)
@@ -137,18 +158,23 @@ one_is (name ∷ a ∷ b ∷ rest) h e =
     let p = both _ _ (both _ _ h).1 in
     absurd (wanting UnknownArgument (sym (one_more name a b rest p.0 (both _ _ p.1).0) ∙ e))
 
-pub one_none : (words : List Text) (k : ErrorKind) → list_all is_path words ≡ true → IsAmong k (fault_of one words) → one_operand words ≡ None
+pub one_none : (words : List Text) (k : ErrorKind) → list_all is_path words ≡ true
+    → IsAmong k (fault_of one words) → one_operand words ≡ None
 one_none [] k h f = refl
 one_none (name ∷ []) k h f = refl
-one_none (name ∷ a ∷ []) k h f = let p = both _ _ (both _ _ h).1 in absurd (subst (IsAmong k) (one_taken name a p.0) f)
+one_none (name ∷ a ∷ []) k h f = let p = both _ _ (both _ _ h).1 in
+    absurd (subst (IsAmong k) (one_taken name a p.0) f)
 one_none (name ∷ a ∷ b ∷ rest) k h f = refl
 
 pub two_are : (words : List Text) → list_all is_path words ≡ true → fault_of two words ≡ []
-    → (path : Text) × (degree : Text) × (two_operands words ≡ Some (path, degree)) × (first_of (codes "file") (matches_of two words) ≡ Some path) × (first_of (codes "degree") (matches_of two words) ≡ Some degree)
+    → (path : Text) × (degree : Text) × (two_operands words ≡ Some (path, degree))
+    × (first_of (codes "file") (matches_of two words) ≡ Some path)
+    × (first_of (codes "degree") (matches_of two words) ≡ Some degree)
 unfolding walk_fault defaults_fault
 two_are [] h e = absurd (wanting MissingRequiredArgument e)
 two_are (name ∷ []) h e = absurd (wanting MissingRequiredArgument e)
-two_are (name ∷ a ∷ []) h e = let p = both _ _ (both _ _ h).1 in absurd (wanting MissingRequiredArgument (sym (two_fewer name a p.0) ∙ e))
+two_are (name ∷ a ∷ []) h e = let p = both _ _ (both _ _ h).1 in
+    absurd (wanting MissingRequiredArgument (sym (two_fewer name a p.0) ∙ e))
 two_are (name ∷ a ∷ b ∷ []) h e =
     let p = both _ _ (both _ _ h).1 in
     let q = (both _ _ p.1).0 in
@@ -158,7 +184,8 @@ two_are (name ∷ a ∷ b ∷ c ∷ rest) h e =
     let q = both _ _ p.1 in
     absurd (wanting UnknownArgument (sym (two_more name a b c rest p.0 q.0 (both _ _ q.1).0) ∙ e))
 
-pub two_none : (words : List Text) (k : ErrorKind) → list_all is_path words ≡ true → IsAmong k (fault_of two words) → two_operands words ≡ None
+pub two_none : (words : List Text) (k : ErrorKind) → list_all is_path words ≡ true
+    → IsAmong k (fault_of two words) → two_operands words ≡ None
 two_none [] k h f = refl
 two_none (name ∷ []) k h f = refl
 two_none (name ∷ a ∷ []) k h f = refl
@@ -169,41 +196,62 @@ two_none (name ∷ a ∷ b ∷ c ∷ rest) k h f = refl
 
 -- ---- the same of the commands as they are built, and of what their getters read
 
-module _ (fresh disabled command : Command) (new : app_of fresh ≡ new_app (codes "coho")) (set : out-Command disabled ≡ record (out-Command fresh) { disable_help_flag = true }) (file : Arg) (is_file : rule_of file ≡ positional (codes "file")) (added : app_of command ≡ with_rule (app_of disabled) (rule_of file)) where
+module _ (fresh disabled command : Command) (new : app_of fresh ≡ new_app (codes "coho"))
+    (set : out-Command disabled ≡ record (out-Command fresh) { disable_help_flag = true }) (file : Arg)
+    (is_file : rule_of file ≡ positional (codes "file"))
+    (added : app_of command ≡ with_rule (app_of disabled) (rule_of file)) where
   pub one_built : app_of command ≡ one
-  one_built = added ∙ ap₂ with_rule (ap app_of_fields set ∙ ap (on_top (λ s. record s { disable_help_flag = true })) new) is_file
+  one_built = added ∙ ap₂ with_rule (ap app_of_fields set
+      ∙ ap (on_top (λ s. record s { disable_help_flag = true })) new) is_file
 
-  pub two_built : (longer : Command) (degree : Arg) → rule_of degree ≡ positional (codes "degree") → app_of longer ≡ with_rule (app_of command) (rule_of degree) → app_of longer ≡ two
+  pub two_built : (longer : Command) (degree : Arg) → rule_of degree ≡ positional (codes "degree")
+      → app_of longer ≡ with_rule (app_of command) (rule_of degree) → app_of longer ≡ two
   two_built longer degree is_degree more = more ∙ ap₂ with_rule one_built is_degree
 
-first_in : (m : ArgMatches) (id : Text) (rows : List Row) (word : Text) → rows_of (found_of m) ≡ rows → first_of id rows ≡ Some word → first_value (found_of m) id ≡ Some word
+first_in : (m : ArgMatches) (id : Text) (rows : List Row) (word : Text) → rows_of (found_of m) ≡ rows
+    → first_of id rows ≡ Some word → first_value (found_of m) id ≡ Some word
 first_in m id rows word is first = first_value-rows (found_of m) id ∙ ap (first_of id) is ∙ first
 
 module _ (words : List Text) (plain : list_all is_path words ≡ true) (a : App) where
-  pub one_read : a ≡ one → (m : ArgMatches) → (is_simple_and_free a ≡ true → fault_of a words ≡ []) → HasMatchesOf a words m
-      → (file : Text) × (one_operand words ≡ Some file) × (first_value (found_of m) (codes "file") ≡ Some file)
+  pub one_read : a ≡ one → (m : ArgMatches) → (is_simple_and_free a ≡ true → fault_of a words ≡ [])
+      → HasMatchesOf a words m
+      → (file : Text) × (one_operand words ≡ Some file)
+      × (first_value (found_of m) (codes "file") ≡ Some file)
   one_read same m free has =
       let found = one_is words plain (rw same at free refl) in
       let rows = (rw same at has refl).0 in
       (found.0, found.1, first_in m (codes "file") (matches_of one words) found.0 rows found.2)
 
-  pub one_refused : a ≡ one → (e : Error) → (is_simple_and_free a ≡ true → HasKind (fault_of a words) e) → (kind_of e ≡ OutOfMemory) ⊎ (one_operand words ≡ None)
-  one_refused same e fails = ⊎_elim (λ h. inl h) (λ h. inr (one_none words (kind_of e) plain h)) (rw same at fails refl)
+  pub one_refused : a ≡ one → (e : Error) → (is_simple_and_free a ≡ true → HasKind (fault_of a words) e)
+      → (kind_of e ≡ OutOfMemory) ⊎ (one_operand words ≡ None)
+  one_refused same e fails = ⊎_elim (λ h. inl h) (λ h. inr (one_none words (kind_of e) plain h))
+      (rw same at fails refl)
 
-  pub two_read : a ≡ two → (m : ArgMatches) → (is_simple_and_free a ≡ true → fault_of a words ≡ []) → HasMatchesOf a words m
-      → (file : Text) × (degree : Text) × (two_operands words ≡ Some (file, degree)) × (first_value (found_of m) (codes "file") ≡ Some file) × (first_value (found_of m) (codes "degree") ≡ Some degree)
+  pub two_read : a ≡ two → (m : ArgMatches) → (is_simple_and_free a ≡ true → fault_of a words ≡ [])
+      → HasMatchesOf a words m
+      → (file : Text) × (degree : Text) × (two_operands words ≡ Some (file, degree))
+      × (first_value (found_of m) (codes "file") ≡ Some file)
+      × (first_value (found_of m) (codes "degree") ≡ Some degree)
   two_read same m free has =
       let found = two_are words plain (rw same at free refl) in
-      let rows = (rw same at has refl).0 in
-      (found.0, found.1, found.2, first_in m (codes "file") (matches_of two words) found.0 rows found.3, first_in m (codes "degree") (matches_of two words) found.1 rows found.4)
+      let rows = (rw same at has refl).0 in (
+        found.0,
+        found.1,
+        found.2,
+        first_in m (codes "file") (matches_of two words) found.0 rows found.3,
+        first_in m (codes "degree") (matches_of two words) found.1 rows found.4,
+      )
 
-  pub two_refused : a ≡ two → (e : Error) → (is_simple_and_free a ≡ true → HasKind (fault_of a words) e) → (kind_of e ≡ OutOfMemory) ⊎ (two_operands words ≡ None)
-  two_refused same e fails = ⊎_elim (λ h. inl h) (λ h. inr (two_none words (kind_of e) plain h)) (rw same at fails refl)
+  pub two_refused : a ≡ two → (e : Error) → (is_simple_and_free a ≡ true → HasKind (fault_of a words) e)
+      → (kind_of e ≡ OutOfMemory) ⊎ (two_operands words ≡ None)
+  two_refused same e fails = ⊎_elim (λ h. inl h) (λ h. inr (two_none words (kind_of e) plain h))
+      (rw same at fails refl)
 
 some_is : {A : Type 0} (x y : A) → ◌≡◌ {A = Option A} (Some x) (Some y) → x ≡ y
 some_is x y e = cc
 
-pub two_given : (o : Option (Text × Text)) (f d : Option Text) (x y a b : Text) → o ≡ Some (x, y) → f ≡ Some x → d ≡ Some y → f ≡ Some a → d ≡ Some b → o ≡ Some (a, b)
+pub two_given : (o : Option (Text × Text)) (f d : Option Text) (x y a b : Text) → o ≡ Some (x, y) → f ≡ Some x
+    → d ≡ Some y → f ≡ Some a → d ≡ Some b → o ≡ Some (a, b)
 two_given o f d x y a b is first second file degree =
     let same = some_is x a (sym first ∙ file) in
     let other = some_is y b (sym second ∙ degree) in

@@ -59,23 +59,41 @@ abbrev pub MeetsOf : {T A : Type 0} → (T → A) → Step A → Option Content 
 MeetsOf view step known r = OfFiles known (λ files. Meets view step files files r)
 
 module _ (known : Option Content) where
-  pub group_stop : (path : List ℕ) (s : Stop) → MeetsOf itself (Load path) known (Err s) → MeetsOf lines_of (Reply (Group path)) known (Err s)
+  pub group_stop : (path : List ℕ) (s : Stop) → MeetsOf itself (Load path) known (Err s)
+      → MeetsOf lines_of (Reply (Group path)) known (Err s)
   group_stop path s h = (h.0, h.1, at_stop itself lines_of (Load path) after_load h.0 h.0 s h.2)
 
-  pub group_then : (path : List ℕ) (P : Presentation) (dimensions : List ℕ) (lines : Lines) → MeetsOf itself (Load path) known (Ok P) → AreLayerSizes P dimensions → contents lines.items ≡ group_lines P dimensions → MeetsOf lines_of (Reply (Group path)) known (Ok lines)
-  group_then path P dimensions lines h are e =
-      (h.0, h.1, after_ok itself lines_of (Load path) after_load h.0 h.0 h.0 P (Ok lines) h.2 (inl (dimensions, h.0, (are, refl), (ap (λ ls. Ok ls) e, refl))))
+  pub group_then : (path : List ℕ) (P : Presentation) (dimensions : List ℕ) (lines : Lines)
+      → MeetsOf itself (Load path) known (Ok P) → AreLayerSizes P dimensions
+      → contents lines.items ≡ group_lines P dimensions
+      → MeetsOf lines_of (Reply (Group path)) known (Ok lines)
+  group_then path P dimensions lines h are e = (
+    h.0,
+    h.1,
+    after_ok itself lines_of (Load path) after_load h.0 h.0 h.0 P (Ok lines) h.2
+        (inl (dimensions, h.0, (are, refl), (ap (λ ls. Ok ls) e, refl))),
+  )
 
   module _ (path : List ℕ) (n : ℕ) where
-    pub resolve_stop : (s : Stop) → MeetsOf itself (Load path) known (Err s) → MeetsOf lines_of (Reply (Resolve path n)) known (Err s)
+    pub resolve_stop : (s : Stop) → MeetsOf itself (Load path) known (Err s)
+        → MeetsOf lines_of (Reply (Resolve path n)) known (Err s)
     resolve_stop s h = (h.0, h.1, at_stop itself lines_of (Load path) (after_load_of n) h.0 h.0 s h.2)
 
-    pub resolve_then : (P : Presentation) (stages : List Summary) (lines : Lines) → MeetsOf itself (Load path) known (Ok P) → AreStagesOf P n stages → contents lines.items ≡ stage_lines stages → MeetsOf lines_of (Reply (Resolve path n)) known (Ok lines)
-    resolve_then P stages lines h are e =
-        (h.0, h.1, after_ok itself lines_of (Load path) (after_load_of n) h.0 h.0 h.0 P (Ok lines) h.2 (inl (stages, h.0, (are, refl), (ap (λ ls. Ok ls) e, refl))))
+    pub resolve_then : (P : Presentation) (stages : List Summary) (lines : Lines)
+        → MeetsOf itself (Load path) known (Ok P) → AreStagesOf P n stages
+        → contents lines.items ≡ stage_lines stages
+        → MeetsOf lines_of (Reply (Resolve path n)) known (Ok lines)
+    resolve_then P stages lines h are e = (
+      h.0,
+      h.1,
+      after_ok itself lines_of (Load path) (after_load_of n) h.0 h.0 h.0 P (Ok lines) h.2
+          (inl (stages, h.0, (are, refl), (ap (λ ls. Ok ls) e, refl))),
+    )
 
-    stage_stop : (P : Presentation) (files : Content) (s : Stop) → IsStageStop P n s → Meets lines_of (after_load_of n P) files files (Err s)
-    stage_stop P files (stop.Refused (cause.Stage d X)) h = inr (stage_refused d X, ((d, X, h, refl), refl), refl)
+    stage_stop : (P : Presentation) (files : Content) (s : Stop) → IsStageStop P n s
+        → Meets lines_of (after_load_of n P) files files (Err s)
+    stage_stop P files (stop.Refused (cause.Stage d X)) h =
+        inr (stage_refused d X, ((d, X, h, refl), refl), refl)
     stage_stop P files (stop.Refused cause.Words) h = absurd h
     stage_stop P files (stop.Refused cause.Length) h = absurd h
     stage_stop P files (stop.Refused (cause.Text kind line column)) h = absurd h
@@ -86,15 +104,23 @@ module _ (known : Option Content) where
     stage_stop P files stop.Write h = absurd h
     stage_stop P files stop.Memory h = tt
 
-    pub resolve_refused : (P : Presentation) (s : Stop) → MeetsOf itself (Load path) known (Ok P) → IsStageStop P n s → MeetsOf lines_of (Reply (Resolve path n)) known (Err s)
-    resolve_refused P s h k =
-        (h.0, h.1, after_ok itself lines_of (Load path) (after_load_of n) h.0 h.0 h.0 P (Err s) h.2 (stage_stop P h.0 s k))
+    pub resolve_refused : (P : Presentation) (s : Stop) → MeetsOf itself (Load path) known (Ok P)
+        → IsStageStop P n s → MeetsOf lines_of (Reply (Resolve path n)) known (Err s)
+    resolve_refused P s h k = (
+      h.0,
+      h.1,
+      after_ok itself lines_of (Load path) (after_load_of n) h.0 h.0 h.0 P (Err s) h.2
+          (stage_stop P h.0 s k),
+    )
 
-    pub ring_stop : (s : Stop) → MeetsOf itself (Load path) known (Err s) → MeetsOf lines_of (Reply (Ring path n)) known (Err s)
+    pub ring_stop : (s : Stop) → MeetsOf itself (Load path) known (Err s)
+        → MeetsOf lines_of (Reply (Ring path n)) known (Err s)
     ring_stop s h = (h.0, h.1, at_stop itself lines_of (Load path) (after_load_ring n) h.0 h.0 s h.2)
 
-    fit_stop : (P : Presentation) (files : Content) (s : Stop) → IsStageStop P n s → Meets lines_of (after_load_ring n P) files files (Err s)
-    fit_stop P files (stop.Refused (cause.Stage d X)) h = inr (stage_refused d X, ((d, X, h, refl), refl), refl)
+    fit_stop : (P : Presentation) (files : Content) (s : Stop) → IsStageStop P n s
+        → Meets lines_of (after_load_ring n P) files files (Err s)
+    fit_stop P files (stop.Refused (cause.Stage d X)) h =
+        inr (stage_refused d X, ((d, X, h, refl), refl), refl)
     fit_stop P files (stop.Refused cause.Words) h = absurd h
     fit_stop P files (stop.Refused cause.Length) h = absurd h
     fit_stop P files (stop.Refused (cause.Text kind line column)) h = absurd h
@@ -105,12 +131,19 @@ module _ (known : Option Content) where
     fit_stop P files stop.Write h = absurd h
     fit_stop P files stop.Memory h = tt
 
-    pub ring_refused : (P : Presentation) (s : Stop) → MeetsOf itself (Load path) known (Ok P) → IsStageStop P n s → MeetsOf lines_of (Reply (Ring path n)) known (Err s)
-    ring_refused P s h k =
-        (h.0, h.1, after_ok itself lines_of (Load path) (after_load_ring n) h.0 h.0 h.0 P (Err s) h.2 (fit_stop P h.0 s k))
+    pub ring_refused : (P : Presentation) (s : Stop) → MeetsOf itself (Load path) known (Ok P)
+        → IsStageStop P n s → MeetsOf lines_of (Reply (Ring path n)) known (Err s)
+    ring_refused P s h k = (
+      h.0,
+      h.1,
+      after_ok itself lines_of (Load path) (after_load_ring n) h.0 h.0 h.0 P (Err s) h.2
+          (fit_stop P h.0 s k),
+    )
 
-    report_stop : (P : Presentation) (files : Content) (s : Stop) → HasFitStages P n → IsReportStop P n s → Meets lines_of (after_load_ring n P) files files (Err s)
-    report_stop P files (stop.Refused (cause.Monomials d X)) fit h = inl (tt, files, (fit, refl), inr (monomials_refused d X, ((d, X, h, refl), refl), refl))
+    report_stop : (P : Presentation) (files : Content) (s : Stop) → HasFitStages P n → IsReportStop P n s
+        → Meets lines_of (after_load_ring n P) files files (Err s)
+    report_stop P files (stop.Refused (cause.Monomials d X)) fit h =
+        inl (tt, files, (fit, refl), inr (monomials_refused d X, ((d, X, h, refl), refl), refl))
     report_stop P files (stop.Refused (cause.Stage d X)) fit h = absurd h
     report_stop P files (stop.Refused cause.Words) fit h = absurd h
     report_stop P files (stop.Refused cause.Length) fit h = absurd h
@@ -121,11 +154,18 @@ module _ (known : Option Content) where
     report_stop P files stop.Write fit h = absurd h
     report_stop P files stop.Memory fit h = tt
 
-    pub ring_too_many : (P : Presentation) (s : Stop) → MeetsOf itself (Load path) known (Ok P) → HasFitStages P n → IsReportStop P n s → MeetsOf lines_of (Reply (Ring path n)) known (Err s)
-    ring_too_many P s h fit k =
-        (h.0, h.1, after_ok itself lines_of (Load path) (after_load_ring n) h.0 h.0 h.0 P (Err s) h.2 (report_stop P h.0 s fit k))
+    pub ring_too_many : (P : Presentation) (s : Stop) → MeetsOf itself (Load path) known (Ok P)
+        → HasFitStages P n → IsReportStop P n s → MeetsOf lines_of (Reply (Ring path n)) known (Err s)
+    ring_too_many P s h fit k = (
+      h.0,
+      h.1,
+      after_ok itself lines_of (Load path) (after_load_ring n) h.0 h.0 h.0 P (Err s) h.2
+          (report_stop P h.0 s fit k),
+    )
 
-    pub ring_then : (P : Presentation) (report : ReportValue) (lines : Lines) → MeetsOf itself (Load path) known (Ok P) → HasFitStages P n → IsReportOf P n report → contents lines.items ≡ report_lines report → MeetsOf lines_of (Reply (Ring path n)) known (Ok lines)
+    pub ring_then : (P : Presentation) (report : ReportValue) (lines : Lines)
+        → MeetsOf itself (Load path) known (Ok P) → HasFitStages P n → IsReportOf P n report
+        → contents lines.items ≡ report_lines report → MeetsOf lines_of (Reply (Ring path n)) known (Ok lines)
     ring_then P report lines h fit is e = (
       h.0,
       h.1,
@@ -134,15 +174,23 @@ module _ (known : Option Content) where
     )
 
   -- a call that wants memory meets every step
-  pub memory_meets : {T A : Type 0} (view : T → A) (step : Step A) (s : Stop) → s ≡ stop.Memory → MeetsOf view step known (Err s)
+  pub memory_meets : {T A : Type 0} (view : T → A) (step : Step A) (s : Stop) → s ≡ stop.Memory
+      → MeetsOf view step known (Err s)
   memory_meets {T} view step s e =
       let some = some_files known in
       (some.0, some.1, subst (λ s. Meets view step some.0 some.0 (Err s)) (sym e) tt)
 
-  pub ask_stop : (words : List (List ℕ)) (s : Stop) → Settles asked (Ask words) (Err s) → MeetsOf lines_of (Comes words) known (Err s)
+  pub ask_stop : (words : List (List ℕ)) (s : Stop) → Settles asked (Ask words) (Err s)
+      → MeetsOf lines_of (Comes words) known (Err s)
   ask_stop words s h =
-      let some = some_files known in
-      (some.0, some.1, at_stop asked lines_of (Ask words) Reply some.0 some.0 s (settled_meets asked (Ask words) some.0 (Err s) h))
+      let some = some_files known in (
+        some.0,
+        some.1,
+        at_stop asked lines_of (Ask words) Reply some.0 some.0 s
+            (settled_meets asked (Ask words) some.0 (Err s) h),
+      )
 
-  pub ask_then : (words : List (List ℕ)) (c : Named) (r : Result Lines Stop) → Settles asked (Ask words) (Ok c) → MeetsOf lines_of (Reply (asked c)) known r → MeetsOf lines_of (Comes words) known r
+  pub ask_then : (words : List (List ℕ)) (c : Named) (r : Result Lines Stop)
+      → Settles asked (Ask words) (Ok c) → MeetsOf lines_of (Reply (asked c)) known r
+      → MeetsOf lines_of (Comes words) known r
   ask_then words c r h k = (k.0, k.1, after_ok asked lines_of (Ask words) Reply k.0 k.0 k.0 c r (h k.0) k.2)

@@ -41,15 +41,22 @@ same_bytes xs = grind (arith, bytes_eq-Decides xs xs)
 put_is_there : (path bytes : List ℕ) → file (with_file no_files path bytes) path ≡ Some bytes
 put_is_there path bytes =
     ap (or_outside false) (get-insert nat_list_cmp_total no_map path bytes path)
-    ∙ ap (λ b. or_outside false (cond b (Some bytes) (get no_map path))) (is_eq-slice_cmp path path ∙ same_bytes path)
+    ∙ ap (λ b. or_outside false (cond b (Some bytes) (get no_map path))) (is_eq-slice_cmp path path
+    ∙ same_bytes path)
 
-reads_front : (path text : List ℕ) (files : Content) → option_map (take (LONGEST_TEXT + 1)) (file files path) ≡ Some text → ReadFront path files (Ok text) files
-reads_front path text files e = subst (λ o. OrRefuse (read_refused path) o files (Ok text) files) (sym e) (refl, refl)
+reads_front : (path text : List ℕ) (files : Content)
+    → option_map (take (LONGEST_TEXT + 1)) (file files path) ≡ Some text
+    → ReadFront path files (Ok text) files
+reads_front path text files e = subst (λ o. OrRefuse (read_refused path) o files (Ok text) files) (sym e)
+    (refl, refl)
 
 -- a text that was read is the front of a file, that of some files where none are told
-pub read_of_some_files : (known : Option Content) (path text : List ℕ) → ((told : Content) → known ≡ Some told → ReadFront path told (Ok text) told) → length text ≤ LONGEST_TEXT + 1 → OfFiles known (λ files. ReadFront path files (Ok text) files)
+pub read_of_some_files : (known : Option Content) (path text : List ℕ)
+    → ((told : Content) → known ≡ Some told → ReadFront path told (Ok text) told)
+    → length text ≤ LONGEST_TEXT + 1 → OfFiles known (λ files. ReadFront path files (Ok text) files)
 read_of_some_files (Some files) path text read bound = (files, some_told files, read files refl)
 read_of_some_files None path text read bound =
     let files = with_file no_files path text in
-    let front = ap (option_map (take (LONGEST_TEXT + 1))) (put_is_there path text) ∙ ap (λ t. Some t) (take_all (LONGEST_TEXT + 1) text bound) in
+    let front = ap (option_map (take (LONGEST_TEXT + 1))) (put_is_there path text)
+    ∙ ap (λ t. Some t) (take_all (LONGEST_TEXT + 1) text bound) in
     (files, none_told files, reads_front path text files front)

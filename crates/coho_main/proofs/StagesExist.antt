@@ -26,15 +26,43 @@ pub all_or_first : (f : ℕ → ℕ) (cap n : ℕ) → AllWithin f cap n ⊎ ((d
 all_or_first f cap zero = inl (λ d from to. absurd (omega (arith, from, to)))
 all_or_first f cap (suc n) = go (all_or_first f cap n) (cases_lt cap (f (suc n)))
   where
-    go : AllWithin f cap n ⊎ ((d : ℕ) × IsFirst f cap n d) → (cap < f (suc n)) ⊎ (f (suc n) ≤ cap) → AllWithin f cap (suc n) ⊎ ((d : ℕ) × IsFirst f cap (suc n) d)
-    go (inl all) (inl above) = inr (suc n, record { from = omega arith; to = omega arith; above = above; first = λ c from less. all c from (omega (arith, less)) })
+    go : AllWithin f cap n ⊎ ((d : ℕ) × IsFirst f cap n d) → (cap < f (suc n)) ⊎ (f (suc n) ≤ cap)
+        → AllWithin f cap (suc n) ⊎ ((d : ℕ) × IsFirst f cap (suc n) d)
+    go (inl all) (inl above) = inr (
+      suc n,
+      record {
+        from = omega arith;
+        to = omega arith;
+        above = above;
+        first = λ c from less. all c from (omega (arith, less));
+      },
+    )
     go (inl all) (inr within) = inl (one_more f cap n all within)
-    go (inr one) c = inr (one.0, record { from = one.1.from; to = (let l = one.1.to in omega (arith, l)); above = one.1.above; first = one.1.first })
+    go (inr one) c = inr (
+      one.0,
+      record {
+        from = one.1.from;
+        to = (let l = one.1.to in omega (arith, l));
+        above = one.1.above;
+        first = one.1.first;
+      },
+    )
 
 module _ (G : PGroup) where
   pub fit_or_first : (n : ℕ) → Fit G n ⊎ ((d : ℕ) × IsFirstAbove G n d (dimension G d))
   fit_or_first n = go (all_or_first (dimension G) GREATEST_DIMENSION n)
     where
-      go : AllWithin (dimension G) GREATEST_DIMENSION n ⊎ ((d : ℕ) × IsFirst (dimension G) GREATEST_DIMENSION n d) → Fit G n ⊎ ((d : ℕ) × IsFirstAbove G n d (dimension G d))
+      go : AllWithin (dimension G) GREATEST_DIMENSION n
+          ⊎ ((d : ℕ) × IsFirst (dimension G) GREATEST_DIMENSION n d) → Fit G n
+          ⊎ ((d : ℕ) × IsFirstAbove G n d (dimension G d))
       go (inl all) = inl all
-      go (inr one) = inr (one.0, record { from = one.1.from; to = one.1.to; is = refl; above = one.1.above; first = one.1.first })
+      go (inr one) = inr (
+        one.0,
+        record {
+          from = one.1.from;
+          to = one.1.to;
+          is = refl;
+          above = one.1.above;
+          first = one.1.first;
+        },
+      )

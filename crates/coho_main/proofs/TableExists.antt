@@ -47,7 +47,8 @@ module _ (P : Presentation) (C : GroupClaims P) where
       ∙ ap (table P a) (remainder a b m)
 
   is-group : IsGroupTable G
-  is-group = subst (λ m. IsGroup m (product G)) (sym order-of) (group-same size (table P) (product G) product-of C.table-group)
+  is-group = subst (λ m. IsGroup m (product G)) (sym order-of)
+      (group-same size (table P) (product G) product-of C.table-group)
 
   is-table : IsTable G
   unfolding G
@@ -65,8 +66,11 @@ module _ (P : Presentation) (C : GroupClaims P) where
     product-is = λ a b h k. let e = order-of in product-of a b (omega (arith, e, h)) (omega (arith, e, k));
   }
 
-pub table_exists : (P : Presentation) → IsSmallPrime P.prime → 1 < P.prime → IsPresentation P → first_fault P ≡ None → (G : PGroup) × IsTableOf P G
+pub table_exists : (P : Presentation) → IsSmallPrime P.prime → 1 < P.prime → IsPresentation P
+    → first_fault P ≡ None → (G : PGroup) × IsTableOf P G
 unfolding G
 table_exists P prime above valid none =
-    let C = claims P above valid none in
-    (record { table = G P C; law = record { law = is-group P C; prime = prime } }, record { table = is-table P C; group = is-group-of P C })
+    let C = claims P above valid none in (
+      record { table = G P C; law = record { law = is-group P C; prime = prime } },
+      record { table = is-table P C; group = is-group-of P C },
+    )

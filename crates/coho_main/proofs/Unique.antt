@@ -21,7 +21,8 @@ use Rattle.coho_main.proofs.OneResolution.{one_list, one_above, not_both}
 
 -- no two ends of a step from the same files
 abbrev pub IsFunctional : {A : Type 0} → Step A → Type 0
-IsFunctional {A} step = (old new new' : Content) (end end' : Result A Refusal) → step old end new → step old end' new' → (end ≡ end') × (new ≡ new')
+IsFunctional {A} step = (old new new' : Content) (end end' : Result A Refusal) → step old end new
+    → step old end' new' → (end ≡ end') × (new ≡ new')
 
 gives : {A : Type 0} (x : A) → IsFunctional (Gives x)
 gives x old new new' end end' h k = (h.0 ∙ sym k.0, h.1 ∙ sym k.1)
@@ -48,10 +49,12 @@ unless_false P (Some name) = refuses _
 same_ok : {A E : Type 0} (x y : A) → ◌≡◌ {A = Result A E} (Ok x) (Ok y) → x ≡ y
 same_ok x y e = cc
 
-then : {A B : Type 0} (first : Step A) (next : A → Step B) → IsFunctional first → ((x : A) → IsFunctional (next x)) → IsFunctional (first >>= next)
+then : {A B : Type 0} (first : Step A) (next : A → Step B) → IsFunctional first
+    → ((x : A) → IsFunctional (next x)) → IsFunctional (first >>= next)
 then first next f n old new new' end end' (inl h) (inl k) =
     let e = f old h.1 k.1 (Ok h.0) (Ok k.0) h.2 k.2 in
-    n k.0 k.1 new new' end end' (subst (λ x. next x k.1 end new) (same_ok h.0 k.0 e.0) (subst (λ m. next h.0 m end new) e.1 h.3)) k.3
+    n k.0 k.1 new new' end end' (subst (λ x. next x k.1 end new) (same_ok h.0 k.0 e.0)
+    (subst (λ m. next h.0 m end new) e.1 h.3)) k.3
 then first next f n old new new' end end' (inl h) (inr k) =
     let e : Ok h.0 ≡ Err k.0 = (f old h.1 new' (Ok h.0) (Err k.0) h.2 k.1).0 in absurd (cc)
 then first next f n old new new' end end' (inr h) (inl k) =
@@ -80,35 +83,49 @@ stages P n old new new' (Ok xs) (Ok ys) h k = (ap (λ s. Ok s) (one_list P n xs 
 stages P n old new new' (Ok xs) (Err r) h k = absurd (not_both P n xs k.0.0 k.0.1 h.0 k.0.2)
 stages P n old new new' (Err r) (Ok ys) h k = absurd (not_both P n ys h.0.0 h.0.1 k.0 h.0.2)
 stages P n old new new' (Err r) (Err q) h k =
-    let same = one_above P n h.0.0 h.0.1 k.0.0 k.0.1 h.0.2 k.0.2 in
-    (ap (λ r. Err r) (h.0.3 ∙ ap (λ d. stage_refused d h.0.1) same.0 ∙ ap (stage_refused k.0.0) same.1 ∙ sym k.0.3), h.1 ∙ sym k.1)
+    let same = one_above P n h.0.0 h.0.1 k.0.0 k.0.1 h.0.2 k.0.2 in (
+      ap (λ r. Err r) (h.0.3 ∙ ap (λ d. stage_refused d h.0.1) same.0 ∙ ap (stage_refused k.0.0) same.1
+          ∙ sym k.0.3),
+      h.1 ∙ sym k.1,
+    )
 
 fit_stages : (P : Presentation) (n : ℕ) → IsFunctional (FitStages P n)
 fit_stages P n old new new' (Ok x) (Ok y) h k = (refl, h.1 ∙ sym k.1)
 fit_stages P n old new new' (Ok x) (Err r) h k = absurd (fit_or_above P n k.0.0 k.0.1 h.0 k.0.2)
 fit_stages P n old new new' (Err r) (Ok y) h k = absurd (fit_or_above P n h.0.0 h.0.1 k.0 h.0.2)
 fit_stages P n old new new' (Err r) (Err q) h k =
-    let same = one_above P n h.0.0 h.0.1 k.0.0 k.0.1 h.0.2 k.0.2 in
-    (ap (λ r. Err r) (h.0.3 ∙ ap (λ d. stage_refused d h.0.1) same.0 ∙ ap (stage_refused k.0.0) same.1 ∙ sym k.0.3), h.1 ∙ sym k.1)
+    let same = one_above P n h.0.0 h.0.1 k.0.0 k.0.1 h.0.2 k.0.2 in (
+      ap (λ r. Err r) (h.0.3 ∙ ap (λ d. stage_refused d h.0.1) same.0 ∙ ap (stage_refused k.0.0) same.1
+          ∙ sym k.0.3),
+      h.1 ∙ sym k.1,
+    )
 
 report : (P : Presentation) (n : ℕ) → IsFunctional (Report P n)
 report P n old new new' (Ok r) (Ok s) h k = (ap (λ r. Ok r) (same_report P n r s h.0 k.0), h.1 ∙ sym k.1)
 report P n old new new' (Ok r) (Err q) h k = absurd (report_or_none P n r k.0.0 k.0.1 h.0 k.0.2)
 report P n old new new' (Err r) (Ok s) h k = absurd (report_or_none P n s h.0.0 h.0.1 k.0 h.0.2)
 report P n old new new' (Err r) (Err q) h k =
-    let same = same_degree P n h.0.0 h.0.1 k.0.0 k.0.1 h.0.2 k.0.2 in
-    (ap (λ r. Err r) (h.0.3 ∙ ap (λ d. monomials_refused d h.0.1) same.0 ∙ ap (monomials_refused k.0.0) same.1 ∙ sym k.0.3), h.1 ∙ sym k.1)
+    let same = same_degree P n h.0.0 h.0.1 k.0.0 k.0.1 h.0.2 k.0.2 in (
+      ap (λ r. Err r) (h.0.3 ∙ ap (λ d. monomials_refused d h.0.1) same.0 ∙ ap (monomials_refused k.0.0) same.1
+          ∙ sym k.0.3),
+      h.1 ∙ sym k.1,
+    )
 
 reply : (asked : Command) → IsFunctional (Reply asked)
-reply (Group path) = then (Load path) after_load (load path) (λ P. then (Layers P) (group_answer P) (layers P) (λ dimensions. gives (group_lines P dimensions)))
-reply (Resolve path n) = then (Load path) (after_load_of n) (load path) (λ P. then (Stages P n) stage_answer (stages P n) (λ found. gives (stage_lines found)))
+reply (Group path) = then (Load path) after_load (load path)
+    (λ P. then (Layers P) (group_answer P) (layers P) (λ dimensions. gives (group_lines P dimensions)))
+reply (Resolve path n) = then (Load path) (after_load_of n) (load path)
+    (λ P. then (Stages P n) stage_answer (stages P n) (λ found. gives (stage_lines found)))
 reply (Ring path n) =
-    then (Load path) (after_load_ring n) (load path) (λ P. then (FitStages P n) (after_fit P n) (fit_stages P n) (λ _. then (Report P n) report_answer (report P n) (λ found. gives (report_lines found))))
+    then (Load path) (after_load_ring n) (load path)
+    (λ P. then (FitStages P n) (after_fit P n) (fit_stages P n)
+    (λ _. then (Report P n) report_answer (report P n) (λ found. gives (report_lines found))))
 
 comes : (words : List (List ℕ)) → IsFunctional (Comes words)
 comes words = then (Ask words) _ (or_refuse _ (command words)) reply
 
-pub outcome_unique : (words : List (List ℕ)) (files : Content) (e d : Ending) → Outcome words files e → Outcome words files d → e ≡ d
+pub outcome_unique : (words : List (List ℕ)) (files : Content) (e d : Ending) → Outcome words files e
+    → Outcome words files d → e ≡ d
 outcome_unique words files e d h k =
     let same = comes words files h.1 k.1 h.0 k.0 h.2 k.2 in
     h.3 ∙ ap (λ r. ending r h.1) same.0 ∙ ap (ending k.0) same.1 ∙ sym k.3

@@ -26,7 +26,8 @@ gives : {A : Type 0} (x : A) → KeepsWords (Gives x)
 gives x old new r h e = let no = h.0 in absurd (cc)
 
 refuses : {A : Type 0} (q : Refusal) → q.status ≢ status.Usage → KeepsWords {A = A} (Refuses q)
-refuses q other old new r h e = let same : r ≡ q = let no = h.0 in cc in other (subst (λ r. r.status ≡ status.Usage) same e)
+refuses q other old new r h e = let same : r ≡ q = let no = h.0 in cc in
+    other (subst (λ r. r.status ≡ status.Usage) same e)
 
 or_refuse : {A : Type 0} (q : Refusal) (o : Option A) → q.status ≢ status.Usage → KeepsWords (OrRefuse q o)
 or_refuse q None other = refuses q other
@@ -44,9 +45,11 @@ unless_false : (P : Presentation) (o : Option TestName) → KeepsWords (UnlessFa
 unless_false P None = gives P
 unless_false P (Some name) = refuses _ (λ e. cc)
 
-then : {A B : Type 0} (first : Step A) (next : A → Step B) → KeepsWords first → ((x : A) → KeepsWords (next x)) → KeepsWords (first >>= next)
+then : {A B : Type 0} (first : Step A) (next : A → Step B) → KeepsWords first
+    → ((x : A) → KeepsWords (next x)) → KeepsWords (first >>= next)
 then first next f n old new r (inl h) = n h.0 h.1 new r h.3
-then first next f n old new r (inr h) = let same : h.0 ≡ r = let no = h.2 in cc in f old new r (subst (λ q. first old (Err q) new) same h.1)
+then first next f n old new r (inr h) = let same : h.0 ≡ r = let no = h.2 in cc in
+    f old new r (subst (λ q. first old (Err q) new) same h.1)
 
 describe : (text : List ℕ) → KeepsWords (Describe text)
 describe text =
@@ -72,29 +75,40 @@ fit_stages P n old new r h e =
 report : (P : Presentation) (n : ℕ) → KeepsWords (Report P n)
 report P n old new r h e =
     let is = h.0.3 in
-    let no : (monomials_refused h.0.0 h.0.1).status ≡ status.Usage = subst (λ r. r.status ≡ status.Usage) is e in
+    let no : (monomials_refused h.0.0 h.0.1).status ≡ status.Usage =
+    subst (λ r. r.status ≡ status.Usage) is e in
     cc
 
 reply : (asked : Command) → KeepsWords (Reply asked)
-reply (Group path) = then (Load path) after_load (load path) (λ P. then (Layers P) (group_answer P) (λ old new r h e. h) (λ dimensions. gives (group_lines P dimensions)))
-reply (Resolve path n) = then (Load path) (after_load_of n) (load path) (λ P. then (Stages P n) stage_answer (stages P n) (λ found. gives (stage_lines found)))
+reply (Group path) = then (Load path) after_load (load path)
+    (λ P. then (Layers P) (group_answer P) (λ old new r h e. h)
+    (λ dimensions. gives (group_lines P dimensions)))
+reply (Resolve path n) = then (Load path) (after_load_of n) (load path)
+    (λ P. then (Stages P n) stage_answer (stages P n) (λ found. gives (stage_lines found)))
 reply (Ring path n) =
-    then (Load path) (after_load_ring n) (load path) (λ P. then (FitStages P n) (after_fit P n) (fit_stages P n) (λ _. then (Report P n) report_answer (report P n) (λ found. gives (report_lines found))))
+    then (Load path) (after_load_ring n) (load path)
+    (λ P. then (FitStages P n) (after_fit P n) (fit_stages P n)
+    (λ _. then (Report P n) report_answer (report P n) (λ found. gives (report_lines found))))
 
-refused_none : {A : Type 0} (q r : Refusal) (o : Option A) (old new : Content) → OrRefuse q o old (Err r) new → o ≡ None
+refused_none : {A : Type 0} (q r : Refusal) (o : Option A) (old new : Content) → OrRefuse q o old (Err r) new
+    → o ≡ None
 refused_none q r None old new h = refl
 refused_none q r (Some x) old new h = let no = h.0 in absurd (cc)
 
 -- where the status is that of the words, they are not those of a command
-pub usage_is : (words : List (List ℕ)) (old new : Content) (r : Refusal) → Comes words old (Err r) new → r.status ≡ status.Usage → command words ≡ None
+pub usage_is : (words : List (List ℕ)) (old new : Content) (r : Refusal) → Comes words old (Err r) new
+    → r.status ≡ status.Usage → command words ≡ None
 usage_is words old new r (inl h) e = absurd (reply h.0 h.1 new r h.3 e)
 usage_is words old new r (inr h) e = refused_none words_refused h.0 (command words) old new h.1
 
-ask_none : (o : Option Command) (old new : Content) (end : Result (List (List ℕ)) Refusal) → (OrRefuse words_refused o >>= Reply) old end new → o ≡ None → end ≡ Err words_refused
+ask_none : (o : Option Command) (old new : Content) (end : Result (List (List ℕ)) Refusal)
+    → (OrRefuse words_refused o >>= Reply) old end new → o ≡ None → end ≡ Err words_refused
 ask_none None old new end (inl h) e = let no = h.2.0 in absurd (cc)
-ask_none None old new end (inr h) e = let same : h.0 ≡ words_refused = let no = h.1.0 in cc in h.2 ∙ ap (λ r. Err r) same
+ask_none None old new end (inr h) e = let same : h.0 ≡ words_refused = let no = h.1.0 in cc in h.2
+    ∙ ap (λ r. Err r) same
 ask_none (Some x) old new end h e = absurd (let no : ◌≡◌ {A = Option Command} (Some x) None = e in cc)
 
 -- and where they are not, the run is refused so
-pub none_comes : (words : List (List ℕ)) (old new : Content) (end : Result (List (List ℕ)) Refusal) → Comes words old end new → command words ≡ None → end ≡ Err words_refused
+pub none_comes : (words : List (List ℕ)) (old new : Content) (end : Result (List (List ℕ)) Refusal)
+    → Comes words old end new → command words ≡ None → end ≡ Err words_refused
 none_comes words old new end h e = ask_none (command words) old new end h e

@@ -31,7 +31,8 @@ Ask words = OrRefuse words_refused (command words)
 
 -- a file, to its end or to one byte more than a text may have
 abbrev pub ReadFront : List ℕ → Step (List ℕ)
-ReadFront path files = OrRefuse (read_refused path) (option_map (take (LONGEST_TEXT + 1)) (file files path)) files
+ReadFront path files = OrRefuse (read_refused path)
+    (option_map (take (LONGEST_TEXT + 1)) (file files path)) files
 
 -- not too long
 abbrev pub FitLength : List ℕ → Step (Unit {0})

@@ -16,7 +16,8 @@ pub record Summary : Type 0 where
   pub rank : ℕ
   -- the dimension of the kernel
   pub kernel : ℕ
-  -- the places of the boundary's rows in the echelon list of the kernel before, from 0; in degree 0 there is no boundary
+  -- the places of the boundary's rows in the echelon list of the kernel before, from 0; in degree 0 there is
+  -- no boundary
   pub rows : Option (List ℕ)
 
 abbrev pub summary : StageValue → Summary

@@ -97,7 +97,8 @@ fn line_at(alloc: Global, resolution: &Resolution, d: u32) -> Result<String, All
 #[tactic(auto, using(crate::proofs::StageRows::no_lines))]
 pub fn stage_lines(alloc: Global, resolution: &Resolution) -> Result<Vec<Vec<u8>>, AllocError>
     requires few { resolution.now.last ≤ GREATEST_DEGREE }
-    ensures { IfOk result (λ lines. TellsStages resolution.now.group (resolution.now.last + 1) (contents lines.items)) }
+    ensures { IfOk result (λ lines. TellsStages resolution.now.group (resolution.now.last + 1)
+        (contents lines.items)) }
 {
     let count = resolution.last() + 1;
     let mut lines = Vec::new(alloc);

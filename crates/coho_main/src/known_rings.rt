@@ -1,4 +1,5 @@
-//! The rings of well-known groups by `run`, worked out by hand from the definitions, and their polynomials read back.
+//! The rings of well-known groups by `run`, worked out by hand from the definitions, and their polynomials
+//! read back.
 
 use crate::{Status, run};
 use coho_io::{MemFiles, MemSink};

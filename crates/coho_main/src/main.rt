@@ -1,4 +1,5 @@
-//! The program: describes the group of a presentation text, finds its minimal resolution, and presents its cohomology ring. `run` does all that it does, over any files and sinks.
+//! The program: describes the group of a presentation text, finds its minimal resolution, and presents its
+//! cohomology ring. `run` does all that it does, over any files and sinks.
 #![tactic(auto)]
 
 mod answers;

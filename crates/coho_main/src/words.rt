@@ -15,7 +15,8 @@ pub enum Command<'a> {
     Group(&'a str),
     /// To find the minimal resolution of the group of the file at this path, to this degree.
     Resolve(&'a str, u32),
-    /// To find generators and relations of the cohomology ring of the group of the file at this path, through this degree.
+    /// To find generators and relations of the cohomology ring of the group of the file at this path, through
+    /// this degree.
     Ring(&'a str, u32),
 }
 

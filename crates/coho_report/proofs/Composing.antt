@@ -21,22 +21,32 @@ module _ (G : PGroup) where
   split : (d i : ℕ) → d ≤ suc i → (d ≤ i) ⊎ (d ≡ suc i)
   split zero i l = inl (omega arith)
   split (suc d) zero l = inr (omega arith)
-  split (suc d) (suc i) l = elim (split d i (omega arith)) [ inl k ↦ inl (omega arith) | inr k ↦ inr (omega arith) ]
+  split (suc d) (suc i) l = elim (split d i (omega arith)) [
+    | inl k ↦ inl (omega arith)
+    | inr k ↦ inr (omega arith)
+  ]
 
-  few_here : (k cap : ℕ) (gs : List GeneratorValue) (rs : List Polynomial) → IsPresentation G k (generators_of (largest_residue G) gs) rs
-      → ((ms : List (List ℕ)) → IsMonomials (largest_residue G) (map (λ g. g.degree) gs) (suc k) ms → min (length ms) GREATEST_COUNT ≤ cap)
+  few_here : (k cap : ℕ) (gs : List GeneratorValue) (rs : List Polynomial)
+      → IsPresentation G k (generators_of (largest_residue G) gs) rs
+      → ((ms : List (List ℕ)) → IsMonomials (largest_residue G) (map (λ g. g.degree) gs) (suc k) ms
+      → min (length ms) GREATEST_COUNT ≤ cap)
       → (count : ℕ) → IsTooMany G (suc k) cap count → ⊥
   few_here k cap gs rs made counted count t =
       let before : suc k - 1 ≡ k = omega arith in
-      let same = span-generators-unique (largest_residue G) (cohomology G) (dual_basis G) k t.generators (generators_of (largest_residue G) gs)
-      (subst (λ n. IsSpanGenerators (largest_residue G) (cohomology G) (dual_basis G) n t.generators) before t.generators_are) made.generators_are in
-      let bound = counted t.monomials (subst (λ ds. IsMonomials (largest_residue G) ds (suc k) t.monomials) (ap degrees same ∙ degrees-are (largest_residue G) gs) t.monomials_are) in
+      let same = span-generators-unique (largest_residue G) (cohomology G) (dual_basis G) k t.generators
+      (generators_of (largest_residue G) gs)
+      (subst (λ n. IsSpanGenerators (largest_residue G) (cohomology G)
+      (dual_basis G) n t.generators) before t.generators_are) made.generators_are in
+      let bound = counted t.monomials (subst (λ ds. IsMonomials (largest_residue G) ds (suc k) t.monomials)
+      (ap degrees same ∙ degrees-are (largest_residue G) gs) t.monomials_are) in
       let is = t.count_is in
       let above = t.above in
       omega (arith, bound, is, above)
 
-  pub few_next : (k cap : ℕ) (gs : List GeneratorValue) (rs : List Polynomial) → IsPresentation G k (generators_of (largest_residue G) gs) rs → HasFewMonomials G k cap
-      → ((ms : List (List ℕ)) → IsMonomials (largest_residue G) (map (λ g. g.degree) gs) (suc k) ms → min (length ms) GREATEST_COUNT ≤ cap)
+  pub few_next : (k cap : ℕ) (gs : List GeneratorValue) (rs : List Polynomial)
+      → IsPresentation G k (generators_of (largest_residue G) gs) rs → HasFewMonomials G k cap
+      → ((ms : List (List ℕ)) → IsMonomials (largest_residue G) (map (λ g. g.degree) gs) (suc k) ms
+      → min (length ms) GREATEST_COUNT ≤ cap)
       → HasFewMonomials G (k + 1) cap
   few_next k cap gs rs made few counted d from to count t =
       elim (split d k (omega arith)) [
@@ -44,7 +54,8 @@ module _ (G : PGroup) where
         | inr top ↦ few_here k cap gs rs made counted count (subst (λ d. IsTooMany G d cap count) top t)
       ]
 
-  pub refused : (k n cap : ℕ) (e : RingFault) → k < n → HasFewMonomials G k cap → ring.IsRefusal G (suc k) cap e → IsRefusal G n cap (passed_up e)
+  pub refused : (k n cap : ℕ) (e : RingFault) → k < n → HasFewMonomials G k cap
+      → ring.IsRefusal G (suc k) cap e → IsRefusal G n cap (passed_up e)
   refused k n cap (fault.TooManyMonomials d count) lt few r =
       let at = r.0 in
       record {

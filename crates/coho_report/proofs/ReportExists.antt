@@ -28,7 +28,8 @@ module _ (G : PGroup) where
   has-ranks : HasRanks q (rank_of G) (multiply G)
   has-ranks = record {
     one = refl;
-    products = λ d e v w i l. (product-claims q (group G) (layer_coordinates G) (stage_rows G) d e v w).past i l;
+    products = λ d e v w i l. (product-claims q (group G) (layer_coordinates G)
+        (stage_rows G) d e v w).past i l;
   }
 
   known : (n : ℕ) → Presented q (rank_of G) (multiply G) has-ranks n
@@ -51,7 +52,10 @@ module _ (G : PGroup) where
       ranks = refl;
       generators = (known n).generators;
       degrees_are = refl;
-      presentation = record { generators_are = (known n).generators_are; relations_are = (known n).relations_are };
+      presentation = record {
+        generators_are = (known n).generators_are;
+        relations_are = (known n).relations_are;
+      };
     },
   )
 
@@ -69,9 +73,11 @@ module _ (G : PGroup) where
   count-is n cap x t =
       let before : suc n - 1 ≡ n = omega arith in
       let same = span-generators-unique q (cohomology G) (dual_basis G) n t.generators (known n).generators
-          (subst (λ n. IsSpanGenerators q (cohomology G) (dual_basis G) n t.generators) before t.generators_are) (known n).generators_are in
+      (subst (λ n. IsSpanGenerators q (cohomology G)
+      (dual_basis G) n t.generators) before t.generators_are) (known n).generators_are in
       let lists = monomials-unique q (degrees (known n).generators) (suc n) t.monomials (monomials n)
-          (subst (λ gs. IsMonomials q (degrees gs) (suc n) t.monomials) same t.monomials_are) (monomials-are n) in
+      (subst (λ gs. IsMonomials q (degrees gs) (suc n) t.monomials) same t.monomials_are)
+      (monomials-are n) in
       t.count_is ∙ ap (λ (ms : List (List ℕ)). min (length ms) GREATEST_COUNT) lists
 
   too-many : (n cap : ℕ) → cap < count n → IsTooMany G (suc n) cap (count n)
@@ -79,7 +85,8 @@ module _ (G : PGroup) where
     generators = (known n).generators;
     monomials = monomials n;
     generators_are = (let before : n ≡ suc n - 1 = omega arith in
-        subst (λ n'. IsSpanGenerators q (cohomology G) (dual_basis G) n' (known n).generators) before (known n).generators_are);
+        subst (λ n'. IsSpanGenerators q (cohomology G) (dual_basis G) n' (known n).generators) before
+        (known n).generators_are);
     monomials_are = monomials-are n;
     count_is = refl;
     above = l;
@@ -99,7 +106,8 @@ module _ (G : PGroup) where
   few-or-first zero cap = inl (λ d from to x t. absurd (omega (arith, from, to)))
   few-or-first (suc n) cap = go (few-or-first n cap) (cases_lt cap (count n))
     where
-      here : HasFewMonomials G n cap → count n ≤ cap → (d : ℕ) → 1 ≤ d → (d ≤ n) ⊎ (d ≡ suc n) → (x : ℕ) → IsTooMany G d cap x → ⊥
+      here : HasFewMonomials G n cap → count n ≤ cap → (d : ℕ) → 1 ≤ d → (d ≤ n) ⊎ (d ≡ suc n) → (x : ℕ)
+          → IsTooMany G d cap x → ⊥
       here few le d from (inl low) x t = few d from low x t
       here few le d from (inr top) x t =
           let u : IsTooMany G (suc n) cap x = subst (λ d. IsTooMany G d cap x) top t in
@@ -107,20 +115,31 @@ module _ (G : PGroup) where
           let above = u.above in
           omega (arith, le, same, above)
 
-      go : HasFewMonomials G n cap ⊎ IsRefused n cap → (cap < count n) ⊎ (count n ≤ cap) → HasFewMonomials G (suc n) cap ⊎ IsRefused (suc n) cap
-      go (inr r) c = inr (r.0, r.1, (let h : IsFirstTooMany G n cap r.0 r.1 = r.2 in
-          record { from = h.from; to = (let z = h.to in omega (arith, z)); is = h.is; first = h.first }))
-      go (inl few) (inl l) = inr (suc n, count n, record {
-        from = omega arith;
-        to = omega arith;
-        is = too-many n cap l;
-        first = λ c from less x t. few c from (omega (arith, less)) x t;
-      })
+      go : HasFewMonomials G n cap ⊎ IsRefused n cap → (cap < count n) ⊎ (count n ≤ cap)
+          → HasFewMonomials G (suc n) cap ⊎ IsRefused (suc n) cap
+      go (inr r) c = inr (
+        r.0,
+        r.1,
+        (let h : IsFirstTooMany G n cap r.0 r.1 = r.2 in
+            record { from = h.from; to = (let z = h.to in omega (arith, z)); is = h.is; first = h.first }),
+      )
+      go (inl few) (inl l) = inr (
+        suc n,
+        count n,
+        record {
+          from = omega arith;
+          to = omega arith;
+          is = too-many n cap l;
+          first = λ c from less x t. few c from (omega (arith, less)) x t;
+        },
+      )
       go (inl few) (inr l) = inl (λ d from to x t. here few l d from (split d n to) x t)
 
-  pub report_or_refusal : (n cap : ℕ) → ((r : ReportValue) × IsReport G n r × HasFewMonomials G n cap) ⊎ IsRefused n cap
+  pub report_or_refusal : (n cap : ℕ) → ((r : ReportValue) × IsReport G n r × HasFewMonomials G n cap)
+      ⊎ IsRefused n cap
   report_or_refusal n cap = go (few-or-first n cap)
     where
-      go : HasFewMonomials G n cap ⊎ IsRefused n cap → ((r : ReportValue) × IsReport G n r × HasFewMonomials G n cap) ⊎ IsRefused n cap
+      go : HasFewMonomials G n cap ⊎ IsRefused n cap
+          → ((r : ReportValue) × IsReport G n r × HasFewMonomials G n cap) ⊎ IsRefused n cap
       go (inl few) = inl ((a-report n).0, (a-report n).1, few)
       go (inr r) = inr r

@@ -12,7 +12,8 @@ abbrev pub passed_up : RingFault → ReportFault
 passed_up (ring.TooManyMonomials degree count) = report.TooManyMonomials degree count
 passed_up ring.Memory = report.Memory
 
--- the fault names the first degree from 1 to n with more than cap monomials, and their number; or memory was wanting
+-- the fault names the first degree from 1 to n with more than cap monomials, and their number; or memory was
+-- wanting
 abbrev pub IsRefusal : PGroup → ℕ → ℕ → ReportFault → Type 0
 IsRefusal G n cap (report.TooManyMonomials degree count) = IsFirstTooMany G n cap degree count
 IsRefusal G n cap report.Memory = ⊤

@@ -27,7 +27,8 @@ module _ (G : PGroup) where
   abbrev pub HasFewMonomials : ℕ → ℕ → Type 0
   HasFewMonomials n cap = (d : ℕ) → 1 ≤ d → d ≤ n → (count : ℕ) → IsTooMany G d cap count → ⊥
 
-  -- d is the first degree from 1 to n that has more, and count is their number, or the greatest count where there are more
+  -- d is the first degree from 1 to n that has more, and count is their number, or the greatest count where
+  -- there are more
   pub record IsFirstTooMany (n cap d count : ℕ) : Type 0 where
     pub from : 1 ≤ d
     pub to : d ≤ n

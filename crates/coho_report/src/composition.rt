@@ -52,8 +52,10 @@ fn ranks_below(alloc: Global, res: &Resolution, c: u32) -> Result<Vec<usize>, Al
     Ok(ranks)
 }
 
-/// The report on the ring of the resolution's group through degree n. `TooManyMonomials` comes exactly where a degree from 1 to n has more than `cap`
-/// monomials in generators of lower degree, and names the first. The limit is that of the stages of subgroups.
+/// The report on the ring of the resolution's group through degree n. `TooManyMonomials` comes exactly where
+/// a degree from 1 to n has more than `cap`
+/// monomials in generators of lower degree, and names the first. The limit is that of the stages of
+/// subgroups.
 pub fn compose(
     alloc: Global,
     res: &Resolution,

@@ -5,7 +5,8 @@ ghost use Rattle.std.specs.Prelude.{◌≡◌, length};
 use ring_present::Ring;
 use std::marker::Model;
 
-/// What the answer to `ring` tells: the prime, the order of the group, the degree through which the ring is known, the ranks, the generators by
+/// What the answer to `ring` tells: the prime, the order of the group, the degree through which the ring is
+/// known, the ranks, the generators by
 /// their degrees, and the relations.
 #[derive(Drop)]
 pub struct Report {

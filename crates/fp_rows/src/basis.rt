@@ -12,7 +12,8 @@ use group_table::Prime;
 use std::marker::Model;
 use std::slice;
 
-/// A reduced row echelon list: no row is 0, the pivots ascend, and each pivot's column is 1 in its own row and 0 elsewhere.
+/// A reduced row echelon list: no row is 0, the pivots ascend, and each pivot's column is 1 in its own row
+/// and 0 elsewhere.
 #[derive(Drop)]
 pub struct Echelon {
     pub(crate) prime: Prime,

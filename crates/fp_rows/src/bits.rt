@@ -120,7 +120,8 @@ impl Bits {
         requires within { at + len ≤ length self.old }
         requires count { len ≤ 64 }
         ensures same_length { length self.new ≡ length self.old }
-        ensures inside { (j : ℕ) → at ≤ j → j < at + len → entry self.new j ≡ (entry self.old j + bit_at x (j - at)) % 2 }
+        ensures inside { (j : ℕ) → at ≤ j → j < at + len
+            → entry self.new j ≡ (entry self.old j + bit_at x (j - at)) % 2 }
         ensures before { (j : ℕ) → j < at → entry self.new j ≡ entry self.old j }
         ensures after { (j : ℕ) → at + len ≤ j → entry self.new j ≡ entry self.old j }
     {

@@ -221,7 +221,8 @@ impl Cells {
         requires packed { IsPackedFor (prime_value p) self.old }
         requires row { IsRow (prime_value p) (length (cells_of self.old)) (cells_of self.old) }
         requires added { IsRow (prime_value p) (length (cells_of self.old)) (numbers_of r) }
-        ensures sum { cells_of self.new ≡ add_multiple (prime_value p) c (cells_of self.old) (numbers_of r.entry) }
+        ensures sum { cells_of self.new ≡ add_multiple (prime_value p) c (cells_of self.old)
+            (numbers_of r.entry) }
         ensures packed { IsPackedFor (prime_value p) self.new }
     {
         match self {
@@ -236,7 +237,8 @@ impl Cells {
         requires packed { IsPackedFor (prime_value p) self.old }
         requires row { IsRow (prime_value p) (length (cells_of self.old)) (cells_of self.old) }
         requires added { IsRow (prime_value p) (length (cells_of self.old)) (cells_of r.now) }
-        ensures sum { cells_of self.new ≡ add_multiple (prime_value p) c (cells_of self.old) (cells_of r.now) }
+        ensures sum { cells_of self.new ≡ add_multiple (prime_value p) c (cells_of self.old)
+            (cells_of r.now) }
         ensures packed { IsPackedFor (prime_value p) self.new }
     {
         match self {
@@ -255,7 +257,8 @@ impl Cells {
         requires count { len ≤ 64 }
         ensures packed { IsPackedFor 2 self.new }
         ensures same_length { length (cells_of self.new) ≡ length (cells_of self.old) }
-        ensures inside { (j : ℕ) → at ≤ j → j < at + len → entry (cells_of self.new) j ≡ (entry (cells_of self.old) j + bit_at x (j - at)) % 2 }
+        ensures inside { (j : ℕ) → at ≤ j → j < at + len
+            → entry (cells_of self.new) j ≡ (entry (cells_of self.old) j + bit_at x (j - at)) % 2 }
         ensures before { (j : ℕ) → j < at → entry (cells_of self.new) j ≡ entry (cells_of self.old) j }
         ensures after { (j : ℕ) → at + len ≤ j → entry (cells_of self.new) j ≡ entry (cells_of self.old) j }
     {

@@ -32,7 +32,8 @@ fn clear_column(rows: &mut [Row], t: usize, v: &Row)
     requires rows_are { IsMatrix v.now.p (length v.now.entries) (lists rows.old) }
     requires over { AreOver v.now.p rows.old }
     requires inside { t < length v.now.entries }
-    ensures cleared { AreCleared v.now.p (length v.now.entries) t v.now.entries (lists rows.old) (lists rows.new) }
+    ensures cleared { AreCleared v.now.p (length v.now.entries) t v.now.entries (lists rows.old)
+        (lists rows.new) }
     ensures over { AreOver v.now.p rows.new }
 {
     let _len = v.len();
@@ -59,14 +60,16 @@ pub fn place_of(pivots: &[usize], t: usize) -> usize
     pivots.len()
 }
 
-// Makes v 0 at the pivots of the rows and its first entry that is not 0 1, and returns the place of that entry.
+// Makes v 0 at the pivots of the rows and its first entry that is not 0 1, and returns the place of that
+// entry.
 fn prepare(rows: &[Row], pivots: &[usize], v: &mut Row) -> usize
     requires matrix { IsMatrix v.old.p (length v.old.entries) (lists rows.now) }
     requires echelon { IsEchelon (lists rows.now) }
     requires pivots_are { pivots.now ≡ map pivot (lists rows.now) }
     ensures prime { v.new.p ≡ v.old.p }
     ensures place { result ≡ pivot v.new.entries }
-    ensures prepared { IsPrepared v.old.p (length v.old.entries) (lists rows.now) v.old.entries v.new.entries }
+    ensures prepared { IsPrepared v.old.p (length v.old.entries)
+        (lists rows.now) v.old.entries v.new.entries }
 {
     let _len = v.len();
     let _prime = v.prime();
@@ -86,7 +89,8 @@ fn prepare_vec(rows: &Vec<Row>, pivots: &Vec<usize>, v: &mut Row) -> usize
     requires pivots_are { pivots.now.items ≡ map pivot (lists rows.now.items) }
     ensures prime { v.new.p ≡ v.old.p }
     ensures place { result ≡ pivot v.new.entries }
-    ensures prepared { IsPrepared v.old.p (length v.old.entries) (lists rows.now.items) v.old.entries v.new.entries }
+    ensures prepared { IsPrepared v.old.p (length v.old.entries)
+        (lists rows.now.items) v.old.entries v.new.entries }
 {
     prepare(rows, pivots, v)
 }
@@ -97,10 +101,12 @@ fn clear_vec(rows: &mut Vec<Row>, pivots: &Vec<usize>, t: usize, v: &Row) -> usi
     requires over { AreOver v.now.p rows.old.items }
     requires echelon { IsEchelon (lists rows.old.items) }
     requires pivots_are { pivots.now.items ≡ map pivot (lists rows.old.items) }
-    requires zero_at_pivots { (i : ℕ) → i < length (lists rows.old.items) → entry v.now.entries (pivot (row (lists rows.old.items) i)) ≡ 0 }
+    requires zero_at_pivots { (i : ℕ) → i < length (lists rows.old.items)
+        → entry v.now.entries (pivot (row (lists rows.old.items) i)) ≡ 0 }
     requires monic { entry v.now.entries t ≡ 1 }
     requires inside { t < length v.now.entries }
-    ensures cleared { AreCleared v.now.p (length v.now.entries) t v.now.entries (lists rows.old.items) (lists rows.new.items) }
+    ensures cleared { AreCleared v.now.p (length v.now.entries) t v.now.entries (lists rows.old.items)
+        (lists rows.new.items) }
     ensures over { AreOver v.now.p rows.new.items }
     ensures place { IsPlace t result (lists rows.old.items) }
 {
@@ -114,11 +120,14 @@ pub fn insert_row(rows: &mut Vec<Row>, pivots: &mut Vec<usize>, mut v: Row) -> R
     requires over { AreOver v.p rows.old.items }
     requires echelon { IsEchelon (lists rows.old.items) }
     requires pivots_are { pivots.old.items ≡ map pivot (lists rows.old.items) }
-    ensures rows_are { OnOk result (IsEchelonOf v.p (length v.entries) (lists rows.old.items ++ v.entries ∷ []) (lists rows.new.items)) }
+    ensures rows_are { OnOk result (IsEchelonOf v.p (length v.entries)
+        (lists rows.old.items ++ v.entries ∷ []) (lists rows.new.items)) }
     ensures over { OnOk result (AreOver v.p rows.new.items) }
     ensures pivots_are { OnOk result (pivots.new.items ≡ map pivot (lists rows.new.items)) }
-    ensures outside { IfOk result (λ added. IsTrue added → ¬ (IsInSpan v.p (lists rows.old.items) (entry v.entries))) }
-    ensures inside { IfOk result (λ added. added ≡ false → IsInSpan v.p (lists rows.old.items) (entry v.entries)) }
+    ensures outside { IfOk result (λ added. IsTrue added
+        → ¬ (IsInSpan v.p (lists rows.old.items) (entry v.entries))) }
+    ensures inside { IfOk result (λ added. added ≡ false
+        → IsInSpan v.p (lists rows.old.items) (entry v.entries)) }
 {
     let _prime = v.prime();
     let t = prepare_vec(rows, pivots, &mut v);

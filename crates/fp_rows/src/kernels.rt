@@ -16,7 +16,8 @@ use crate::row::Row;
 use group_table::{Memory, Prime};
 use std::alloc::Global;
 
-/// The kernel of the rows, the span of the rows, and for each row of the span's list the combination that is 0 at the pivots of the kernel.
+/// The kernel of the rows, the span of the rows, and for each row of the span's list the combination that is
+/// 0 at the pivots of the kernel.
 #[derive(Drop)]
 pub struct Solution {
     pub kernel: Echelon,
@@ -24,7 +25,8 @@ pub struct Solution {
     pub preimages: Matrix,
 }
 
-// What the rows from some row on leave: the list of their span, for each row of it the combination that makes it, and the kernel,
+// What the rows from some row on leave: the list of their span, for each row of it the combination that makes
+// it, and the kernel,
 // whose list is in the descending order of its pivots.
 #[derive(Drop)]
 pub struct Elimination {
@@ -49,7 +51,8 @@ fn reduce_pair(rows: &[Row], pivots: &[usize], made: &[Row], v: &mut Row, u: &mu
     ensures made_is { IsRow v.old.p (length u.old.entries) u.new.entries }
     ensures reduced { IsReduced v.old.p (lists rows.now) v.old.entries v.new.entries }
     ensures maps { (generators : List (List ℕ))
-        → ((i : ℕ) → i < length (lists rows.now) → IsCombination v.old.p (entry (row (lists made.now) i)) generators (entry (row (lists rows.now) i)))
+        → ((i : ℕ) → i < length (lists rows.now)
+        → IsCombination v.old.p (entry (row (lists made.now) i)) generators (entry (row (lists rows.now) i)))
         → IsCombination v.old.p (entry u.old.entries) generators (entry v.old.entries)
         → IsCombination v.old.p (entry u.new.entries) generators (entry v.new.entries) }
     ensures kept { (s : ℕ) → ((i : ℕ) → i < length (lists made.now) → entry (row (lists made.now) i) s ≡ 0)
@@ -67,7 +70,8 @@ fn reduce_pair(rows: &[Row], pivots: &[usize], made: &[Row], v: &mut Row, u: &mu
     }
 }
 
-// Makes each row 0 at place t, where v is 1, by a multiple of v, and changes what makes it by the multiple of u.
+// Makes each row 0 at place t, where v is 1, by a multiple of v, and changes what makes it by the multiple of
+// u.
 fn clear_pairs(rows: &mut [Row], made: &mut [Row], t: usize, v: &Row, u: &Row)
     requires rows_are { IsMatrix v.now.p (length v.now.entries) (lists rows.old) }
     requires over { AreOver v.now.p rows.old }
@@ -76,16 +80,20 @@ fn clear_pairs(rows: &mut [Row], made: &mut [Row], t: usize, v: &Row, u: &Row)
     requires same_count { length made.old ≡ length rows.old }
     requires made_rows { IsMatrix v.now.p (length u.now.entries) (lists made.old) }
     requires made_over { AreOver v.now.p made.old }
-    ensures cleared { AreCleared v.now.p (length v.now.entries) t v.now.entries (lists rows.old) (lists rows.new) }
+    ensures cleared { AreCleared v.now.p (length v.now.entries) t v.now.entries (lists rows.old)
+        (lists rows.new) }
     ensures over { AreOver v.now.p rows.new }
     ensures made_count { length made.new ≡ length made.old }
     ensures made_rows { IsMatrix v.now.p (length u.now.entries) (lists made.new) }
     ensures made_over { AreOver v.now.p made.new }
     ensures maps { (generators : List (List ℕ))
         → IsCombination v.now.p (entry u.now.entries) generators (entry v.now.entries)
-        → ((i : ℕ) → i < length rows.old → IsCombination v.now.p (entry (row (lists made.old) i)) generators (entry (row (lists rows.old) i)))
-        → (i : ℕ) → i < length rows.old → IsCombination v.now.p (entry (row (lists made.new) i)) generators (entry (row (lists rows.new) i)) }
-    ensures kept { (i s : ℕ) → i < length rows.old → entry u.now.entries s ≡ 0 → entry (row (lists made.new) i) s ≡ entry (row (lists made.old) i) s }
+        → ((i : ℕ) → i < length rows.old
+        → IsCombination v.now.p (entry (row (lists made.old) i)) generators (entry (row (lists rows.old) i)))
+        → (i : ℕ) → i < length rows.old → IsCombination v.now.p (entry (row (lists made.new) i)) generators
+        (entry (row (lists rows.new) i)) }
+    ensures kept { (i s : ℕ) → i < length rows.old → entry u.now.entries s ≡ 0
+        → entry (row (lists made.new) i) s ≡ entry (row (lists made.old) i) s }
 {
     let _len = v.len();
     let _made = u.len();
@@ -99,7 +107,8 @@ fn clear_pairs(rows: &mut [Row], made: &mut [Row], t: usize, v: &Row, u: &Row)
     }
 }
 
-// Makes v 0 at the pivots of the rows and its first entry that is not 0 1, changes u by what makes the change, and returns the place of
+// Makes v 0 at the pivots of the rows and its first entry that is not 0 1, changes u by what makes the
+// change, and returns the place of
 // that entry.
 fn prepare_pair(rows: &[Row], pivots: &[usize], made: &[Row], v: &mut Row, u: &mut Row) -> usize
     requires matrix { IsMatrix v.old.p (length v.old.entries) (lists rows.now) }
@@ -111,15 +120,19 @@ fn prepare_pair(rows: &[Row], pivots: &[usize], made: &[Row], v: &mut Row, u: &m
     ensures prime { v.new.p ≡ v.old.p }
     ensures made_prime { u.new.p ≡ u.old.p }
     ensures place { result ≡ pivot v.new.entries }
-    ensures prepared { IsPrepared v.old.p (length v.old.entries) (lists rows.now) v.old.entries v.new.entries }
+    ensures prepared { IsPrepared v.old.p (length v.old.entries)
+        (lists rows.now) v.old.entries v.new.entries }
     ensures made_is { IsRow v.old.p (length u.old.entries) u.new.entries }
     ensures maps { (generators : List (List ℕ))
-        → ((i : ℕ) → i < length (lists rows.now) → IsCombination v.old.p (entry (row (lists made.now) i)) generators (entry (row (lists rows.now) i)))
+        → ((i : ℕ) → i < length (lists rows.now)
+        → IsCombination v.old.p (entry (row (lists made.now) i)) generators (entry (row (lists rows.now) i)))
         → IsCombination v.old.p (entry u.old.entries) generators (entry v.old.entries)
         → IsCombination v.old.p (entry u.new.entries) generators (entry v.new.entries) }
-    ensures zero { (s : ℕ) → entry u.old.entries s ≡ 0 → ((i : ℕ) → i < length (lists made.now) → entry (row (lists made.now) i) s ≡ 0)
+    ensures zero { (s : ℕ) → entry u.old.entries s ≡ 0
+        → ((i : ℕ) → i < length (lists made.now) → entry (row (lists made.now) i) s ≡ 0)
         → entry u.new.entries s ≡ 0 }
-    ensures kept { result ≡ length v.old.entries → (s : ℕ) → ((i : ℕ) → i < length (lists made.now) → entry (row (lists made.now) i) s ≡ 0)
+    ensures kept { result ≡ length v.old.entries → (s : ℕ)
+        → ((i : ℕ) → i < length (lists made.now) → entry (row (lists made.now) i) s ≡ 0)
         → entry u.new.entries s ≡ entry u.old.entries s }
 {
     let _len = v.len();
@@ -144,15 +157,20 @@ fn clear_vecs(rows: &mut Vec<Row>, made: &mut Vec<Row>, t: usize, v: &Row, u: &R
     requires same_count { length made.old.items ≡ length rows.old.items }
     requires made_rows { IsMatrix v.now.p (length u.now.entries) (lists made.old.items) }
     requires made_over { AreOver v.now.p made.old.items }
-    ensures cleared { AreCleared v.now.p (length v.now.entries) t v.now.entries (lists rows.old.items) (lists rows.new.items) }
+    ensures cleared { AreCleared v.now.p (length v.now.entries) t v.now.entries (lists rows.old.items)
+        (lists rows.new.items) }
     ensures over { AreOver v.now.p rows.new.items }
     ensures made_count { length made.new.items ≡ length made.old.items }
     ensures made_rows { IsMatrix v.now.p (length u.now.entries) (lists made.new.items) }
     ensures made_over { AreOver v.now.p made.new.items }
     ensures maps { (generators : List (List ℕ))
         → IsCombination v.now.p (entry u.now.entries) generators (entry v.now.entries)
-        → ((i : ℕ) → i < length rows.old.items → IsCombination v.now.p (entry (row (lists made.old.items) i)) generators (entry (row (lists rows.old.items) i)))
-        → (i : ℕ) → i < length rows.old.items → IsCombination v.now.p (entry (row (lists made.new.items) i)) generators (entry (row (lists rows.new.items) i)) }
+        → ((i : ℕ) → i < length rows.old.items
+        → IsCombination v.now.p (entry (row (lists made.old.items) i)) generators
+        (entry (row (lists rows.old.items) i)))
+        → (i : ℕ) → i < length rows.old.items
+        → IsCombination v.now.p (entry (row (lists made.new.items) i)) generators
+        (entry (row (lists rows.new.items) i)) }
     ensures kept { (i s : ℕ) → i < length rows.old.items → entry u.now.entries s ≡ 0
         → entry (row (lists made.new.items) i) s ≡ entry (row (lists made.old.items) i) s }
 {
@@ -179,11 +197,13 @@ fn insert_pair(
     requires row_is { IsRow v.p (length v.entries) v.entries }
     requires place { t ≡ pivot v.entries }
     requires inside { t < length v.entries }
-    requires zero_at_pivots { (i : ℕ) → i < length (lists rows.old.items) → entry v.entries (pivot (row (lists rows.old.items) i)) ≡ 0 }
+    requires zero_at_pivots { (i : ℕ) → i < length (lists rows.old.items)
+        → entry v.entries (pivot (row (lists rows.old.items) i)) ≡ 0 }
     requires monic { entry v.entries t ≡ 1 }
     ensures solved { OnOk result ((generators : List (List ℕ)) (k : ℕ) (K : List (List ℕ))
         → length u.entries ≡ length generators
-        → IsSolvedFrom v.p (length v.entries) generators (suc k) (lists rows.old.items) (lists made.old.items) K
+        → IsSolvedFrom v.p (length v.entries) generators (suc k) (lists rows.old.items)
+        (lists made.old.items) K
         → IsPrepared v.p (length v.entries) (lists rows.old.items) (row generators k) v.entries
         → IsRow v.p (length generators) u.entries
         → IsCombination v.p (entry u.entries) generators (entry v.entries)
@@ -220,15 +240,20 @@ fn prepare_vecs(
     ensures prime { v.new.p ≡ v.old.p }
     ensures made_prime { u.new.p ≡ u.old.p }
     ensures place { result ≡ pivot v.new.entries }
-    ensures prepared { IsPrepared v.old.p (length v.old.entries) (lists rows.now.items) v.old.entries v.new.entries }
+    ensures prepared { IsPrepared v.old.p (length v.old.entries)
+        (lists rows.now.items) v.old.entries v.new.entries }
     ensures made_is { IsRow v.old.p (length u.old.entries) u.new.entries }
     ensures maps { (generators : List (List ℕ))
-        → ((i : ℕ) → i < length (lists rows.now.items) → IsCombination v.old.p (entry (row (lists made.now.items) i)) generators (entry (row (lists rows.now.items) i)))
+        → ((i : ℕ) → i < length (lists rows.now.items)
+        → IsCombination v.old.p (entry (row (lists made.now.items) i)) generators
+        (entry (row (lists rows.now.items) i)))
         → IsCombination v.old.p (entry u.old.entries) generators (entry v.old.entries)
         → IsCombination v.old.p (entry u.new.entries) generators (entry v.new.entries) }
-    ensures zero { (s : ℕ) → entry u.old.entries s ≡ 0 → ((i : ℕ) → i < length (lists made.now.items) → entry (row (lists made.now.items) i) s ≡ 0)
+    ensures zero { (s : ℕ) → entry u.old.entries s ≡ 0
+        → ((i : ℕ) → i < length (lists made.now.items) → entry (row (lists made.now.items) i) s ≡ 0)
         → entry u.new.entries s ≡ 0 }
-    ensures kept { result ≡ length v.old.entries → (s : ℕ) → ((i : ℕ) → i < length (lists made.now.items) → entry (row (lists made.now.items) i) s ≡ 0)
+    ensures kept { result ≡ length v.old.entries → (s : ℕ)
+        → ((i : ℕ) → i < length (lists made.now.items) → entry (row (lists made.now.items) i) s ≡ 0)
         → entry u.new.entries s ≡ entry u.old.entries s }
 {
     prepare_pair(rows, pivots, made, v, u)
@@ -284,11 +309,14 @@ fn eliminate(alloc: Global, m: &Matrix) -> Result<Elimination, Memory>
 
 /// The kernel and the span of the rows, with the preimages of the span's list, by one elimination.
 pub fn solve(alloc: Global, m: &Matrix) -> Result<Solution, Memory>
-    ensures primes { IfOk result (λ s. (s.kernel.p ≡ m.now.p) × (s.image.p ≡ m.now.p) × (s.preimages.p ≡ m.now.p)) }
-    ensures widths { IfOk result (λ s. (s.kernel.width ≡ length m.now.rows) × (s.image.width ≡ m.now.width) × (s.preimages.width ≡ length m.now.rows)) }
+    ensures primes { IfOk result (λ s. (s.kernel.p ≡ m.now.p) × (s.image.p ≡ m.now.p)
+        × (s.preimages.p ≡ m.now.p)) }
+    ensures widths { IfOk result (λ s. (s.kernel.width ≡ length m.now.rows) × (s.image.width ≡ m.now.width)
+        × (s.preimages.width ≡ length m.now.rows)) }
     ensures kernel { IfOk result (λ s. IsKernelOf m.now.p m.now.rows s.kernel.rows) }
     ensures image { IfOk result (λ s. IsEchelonOf m.now.p m.now.width m.now.rows s.image.rows) }
-    ensures preimages { IfOk result (λ s. ArePreimages m.now.p m.now.rows s.kernel.rows s.image.rows s.preimages.rows) }
+    ensures preimages { IfOk result (λ s. ArePreimages m.now.p m.now.rows s.kernel.rows s.image.rows
+        s.preimages.rows) }
 {
     let mut e = eliminate(alloc, m)?;
     let n = m.rows();

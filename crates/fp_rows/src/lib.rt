@@ -1,4 +1,5 @@
-//! Rows over the field of p elements: borrowed and owned rows, matrices, reduced echelon lists of spans and kernels, membership, reduction, preimages and greedy complements.
+//! Rows over the field of p elements: borrowed and owned rows, matrices, reduced echelon lists of spans and
+//! kernels, membership, reduction, preimages and greedy complements.
 #![tactic(auto)]
 
 mod arithmetic;

@@ -50,7 +50,8 @@ impl Matrix {
     pub fn push(&mut self, r: RowRef<'_>) -> Result<(), Memory>
         requires same_prime { modulus_of r ≡ self.old.p }
         requires same_width { length (entries_of r) ≡ self.old.width }
-        ensures pushed { OnOk result (self.new ≡ record self.old { rows = self.old.rows ++ entries_of r.entry ∷ [] }) }
+        ensures pushed { OnOk result (self.new
+            ≡ record self.old { rows = self.old.rows ++ entries_of r.entry ∷ [] }) }
         ensures kept { OnErr result (self.new ≡ self.old) }
     {
         let copy = Row::copy_of(self.alloc, r)?;
@@ -107,7 +108,10 @@ impl Matrix {
         requires primes { (modulus_of u ≡ self.now.p) × (out.old.p ≡ self.now.p) }
         requires out_length { length out.old.entries ≡ self.now.width }
         ensures { out.new
-            ≡ record out.old { entries = combination_row self.now.p self.now.width (entry (entries_of u.entry)) self.now.rows } }
+            ≡ record out.old {
+              entries = combination_row self.now.p self.now.width
+                  (entry (entries_of u.entry)) self.now.rows;
+            } }
     {
         out.clear();
         for (k, row) in self.iter().enumerate() {

@@ -18,7 +18,8 @@ fn value_at(p: Prime, rows: &[Row], pivots: &[usize], v: RowRef<'_>, j: usize) -
     requires v_is { modulus_of v ≡ prime_value p }
     requires inside { j < length (entries_of v) }
     ensures below { result < prime_value p }
-    ensures value { IsCongruent (prime_value p) result (combination (λ i. entry (entries_of v.entry) (pivot (row (lists rows.now) i))) (lists rows.now) j) }
+    ensures value { IsCongruent (prime_value p) result
+        (combination (λ i. entry (entries_of v.entry) (pivot (row (lists rows.now) i))) (lists rows.now) j) }
 {
     let mut sum = 0u8;
     for (i, r) in rows.iter().enumerate() {

@@ -63,7 +63,8 @@ impl<'a> Numbers<'a> {
         }
     }
 
-    /// The `len` numbers from place `from` on, which are below 2, as the bits of a word, whose other bits are 0.
+    /// The `len` numbers from place `from` on, which are below 2, as the bits of a word, whose other bits are
+    /// 0.
     pub(crate) fn word(&self, from: usize, len: usize) -> u64
         requires within { from + len ≤ length (numbers_of self.now) }
         requires count { len ≤ 64 }

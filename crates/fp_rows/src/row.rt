@@ -117,7 +117,10 @@ impl Row {
         requires factor { c < self.old.p }
         requires same_prime { modulus_of r ≡ self.old.p }
         requires same_length { length (entries_of r) ≡ length self.old.entries }
-        ensures { self.new ≡ record self.old { entries = add_multiple self.old.p c self.old.entries (entries_of r.entry) } }
+        ensures { self.new ≡ record self.old {
+          entries = add_multiple self.old.p c self.old.entries
+              (entries_of r.entry);
+        } }
     {
         self.cells.add(self.prime, c, r.entries);
     }
@@ -126,7 +129,8 @@ impl Row {
     pub(crate) fn add_row(&mut self, c: u8, r: &Row)
         requires factor { c < self.old.p }
         requires row { IsRow self.old.p (length self.old.entries) r.now.entries }
-        ensures { self.new ≡ record self.old { entries = add_multiple self.old.p c self.old.entries r.now.entries } }
+        ensures { self.new ≡ record self.old
+            { entries = add_multiple self.old.p c self.old.entries r.now.entries } }
     {
         self.cells.add_cells(self.prime, c, &r.cells);
     }
@@ -154,7 +158,8 @@ impl Row {
         requires count { len ≤ 64 }
         ensures prime { self.new.p ≡ self.old.p }
         ensures same_length { length self.new.entries ≡ length self.old.entries }
-        ensures inside { (j : ℕ) → at ≤ j → j < at + len → entry self.new.entries j ≡ (entry self.old.entries j + bit_at x (j - at)) % 2 }
+        ensures inside { (j : ℕ) → at ≤ j → j < at + len
+            → entry self.new.entries j ≡ (entry self.old.entries j + bit_at x (j - at)) % 2 }
         ensures before { (j : ℕ) → j < at → entry self.new.entries j ≡ entry self.old.entries j }
         ensures after { (j : ℕ) → at + len ≤ j → entry self.new.entries j ≡ entry self.old.entries j }
     {

@@ -40,7 +40,8 @@ fn preimage_of(
     Ok(u)
 }
 
-/// For each target row the one u with u·m equal to it that is 0 at the pivots of `free`, which is the kernel of m.
+/// For each target row the one u with u·m equal to it that is 0 at the pivots of `free`, which is the kernel
+/// of m.
 pub fn preimages(
     alloc: Global,
     m: &Matrix,

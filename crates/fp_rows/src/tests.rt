@@ -108,7 +108,8 @@ fn lists_positions(rt: HostRuntime) -> Result<(), Fail> {
     Ok(())
 }
 
-// Generators, their reduced echelon list of two rows, a vector outside its span, what it reduces to, and a member of the span.
+// Generators, their reduced echelon list of two rows, a vector outside its span, what it reduces to, and a
+// member of the span.
 #[derive(Clone, Copy)]
 struct Case<'a> {
     p: Prime,

@@ -169,7 +169,8 @@ pub(crate) fn add_low_bits(words: &mut [u64], at: usize, len: usize, x: u64)
     requires count { len ≤ 64 }
     requires within { at + len ≤ 64 * length words.old }
     ensures same_length { length words.new ≡ length words.old }
-    ensures inside { (j : ℕ) → at ≤ j → j < at + len → place words.new j ≡ (place words.old j + bit_at x (j - at)) % 2 }
+    ensures inside { (j : ℕ) → at ≤ j → j < at + len
+        → place words.new j ≡ (place words.old j + bit_at x (j - at)) % 2 }
     ensures before { (j : ℕ) → j < at → place words.new j ≡ place words.old j }
     ensures after { (j : ℕ) → at + len ≤ j → place words.new j ≡ place words.old j }
 {

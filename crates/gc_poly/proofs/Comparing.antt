@@ -3,7 +3,8 @@ use Rattle.std.proofs.Common.{◌≡◌, ℕ, zero, suc, ◌<◌, ◌≤◌, Lis
 use Rattle.std.proofs.lemmas.Bool.{cases_order, cases_lt}
 use Rattle.graded_polynomials.specs.Monomials.{IsGreater, exponent}
 
-pub less-at : (a b : List ℕ) (i : ℕ) → ((j : ℕ) → j < i → exponent a j ≡ exponent b j) → exponent a i < exponent b i → IsGreater a b → ⊥
+pub less-at : (a b : List ℕ) (i : ℕ) → ((j : ℕ) → j < i → exponent a j ≡ exponent b j)
+    → exponent a i < exponent b i → IsGreater a b → ⊥
 less-at a b i h l g = go (cases_order g.at i)
   where
     go : (g.at ≡ i) ⊎ ((g.at < i) ⊎ (i < g.at)) → ⊥

@@ -32,7 +32,9 @@ module _ (others : ℕ → List (List ℕ)) (g : ℕ) where
   firsts-zero d = length-map (others d) (λ m. 0 ∷ m)
 
   firsts-some : (d e : ℕ) → suc e * g ≤ d → firsts d (suc e) ≡ length (others (d - suc e * g)) + firsts d e
-  firsts-some d e l = rw (leb-of (suc e * g) d l) (length-append (map (λ m. suc e ∷ m) (others (d - suc e * g))) (with_first others g d e) ∙ ap (λ n. n + firsts d e) (length-map (others (d - suc e * g)) (λ m. suc e ∷ m)))
+  firsts-some d e l = rw (leb-of (suc e * g) d l)
+      (length-append (map (λ m. suc e ∷ m) (others (d - suc e * g))) (with_first others g d e)
+      ∙ ap (λ n. n + firsts d e) (length-map (others (d - suc e * g)) (λ m. suc e ∷ m)))
 
   firsts-none : (d e : ℕ) → d < suc e * g → firsts d (suc e) ≡ firsts d e
   firsts-none d e l = rw (leb-not (suc e * g) d l) refl
@@ -42,16 +44,31 @@ module _ (others : ℕ → List (List ℕ)) (g : ℕ) where
   firsts-stable d p zero = ap (firsts d) (let e : d + 0 ≡ d = omega arith in e)
   firsts-stable d p (suc k) =
       ap (firsts d) (let e : d + suc k ≡ suc (d + k) = omega arith in e)
-      ∙ firsts-none d (d + k) (let m = mul-le-mul_left (suc (d + k)) p in omega (arith, m)) ∙ firsts-stable d p k
+      ∙ firsts-none d (d + k) (let m = mul-le-mul_left (suc (d + k)) p in omega (arith, m))
+      ∙ firsts-stable d p k
 
   firsts-shift : (d e : ℕ) → g ≤ d → firsts d (suc e) ≡ length (others d) + firsts (d - g) e
   firsts-shift d zero l =
-      firsts-some d 0 (omega arith) ∙ omega (arith, firsts-zero d, firsts-zero (d - g), ap (λ r. length (others r)) (let k : d - suc 0 * g ≡ d - g = omega arith in k))
+      firsts-some d 0 (omega arith) ∙ omega (
+        arith,
+        firsts-zero d,
+        firsts-zero (d - g),
+        ap (λ r. length (others r)) (let k : d - suc 0 * g ≡ d - g = omega arith in k),
+      )
   firsts-shift d (suc e) l = go (cases_lt d (suc (suc e) * g)) (firsts-shift d e l)
     where
-      go : (d < suc (suc e) * g) ⊎ (suc (suc e) * g ≤ d) → firsts d (suc e) ≡ length (others d) + firsts (d - g) e → firsts d (suc (suc e)) ≡ length (others d) + firsts (d - g) (suc e)
-      go (inl m) h = firsts-none d (suc e) m ∙ h ∙ ap (λ n. length (others d) + n) (sym (firsts-none (d - g) e (omega (arith, m, l))))
-      go (inr m) h = omega (arith, firsts-some d (suc e) m, firsts-some (d - g) e (omega (arith, m)), h, ap (λ r. length (others r)) (let k : d - suc (suc e) * g ≡ d - g - suc e * g = omega arith in k))
+      go : (d < suc (suc e) * g) ⊎ (suc (suc e) * g ≤ d)
+          → firsts d (suc e) ≡ length (others d) + firsts (d - g) e
+          → firsts d (suc (suc e)) ≡ length (others d) + firsts (d - g) (suc e)
+      go (inl m) h = firsts-none d (suc e) m ∙ h
+          ∙ ap (λ n. length (others d) + n) (sym (firsts-none (d - g) e (omega (arith, m, l))))
+      go (inr m) h = omega (
+        arith,
+        firsts-some d (suc e) m,
+        firsts-some (d - g) e (omega (arith, m)),
+        h,
+        ap (λ r. length (others r)) (let k : d - suc (suc e) * g ≡ d - g - suc e * g = omega arith in k),
+      )
 
   firsts-short : (d e : ℕ) → d < g → firsts d e ≡ length (others d)
   firsts-short d zero l = firsts-zero d
@@ -64,23 +81,28 @@ module _ (q g : ℕ) (ds : List ℕ) (p : 0 < g) where
 
   pub number-short : (d : ℕ) → d < g → number q (g ∷ ds) d ≡ number q ds d
   number-short zero l = sym (number-zero q ds)
-  number-short (suc d) l = firsts-short (λ r. all_monomials q ds r) g (suc d) (cond (is_exterior q g) 1 (suc d)) l
+  number-short (suc d) l = firsts-short (λ r. all_monomials q ds r) g (suc d)
+      (cond (is_exterior q g) 1 (suc d)) l
 
   -- a generator with all powers
-  pub number-powers : (d : ℕ) → is_exterior q g ≡ false → g ≤ d → number q (g ∷ ds) d ≡ number q ds d + number q (g ∷ ds) (d - g)
+  pub number-powers : (d : ℕ) → is_exterior q g ≡ false → g ≤ d
+      → number q (g ∷ ds) d ≡ number q ds d + number q (g ∷ ds) (d - g)
   number-powers zero e l = absurd (omega arith)
   number-powers (suc d) e l =
       own (suc d) e ∙ firsts-shift (λ r. all_monomials q ds r) g (suc d) d l
       ∙ ap (λ n. number q ds (suc d) + n)
-      (ap (firsts (λ r. all_monomials q ds r) g (suc d - g)) (let k : d ≡ (suc d - g) + (d - (suc d - g)) = omega arith in k)
+      (ap (firsts (λ r. all_monomials q ds r) g (suc d - g))
+      (let k : d ≡ (suc d - g) + (d - (suc d - g)) = omega arith in k)
       ∙ firsts-stable (λ r. all_monomials q ds r) g (suc d - g) p (d - (suc d - g)) ∙ sym (own (suc d - g) e))
 
   -- a generator whose square is 0
-  pub number-once : (d : ℕ) → is_exterior q g ≡ true → g ≤ d → number q (g ∷ ds) d ≡ number q ds d + number q ds (d - g)
+  pub number-once : (d : ℕ) → is_exterior q g ≡ true → g ≤ d
+      → number q (g ∷ ds) d ≡ number q ds d + number q ds (d - g)
   number-once zero e l = absurd (omega arith)
   number-once (suc d) e l =
       ap (λ b. length (with_first (λ r. all_monomials q ds r) g (suc d) (cond b 1 (suc d)))) e
-      ∙ firsts-shift (λ r. all_monomials q ds r) g (suc d) 0 l ∙ ap (λ n. number q ds (suc d) + n) (firsts-zero (λ r. all_monomials q ds r) g (suc d - g))
+      ∙ firsts-shift (λ r. all_monomials q ds r) g (suc d) 0 l
+      ∙ ap (λ n. number q ds (suc d) + n) (firsts-zero (λ r. all_monomials q ds r) g (suc d - g))
 
 abbrev pub AreCounts : ℕ → List ℕ → List ℕ → Type 0
 AreCounts q ds counts = (j : ℕ) → j < 25 → get_or counts j 0 ≡ min (number q ds j) (2 ^ 64 - 1)
@@ -93,8 +115,11 @@ drop-at (d ∷ ds) (suc i) l = drop-at ds i (omega arith)
 capped : (a b x y M : ℕ) → a ≡ min x M → b ≡ min y M → min (a + b) M ≡ min (x + y) M
 capped a b x y M e f = omega (arith, e, f)
 
-pub counts-once : (q : ℕ) (ds old new : List ℕ) (i j g : ℕ) → j ≡ suc i → i < length ds → g ≡ get_or ds i 0 → 0 < g → is_exterior q (get_or ds i 0) ≡ true → length old ≡ 25 → AreCounts q (drop j ds) old
-    → ((j : ℕ) → j < g → get_or new j 0 ≡ get_or old j 0) → ((j : ℕ) → g ≤ j → j < length old → get_or new j 0 ≡ min (get_or old j 0 + get_or old (j - g) 0) (2 ^ 64 - 1))
+pub counts-once : (q : ℕ) (ds old new : List ℕ) (i j g : ℕ) → j ≡ suc i → i < length ds → g ≡ get_or ds i 0
+    → 0 < g → is_exterior q (get_or ds i 0) ≡ true → length old ≡ 25 → AreCounts q (drop j ds) old
+    → ((j : ℕ) → j < g → get_or new j 0 ≡ get_or old j 0)
+    → ((j : ℕ) → g ≤ j → j < length old
+    → get_or new j 0 ≡ min (get_or old j 0 + get_or old (j - g) 0) (2 ^ 64 - 1))
     → AreCounts q (drop i ds) new
 counts-once q ds old new i j g s l e p x n h same more k b = rw (drop-at ds i l, ← e) (go (cases_lt k g))
   where
@@ -110,10 +135,14 @@ counts-once q ds old new i j g s l e p x n h same more k b = rw (drop-at ds i l,
         more k c (omega (arith, n)) ∙ capped _ _ _ _ _ (had k b) (had (k - g) (omega arith))
         ∙ ap (λ n. min n (2 ^ 64 - 1)) (sym (number-once q g rest p k (rw e x) c))
 
-pub counts-powers : (q : ℕ) (ds old new : List ℕ) (i j g : ℕ) → j ≡ suc i → i < length ds → g ≡ get_or ds i 0 → 0 < g → is_exterior q (get_or ds i 0) ≡ false → length old ≡ 25 → AreCounts q (drop j ds) old
-    → ((j : ℕ) → j < g → get_or new j 0 ≡ get_or old j 0) → ((j : ℕ) → g ≤ j → j < length old → get_or new j 0 ≡ min (get_or old j 0 + get_or new (j - g) 0) (2 ^ 64 - 1))
+pub counts-powers : (q : ℕ) (ds old new : List ℕ) (i j g : ℕ) → j ≡ suc i → i < length ds → g ≡ get_or ds i 0
+    → 0 < g → is_exterior q (get_or ds i 0) ≡ false → length old ≡ 25 → AreCounts q (drop j ds) old
+    → ((j : ℕ) → j < g → get_or new j 0 ≡ get_or old j 0)
+    → ((j : ℕ) → g ≤ j → j < length old
+    → get_or new j 0 ≡ min (get_or old j 0 + get_or new (j - g) 0) (2 ^ 64 - 1))
     → AreCounts q (drop i ds) new
-counts-powers q ds old new i j g s l e p x n h same more k b = rw (drop-at ds i l, ← e) (upto (suc k) k (omega arith) b)
+counts-powers q ds old new i j g s l e p x n h same more k b =
+    rw (drop-at ds i l, ← e) (upto (suc k) k (omega arith) b)
   where
     rest : List ℕ
     rest = drop (suc i) ds
@@ -125,14 +154,18 @@ counts-powers q ds old new i j g s l e p x n h same more k b = rw (drop-at ds i 
     upto zero k l b = absurd (omega arith)
     upto (suc m) k l b = go (cases_lt k g) (λ c. upto m (k - g) (omega arith) (omega arith))
       where
-        go : (k < g) ⊎ (g ≤ k) → (g ≤ k → get_or new (k - g) 0 ≡ min (number q (g ∷ rest) (k - g)) (2 ^ 64 - 1)) → get_or new k 0 ≡ min (number q (g ∷ rest) k) (2 ^ 64 - 1)
+        go : (k < g) ⊎ (g ≤ k) → (g ≤ k → get_or new (k - g) 0 ≡ min (number q (g ∷ rest) (k - g))
+            (2 ^ 64 - 1)) → get_or new k 0 ≡ min (number q (g ∷ rest) k) (2 ^ 64 - 1)
         go (inl c) r = same k c ∙ had k b ∙ ap (λ n. min n (2 ^ 64 - 1)) (sym (number-short q g rest p k c))
         go (inr c) r =
             more k c (omega (arith, n)) ∙ capped _ _ _ _ _ (had k b) (r c)
             ∙ ap (λ n. min n (2 ^ 64 - 1)) (sym (number-powers q g rest p k (rw e x) c))
 
 pub positive : (ds : List ℕ) → AreOrdered ds → Each (λ d. 0 < d) ds
-positive ds o = each-map (λ d. (1 ≤ d) × (d ≤ GREATEST_DEGREE)) (λ d. 0 < d) ds (λ d h. h.0) (recursion_from_All (λ d. (1 ≤ d) × (d ≤ GREATEST_DEGREE)) ds o.range)
+positive ds o = each-map (λ d. (1 ≤ d) × (d ≤ GREATEST_DEGREE)) (λ d. 0 < d) ds (λ d h. h.0)
+    (recursion_from_All (λ d. (1 ≤ d) × (d ≤ GREATEST_DEGREE)) ds o.range)
 
-pub number-of : (q : ℕ) (ds : List ℕ) (d n : ℕ) → AreOrdered ds → n ≡ min (number q ds d) (2 ^ 64 - 1) → (ms : List (List ℕ)) → IsMonomials q ds d ms → n ≡ min (length ms) GREATEST_COUNT
-number-of q ds d n o e ms M = e ∙ ap (λ ms. min (length ms) GREATEST_COUNT) (monomials-unique q ds d (all_monomials q ds d) ms (all-monomials q ds (positive ds o) d) M)
+pub number-of : (q : ℕ) (ds : List ℕ) (d n : ℕ) → AreOrdered ds → n ≡ min (number q ds d) (2 ^ 64 - 1)
+    → (ms : List (List ℕ)) → IsMonomials q ds d ms → n ≡ min (length ms) GREATEST_COUNT
+number-of q ds d n o e ms M = e ∙ ap (λ ms. min (length ms) GREATEST_COUNT)
+    (monomials-unique q ds d (all_monomials q ds d) ms (all-monomials q ds (positive ds o) d) M)

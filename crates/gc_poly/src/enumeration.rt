@@ -19,7 +19,8 @@ fn count_powers(counts: &mut [u64], degree: usize)
     requires { 0 < degree }
     ensures same { (j : ℕ) → j < degree → slice_index counts.new j ≡ slice_index counts.old j }
     ensures more { (j : ℕ) → degree ≤ j → j < length counts.old
-        → slice_index counts.new j ≡ min (slice_index counts.old j + slice_index counts.new (j - degree)) (2 ^ 64 - 1) }
+        → slice_index counts.new j ≡ min (slice_index counts.old j + slice_index counts.new (j - degree))
+        (2 ^ 64 - 1) }
 {
     for j in degree..counts.len() {
         counts[j] = counts[j].saturating_add(counts[j - degree]);
@@ -31,7 +32,8 @@ fn count_once(counts: &mut [u64], degree: usize)
     requires { 0 < degree }
     ensures same { (j : ℕ) → j < degree → slice_index counts.new j ≡ slice_index counts.old j }
     ensures more { (j : ℕ) → degree ≤ j → j < length counts.old
-        → slice_index counts.new j ≡ min (slice_index counts.old j + slice_index counts.old (j - degree)) (2 ^ 64 - 1) }
+        → slice_index counts.new j ≡ min (slice_index counts.old j + slice_index counts.old (j - degree))
+        (2 ^ 64 - 1) }
 {
     for j in (degree..counts.len()).rev() {
         counts[j] = counts[j].saturating_add(counts[j - degree]);
@@ -57,7 +59,8 @@ pub fn count_monomials(gens: &Gens, d: u32) -> u64
     counts[d as usize]
 }
 
-// Adds to the found the monomials of degree `rest` in the generators from i on, each behind the exponents that are chosen for those before.
+// Adds to the found the monomials of degree `rest` in the generators from i on, each behind the exponents
+// that are chosen for those before.
 fn find_monomials(
     alloc: Global,
     gens: &Gens,
@@ -70,7 +73,8 @@ fn find_monomials(
     requires small { rest ≤ GREATEST_DEGREE }
     requires trimmed { rest ≡ 0 → IsTrimmed chosen.old.items }
     ensures found { OnOk result (found.new.items
-        ≡ found.old.items ++ map (λ m. chosen.old.items ++ m) (all_monomials (greatest gens.now) (drop i gens.now.degrees) rest)) }
+        ≡ found.old.items ++ map (λ m. chosen.old.items ++ m)
+        (all_monomials (greatest gens.now) (drop i gens.now.degrees) rest)) }
     ensures chosen { OnOk result (chosen.new.items ≡ chosen.old.items) }
     ensures ordered { AreOrdered gens.now.degrees }
 {

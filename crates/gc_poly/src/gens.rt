@@ -10,7 +10,8 @@ use group_table::{Memory, Prime};
 use std::alloc::Global;
 use std::marker::Model;
 
-/// A prime p, and generators of degrees from 1 to `GREATEST_DEGREE` that do not descend. Contracts see p and the list of degrees.
+/// A prime p, and generators of degrees from 1 to `GREATEST_DEGREE` that do not descend. Contracts see p and
+/// the list of degrees.
 #[derive(Debug, Drop)]
 pub struct Gens {
     prime: Prime,

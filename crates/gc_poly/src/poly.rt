@@ -9,7 +9,8 @@ use group_table::Memory;
 use std::alloc::Global;
 use std::marker::Model;
 
-/// A polynomial: a degree, and descending terms whose coefficients are not 0. Contracts see the degree and the terms.
+/// A polynomial: a degree, and descending terms whose coefficients are not 0. Contracts see the degree and
+/// the terms.
 #[derive(Debug, Drop)]
 pub struct Poly {
     degree: u32,
@@ -86,7 +87,8 @@ impl Poly {
     /// The greatest monomial, that of the first term.
     pub fn leading(&self) -> Option<&Mono>
         ensures none { IsNone result ↔ (self.now.terms ≡ []) }
-        ensures first { IfSome result (λ m. option_map (λ t. t.monomial) (slice_get self.now.terms 0) ≡ Some m.now) }
+        ensures first { IfSome result (λ m. option_map (λ t. t.monomial)
+            (slice_get self.now.terms 0) ≡ Some m.now) }
         ensures greatest { IfSome result (λ m. AreBelow m.now self.now.terms) }
     {
         if self.terms.is_empty() {

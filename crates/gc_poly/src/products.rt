@@ -68,7 +68,8 @@ fn add_product(
     requires monomials { AreFactors gens.now out.old.degree m.now n.now }
     requires below { (c < gens.now.prime) × (x < gens.now.prime) }
     ensures { OnOk result (IsSumOf gens.now out.old.degree
-        (out.old.terms ++ multiple (greatest gens.now) gens.now.degrees c m.now (record { scalar = x; monomial = n.now } ∷ [])) out.new) }
+        (out.old.terms ++ multiple (greatest gens.now) gens.now.degrees c m.now
+        (record { scalar = x; monomial = n.now } ∷ [])) out.new) }
 {
     let p = u32::from(gens.modulus());
     if !is_product(gens, m, n) {

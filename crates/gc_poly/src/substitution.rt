@@ -19,7 +19,8 @@ fn times_power(alloc: Global, gens: &Gens, f: Poly, g: &Poly, exponent: u8) -> R
     requires right { IsOverGenerators gens.now g.now }
     requires degrees { f.degree + g.now.degree * exponent ≤ GREATEST_DEGREE }
     ensures { IfOk result (IsSumOf gens.now (f.degree + g.now.degree * exponent)
-        (powers (polynomials (greatest gens.now) gens.now.degrees) 0 f.terms (record { degree = g.now.degree; class = g.now.terms }) exponent)) }
+        (powers (polynomials (greatest gens.now) gens.now.degrees) 0 f.terms
+        (record { degree = g.now.degree; class = g.now.terms }) exponent)) }
 {
     let mut out = f;
     for _k in 0..exponent {
@@ -45,7 +46,8 @@ fn image_of(alloc: Global, to: &Gens, m: &Mono, images: &Polys) -> Result<Poly, 
     Ok(out)
 }
 
-/// The polynomial f, of degree at most `GREATEST_DEGREE`, with each generator of `from` replaced by its image, a polynomial over `to` of its degree.
+/// The polynomial f, of degree at most `GREATEST_DEGREE`, with each generator of `from` replaced by its
+/// image, a polynomial over `to` of its degree.
 pub fn subst(
     alloc: Global,
     from: &Gens,

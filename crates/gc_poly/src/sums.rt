@@ -20,7 +20,8 @@ pub(crate) fn find(terms: &[Term], m: &Mono) -> Result<usize, usize>
     ensures above { IfErr result (λ i. (k : ℕ) (d : polynomials.Term) → k < i
         → IsGreater (slice_index_or terms.now k d).monomial m.now) }
     ensures here { IfErr result (λ i. (d : polynomials.Term) → i < length terms.now
-        → ((slice_index_or terms.now i d).monomial ≢ m.now) × (IsGreater (slice_index_or terms.now i d).monomial m.now → ⊥)) }
+        → ((slice_index_or terms.now i d).monomial ≢ m.now)
+        × (IsGreater (slice_index_or terms.now i d).monomial m.now → ⊥)) }
 {
     for (i, t) in terms.iter().enumerate() {
         if t.monomial() == m {
@@ -89,7 +90,8 @@ pub fn sub(alloc: Global, gens: &Gens, a: &Poly, b: &Poly) -> Result<Poly, Memor
     requires left { IsOverGenerators gens.now a.now }
     requires right { IsOverGenerators gens.now b.now }
     requires degrees { a.now.degree ≡ b.now.degree }
-    ensures { IfOk result (IsSumOf gens.now a.now.degree (a.now.terms ++ scaled (greatest gens.now) b.now.terms)) }
+    ensures { IfOk result (IsSumOf gens.now a.now.degree
+        (a.now.terms ++ scaled (greatest gens.now) b.now.terms)) }
 {
     let mut difference = Poly::zero(alloc, a.degree());
     add_multiple(gens, &mut difference, 1, a)?;

@@ -43,7 +43,8 @@ fn join(alloc: Global, pieces: &[Vec<u8>], separator: u8) -> Result<Vec<u8>, Mem
 fn term_bytes(alloc: Global, gens: &Gens, coefficient: u8, m: &Mono) -> Result<Vec<u8>, Memory>
     requires trimmed { IsTrimmed m.now }
     requires within { length m.now ≤ length gens.now.degrees }
-    ensures { IfOk result (λ bytes. bytes.items ≡ term_text gens.now.degrees (record { scalar = coefficient; monomial = m.now })) }
+    ensures { IfOk result (λ bytes. bytes.items ≡ term_text gens.now.degrees
+        (record { scalar = coefficient; monomial = m.now })) }
 {
     let mut pieces = Vec::new(alloc);
     if coefficient != 1 || m.is_empty() {
@@ -58,11 +59,13 @@ fn term_bytes(alloc: Global, gens: &Gens, coefficient: u8, m: &Mono) -> Result<V
     join(alloc, &pieces, b'*')
 }
 
-/// Appends the text of a polynomial: terms joined by `+`, each a coefficient from 2 on and powers joined by `*`.
+/// Appends the text of a polynomial: terms joined by `+`, each a coefficient from 2 on and powers joined by
+/// `*`.
 /// After a refusal the text is as before.
 pub fn write_text(gens: &Gens, f: &Poly, text: &mut Vec<u8>) -> Result<(), Memory>
     requires { IsOverGenerators gens.now f.now }
-    ensures ok { OnOk result (text.new.items ≡ text.old.items ++ polynomial_text gens.now.degrees f.now.terms) }
+    ensures ok { OnOk result (text.new.items
+        ≡ text.old.items ++ polynomial_text gens.now.degrees f.now.terms) }
     ensures err { OnErr result (text.new.items ≡ text.old.items) }
 {
     let alloc = *text.allocator();

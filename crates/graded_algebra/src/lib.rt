@@ -1,4 +1,5 @@
-//! Graded commutative algebras by generators and relations: evaluation of polynomials in classes, which generators and relations are taken
+//! Graded commutative algebras by generators and relations: evaluation of polynomials in classes, which
+//! generators and relations are taken
 //! degree by degree, that they present the algebra, standard monomials and normal forms.
 //! The laws are stated for algebras of vectors over the field of p = q + 1 elements.
 #![tactic(auto)]
@@ -13,7 +14,8 @@ ghost use Rattle.graded_algebra.specs.Presentations.{IsGenerators, IsSpanGenerat
 ghost use Rattle.graded_algebra.specs.Vectors.{Vector, vectors, GradedAlgebra, IsOfDegree, algebra, basis};
 ghost use Rattle.graded_algebra.specs.Claims.{PresentationClaims};
 
-/// Generators and relations that are taken degree by degree through n present the algebra through n, and none of them is superfluous.
+/// Generators and relations that are taken degree by degree through n present the algebra through n, and none
+/// of them is superfluous.
 pub fn presentation()
     ensures { (q n : ℕ) → IsFieldModulo (suc q)
         → (G : GradedAlgebra q) (gs : List (Generator (Vector q))) (rs : List Polynomial)
@@ -60,7 +62,8 @@ pub fn generators_by_spans()
 pub fn one_list_of_span_generators()
     ensures { (q n : ℕ) (mul : ℕ → ℕ → Vector q → Vector q → Vector q) (basis : ℕ → List (Vector q))
         (gs hs : List (Generator (Vector q)))
-        → IsSpanGenerators q (vectors q mul) basis n gs → IsSpanGenerators q (vectors q mul) basis n hs → gs ≡ hs }
+        → IsSpanGenerators q (vectors q mul) basis n gs → IsSpanGenerators q (vectors q mul) basis n hs
+        → gs ≡ hs }
 {}
 
 /// The relations through n stay those where generators of degree above n are added, whatever the product is.

@@ -1,5 +1,7 @@
-//! Polynomials over graded commutative generators: monomials, sums of terms, their products with signs, ideals, and their texts.
-//! For odd p a generator of odd degree has exponent at most 1, and two factors of odd degree change places with the sign -1.
+//! Polynomials over graded commutative generators: monomials, sums of terms, their products with signs,
+//! ideals, and their texts.
+//! For odd p a generator of odd degree has exponent at most 1, and two factors of odd degree change places
+//! with the sign -1.
 #![tactic(auto)]
 
 ghost use Rattle.std.specs.Prelude.{◌≡◌, ℕ, ◌<◌, List, ◌++◌, All};
@@ -20,12 +22,15 @@ pub fn one_list_of_monomials()
 
 /// There is a list of all monomials of a degree, where the generators have positive degrees.
 pub fn a_list_of_monomials()
-    ensures { (q : ℕ) (ds : List ℕ) → All (λ e. 0 < e) ds → (d : ℕ) → (ms : List (List ℕ)) × IsMonomials q ds d ms }
+    ensures { (q : ℕ) (ds : List ℕ) → All (λ e. 0 < e) ds → (d : ℕ) → (ms : List (List ℕ))
+        × IsMonomials q ds d ms }
 {}
 
-/// A sum of terms of a degree stays one where generators are added behind the others, and so does a stored polynomial.
+/// A sum of terms of a degree stays one where generators are added behind the others, and so does a stored
+/// polynomial.
 pub fn polynomials_stay()
-    ensures sum { (q : ℕ) (ds new : List ℕ) (d : ℕ) (f : List Term) → IsOver q ds d f → IsOver q (ds ++ new) d f }
+    ensures sum { (q : ℕ) (ds new : List ℕ) (d : ℕ) (f : List Term) → IsOver q ds d f
+        → IsOver q (ds ++ new) d f }
     ensures stored { (q : ℕ) (ds new : List ℕ) (d : ℕ) (f : List Term)
         → IsPolynomial q ds d f → IsPolynomial q (ds ++ new) d f }
 {}

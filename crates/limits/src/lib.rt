@@ -1,4 +1,5 @@
-//! The limits of the calculator, each stated here alone: code, definitions, fault lines and tests read them from here.
+//! The limits of the calculator, each stated here alone: code, definitions, fault lines and tests read them
+//! from here.
 #![tactic(auto)]
 
 /// The most bytes that a text has.

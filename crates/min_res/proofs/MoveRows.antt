@@ -28,14 +28,21 @@ module _ (G : PGroup) (b : ℕ) where
   by gs rows = moves_of G b gs rows
 
   -- g v less v is (g - 1) v, on rows
-  pub move-is : (g : Below (order G.table)) (x y out : List ℕ) (p c : ℕ) → IsRow G.table.p (order G.table * b) x → y ≡ row_of G b ((free_module G b).act g (table_of G b x)) → p ≡ G.table.p → c ≡ G.table.p - 1
+  pub move-is : (g : Below (order G.table)) (x y out : List ℕ) (p c : ℕ)
+      → IsRow G.table.p (order G.table * b) x → y ≡ row_of G b ((free_module G b).act g (table_of G b x))
+      → p ≡ G.table.p → c ≡ G.table.p - 1
       → out ≡ add_multiple p c y x → out ≡ f g x
-  move-is g x y out p c r e s t o = o ∙ ap₂ (λ k l. add_multiple k l y x) (s ∙ sym (residues G)) (t ∙ (let z : suc q ≡ G.table.p = residues G in let w : G.table.p - 1 ≡ q = omega (arith, z) in w))
+  move-is g x y out p c r e s t o = o ∙ ap₂ (λ k l. add_multiple k l y x) (s ∙ sym (residues G)) (t
+      ∙ (let z : suc q ≡ G.table.p = residues G in let w : G.table.p - 1 ≡ q = omega (arith, z) in w))
       ∙ ap (λ z. add_multiple (suc q) q z x) e
-      ∙ same-row (add_multiple (suc q) q (row_of G b w) x) (f g x) (add_multiple_is_row q (row_of G b w) x positive ((layer_coordinates G b).row-is w) r') ((layer_coordinates G b).row-is (sub (free_module G b) w (table_of G b x)))
+      ∙ same-row (add_multiple (suc q) q (row_of G b w) x) (f g x)
+      (add_multiple_is_row q (row_of G b w) x positive ((layer_coordinates G b).row-is w) r')
+      ((layer_coordinates G b).row-is (sub (free_module G b) w (table_of G b x)))
       (λ j. congruent_trans (entry_congruent q (row_of G b w) x ((layer_coordinates G b).row-is w) r' j)
-      (congruent_trans (congruent_eq (ap (λ z. entry (row_of G b w) j + q * entry z j) (sym ((layer_coordinates G b).row-table x r'))))
-      (congruent_sym (at-sub q (group G) (order G.table * b) (free_module G b) (layer_coordinates G b) w (table_of G b x) j))))
+      (congruent_trans (congruent_eq (ap (λ z. entry (row_of G b w) j + q * entry z j)
+      (sym ((layer_coordinates G b).row-table x r'))))
+      (congruent_sym (at-sub q (group G) (order G.table * b) (free_module G b) (layer_coordinates G b) w
+      (table_of G b x) j))))
     where
       w : (free_module G b).of
       w = (free_module G b).act g (table_of G b x)
@@ -47,24 +54,35 @@ module _ (G : PGroup) (b : ℕ) where
       r' = subst (λ p. IsRow p (order G.table * b) x) (sym (residues G)) r
 
   -- one more row
-  pub rows-step : (g : Below (order G.table)) (old rows : List (List ℕ)) (k : ℕ) (out : List ℕ) → k < length rows → out ≡ f g (row rows k)
+  pub rows-step : (g : Below (order G.table)) (old rows : List (List ℕ)) (k : ℕ) (out : List ℕ)
+      → k < length rows → out ≡ f g (row rows k)
       → (old ++ map (f g) (take k rows)) ++ out ∷ [] ≡ old ++ map (f g) (take (k + 1) rows)
   rows-step g old rows k out l e = append_assoc old (map (f g) (take k rows)) (out ∷ [])
-      ∙ ap (λ (z : List (List ℕ)). old ++ z) (ap (λ x. map (f g) (take k rows) ++ x ∷ []) e ∙ sym (map-append (f g) (take k rows) (row rows k ∷ []))
-      ∙ ap (map (f g)) (sym (take-suc rows k [] l) ∙ ap (λ n. take n rows) (let z : suc k ≡ k + 1 = omega arith in z)))
+      ∙ ap (λ (z : List (List ℕ)). old ++ z) (ap (λ x. map (f g) (take k rows) ++ x ∷ []) e
+      ∙ sym (map-append (f g) (take k rows) (row rows k ∷ []))
+      ∙ ap (map (f g)) (sym (take-suc rows k [] l)
+      ∙ ap (λ n. take n rows) (let z : suc k ≡ k + 1 = omega arith in z)))
 
   -- one more element
-  pub by-step : (gs : List (Below (order G.table))) (g : Below (order G.table)) (rows : List (List ℕ)) → by (gs ++ g ∷ []) rows ≡ by gs rows ++ map (f g) rows
+  pub by-step : (gs : List (Below (order G.table))) (g : Below (order G.table)) (rows : List (List ℕ))
+      → by (gs ++ g ∷ []) rows ≡ by gs rows ++ map (f g) rows
   by-step [] g rows = append-nil (map (f g) rows)
-  by-step (k ∷ gs) g rows = ap (λ (z : List (List ℕ)). map (f k) rows ++ z) (by-step gs g rows) ∙ sym (append_assoc (map (f k) rows) (by gs rows) (map (f g) rows))
+  by-step (k ∷ gs) g rows = ap (λ (z : List (List ℕ)). map (f k) rows ++ z) (by-step gs g rows)
+      ∙ sym (append_assoc (map (f k) rows) (by gs rows) (map (f g) rows))
 
-  pub moves-step : (gs : List (Below (order G.table))) (elements : List ℕ) (i : ℕ) (rows old new : List (List ℕ)) → numbers gs ≡ elements → i < length elements → get_or elements i 0 < order G.table
-      → old ≡ by (take i gs) rows → ((g : Below (order G.table)) → g.0 ≡ get_or elements i 0 → new ≡ old ++ map (f g) rows) → new ≡ by (take (i + 1) gs) rows
-  moves-step gs elements i rows old new n l b e k = k g g-is ∙ ap (λ (z : List (List ℕ)). z ++ map (f g) rows) e ∙ sym (by-step (take i gs) g rows)
-      ∙ ap (λ (z : List (Below (order G.table))). by z rows) (sym (take-suc gs i d inside) ∙ ap (λ m. take m gs) (let z : suc i ≡ i + 1 = omega arith in z))
+  pub moves-step : (gs : List (Below (order G.table))) (elements : List ℕ) (i : ℕ)
+      (rows old new : List (List ℕ)) → numbers gs ≡ elements → i < length elements
+      → get_or elements i 0 < order G.table
+      → old ≡ by (take i gs) rows → ((g : Below (order G.table)) → g.0 ≡ get_or elements i 0
+      → new ≡ old ++ map (f g) rows) → new ≡ by (take (i + 1) gs) rows
+  moves-step gs elements i rows old new n l b e k = k g g-is
+      ∙ ap (λ (z : List (List ℕ)). z ++ map (f g) rows) e ∙ sym (by-step (take i gs) g rows)
+      ∙ ap (λ (z : List (Below (order G.table))). by z rows) (sym (take-suc gs i d inside)
+      ∙ ap (λ m. take m gs) (let z : suc i ≡ i + 1 = omega arith in z))
     where
       inside : i < length gs
-      inside = subst (λ m. i < m) (length-map gs (λ (x : Below (order G.table)). x.0)) (subst (λ xs. i < length xs) (sym n) l)
+      inside = subst (λ m. i < m) (length-map gs (λ (x : Below (order G.table)). x.0))
+          (subst (λ xs. i < length xs) (sym n) l)
 
       d : Below (order G.table)
       d = (get_or elements i 0, b)
@@ -73,9 +91,12 @@ module _ (G : PGroup) (b : ℕ) where
       g = get_or gs i d
 
       g-is : g.0 ≡ get_or elements i 0
-      g-is = sym (get_or-map (λ (x : Below (order G.table)). x.0) gs i d 0 inside) ∙ ap (λ xs. get_or xs i 0) n
+      g-is = sym (get_or-map (λ (x : Below (order G.table)). x.0) gs i d 0 inside)
+          ∙ ap (λ xs. get_or xs i 0) n
 
   -- all elements
-  pub moves-end : (gs : List (Below (order G.table))) (elements : List ℕ) (rows : List (List ℕ)) → numbers gs ≡ elements → by (take (length elements) gs) rows ≡ by gs rows
+  pub moves-end : (gs : List (Below (order G.table))) (elements : List ℕ) (rows : List (List ℕ))
+      → numbers gs ≡ elements → by (take (length elements) gs) rows ≡ by gs rows
   moves-end gs elements rows n = ap (λ (z : List (Below (order G.table))). by z rows)
-      (ap (λ m. take m gs) (sym (ap length n) ∙ length-map gs (λ (x : Below (order G.table)). x.0)) ∙ take-length gs)
+      (ap (λ m. take m gs) (sym (ap length n) ∙ length-map gs (λ (x : Below (order G.table)). x.0))
+      ∙ take-length gs)

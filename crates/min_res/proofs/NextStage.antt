@@ -51,36 +51,48 @@ module _ (G : PGroup) (d : ℕ) where
 
   -- the greedy choice modulo the moves by generators
   pub positions-one : (gens : List ℕ) → AreGenerators G.table gens → (R t : List (List ℕ)) (xs : List ℕ)
-      → ((gs : List (Below (order G.table))) → numbers gs ≡ gens → R ≡ moves_by Γ (free G d) (layer_coordinates G (rank_of G d)) gs E)
-      → IsEchelonOf G.table.p (order G.table * rank_of G d) R t → IsGreedy G.table.p E t xs → xs ≡ S.positions d
+      → ((gs : List (Below (order G.table))) → numbers gs ≡ gens
+      → R ≡ moves_by Γ (free G d) (layer_coordinates G (rank_of G d)) gs E)
+      → IsEchelonOf G.table.p (order G.table * rank_of G d) R t → IsGreedy G.table.p E t xs
+      → xs ≡ S.positions d
   positions-one gens A R t xs m e g = go (elements (order G.table) gens A.below)
     where
       go : (gs : List (Below (order G.table))) × (numbers gs ≡ gens) → xs ≡ S.positions d
       go (gs, n) = greedy_is_one (suc q) E _ (length E) xs (S.positions d)
-          (greedy-by-generators Γ (product G.table) numbered (order G.table * rank_of G d) (free G d) (layer_coordinates G (rank_of G d)) E
-          (submodule-list G d).matrix (submodule-list G d).submodule gs (λ x l. subst (λ ys. Rattle.min_res.specs.Products.IsProductOf (product G.table) ys x) (sym n) (A.generate x l)) t xs
-          (subst (λ p. IsEchelonOf p (order G.table * rank_of G d) (moves_by Γ (free G d) (layer_coordinates G (rank_of G d)) gs E) t) (sym (residues G))
+          (greedy-by-generators Γ (product G.table) numbered (order G.table * rank_of G d) (free G d)
+          (layer_coordinates G (rank_of G d)) E
+          (submodule-list G d).matrix (submodule-list G d).submodule gs
+          (λ x l. subst (λ ys. Rattle.min_res.specs.Products.IsProductOf (product G.table) ys x) (sym n)
+          (A.generate x l)) t xs
+          (subst (λ p. IsEchelonOf p (order G.table * rank_of G d)
+          (moves_by Γ (free G d) (layer_coordinates G (rank_of G d)) gs E) t) (sym (residues G))
           (subst (λ Z. IsEchelonOf G.table.p (order G.table * rank_of G d) Z t) (m gs n) e))
           (subst (λ p. IsGreedy p E t xs) (sym (residues G)) g))
           ((stage_rows_are G).rows_are d)
 
-  module _ (M : List (List ℕ)) (matrix : IsMatrixOf (layer_coordinates G (rank_of G (suc d))) (layer_coordinates G (rank_of G d)) (∂ G d) M) where
+  module _ (M : List (List ℕ)) (matrix : IsMatrixOf (layer_coordinates G (rank_of G (suc d)))
+      (layer_coordinates G (rank_of G d)) (∂ G d) M) where
     abbrev parts : List (List ℕ) → List (List ℕ) → StageParts
     parts kernel sections = record { positions = S.positions d; kernel = kernel; sections = sections }
 
     -- each row of the list of K_d is in the span of the matrix
     pub targets : AreInSpan G.table.p M E
     targets = subst (λ p. AreInSpan p M E) (residues G)
-        ((computed-claims q (field G) (prime_power G) Γ (layer_coordinates G) (rank_of G d) E (parts [] []) M (submodule-list G d)).targets ((stage_rows_are G).rows_are d) matrix)
+        ((computed-claims q (field G) (prime_power G) Γ (layer_coordinates G) (rank_of G d) E (parts [] []) M
+        (submodule-list G d)).targets ((stage_rows_are G).rows_are d) matrix)
 
     -- the kernel of the matrix and the preimages of the rows
-    pub parts-found : (kernel sections : List (List ℕ)) → IsKernelOf G.table.p M kernel → length sections ≡ length E
-        → ((k : ℕ) → k < length E → IsPreimage G.table.p M kernel (row E k) (row sections k)) → parts kernel sections ≡ parts_of S d
+    pub parts-found : (kernel sections : List (List ℕ)) → IsKernelOf G.table.p M kernel
+        → length sections ≡ length E
+        → ((k : ℕ) → k < length E → IsPreimage G.table.p M kernel (row E k) (row sections k))
+        → parts kernel sections ≡ parts_of S d
     parts-found kernel sections k c p = parts-one G d (parts kernel sections)
-        ((computed-claims q (field G) (prime_power G) Γ (layer_coordinates G) (rank_of G d) E (parts kernel sections) M (submodule-list G d)).next (record {
+        ((computed-claims q (field G) (prime_power G) Γ (layer_coordinates G) (rank_of G d) E
+        (parts kernel sections) M (submodule-list G d)).next (record {
           positions_are = (stage_rows_are G).rows_are d;
           matrix_is = matrix;
           kernel_is = subst (λ p. IsKernelOf p M kernel) (sym (residues G)) k;
           section_count = c;
-          sections_are = λ i l. subst (λ r. IsPreimage r M kernel (row E i) (row sections i)) (sym (residues G)) (p i l);
+          sections_are = λ i l. subst (λ r. IsPreimage r M kernel (row E i) (row sections i))
+              (sym (residues G)) (p i l);
         }))

@@ -163,9 +163,11 @@ module _ (G : PGroup) where
 
   -- the combination of the rows of the matrix is the boundary
   combined : (d : ℕ) (rows : List (List ℕ)) (u : List ℕ) → IsMatrixAt d rows
-      → IsRow (suc q) (width (suc d)) u → combination_row (suc q) (width d) (entry u) rows ≡ boundary_row G d u
+      → IsRow (suc q) (width (suc d)) u → combination_row (suc q) (width d)
+      (entry u) rows ≡ boundary_row G d u
   combined d rows u m r =
-      sym (combination_row-is (let z : 0 < suc q = omega arith in z) (entry u) rows matrix (boundary_row G d u)
+      sym (combination_row-is (let z : 0 < suc q = omega arith in z) (entry u) rows matrix
+      (boundary_row G d u)
       ((C d).row-is _)
       (λ j l. value-row q (group G) (field G).above_one (width (suc d)) (width d)
       (free G (suc d)) (free G d) (C (suc d)) (C d) (∂ G d)

@@ -28,18 +28,25 @@ module _ (G : PGroup) (d : ℕ) where
 
   -- a combination of members is a member
   combined : (v : (free G d).of) → IsInSpan (suc q) E (entry (row_of G (rank_of G d) v)) → K G d v
-  combined v s = subst (K G d) (sym (from-span q (group G) (order G.table * rank_of G d) (free G d) (layer_coordinates G (rank_of G d)) E list.matrix s.0 v s.1))
+  combined v s = subst (K G d) (sym (from-span q (group G) (order G.table * rank_of G d) (free G d)
+      (layer_coordinates G (rank_of G d)) E list.matrix s.0 v s.1))
       (total-in q (group G) (free G d) (K G d) (kernel-submodule-at G d) (below (length E)) _
-      (λ i. times-in (free G d) (K G d) (kernel-submodule-at G d) (s.0 i.0) (table_of G (rank_of G d) (row E i.0)) (list.members i.0 i.1).1))
+      (λ i. times-in (free G d) (K G d) (kernel-submodule-at G d) (s.0 i.0)
+      (table_of G (rank_of G d) (row E i.0)) (list.members i.0 i.1).1))
 
-  in-kernel : (x : List ℕ) → IsRow (suc q) (order G.table * rank_of G d) x → IsInSpan (suc q) E (entry x) → InK G d x
+  in-kernel : (x : List ℕ) → IsRow (suc q) (order G.table * rank_of G d) x → IsInSpan (suc q) E (entry x)
+      → InK G d x
   in-kernel x r s = (
     r,
     combined (table_of G (rank_of G d) x)
-        (subst (λ y. IsInSpan (suc q) E (entry y)) (sym ((layer_coordinates G (rank_of G d)).row-table x r)) s),
+        (subst (λ y. IsInSpan (suc q) E (entry y))
+        (sym ((layer_coordinates G (rank_of G d)).row-table x r)) s),
   )
 
   -- a row in the span of the list
-  pub in-kernel-list : (m : MatrixValue) (x : List ℕ) → m ≡ kernel_value G d → IsRow G.table.p m.width x → IsInSpan m.p m.rows (entry x) → InK G d x
-  in-kernel-list m x e = let P : MatrixValue → Type 0 = λ m. IsRow G.table.p m.width x → IsInSpan m.p m.rows (entry x) → InK G d x in
-      subst P (sym e) (subst (λ p. IsRow p (order G.table * rank_of G d) x → IsInSpan p E (entry x) → InK G d x) (residues G) (in-kernel x))
+  pub in-kernel-list : (m : MatrixValue) (x : List ℕ) → m ≡ kernel_value G d → IsRow G.table.p m.width x
+      → IsInSpan m.p m.rows (entry x) → InK G d x
+  in-kernel-list m x e = let P : MatrixValue → Type 0 = λ m. IsRow G.table.p m.width x
+      → IsInSpan m.p m.rows (entry x) → InK G d x in
+      subst P (sym e) (subst (λ p. IsRow p (order G.table * rank_of G d) x → IsInSpan p E (entry x)
+      → InK G d x) (residues G) (in-kernel x))

@@ -15,11 +15,13 @@ module _ (f : ℕ → Equation) (lo m hi : ℕ) (e : hi ≡ lo + m) where
   pub loop-none : ((k : ℕ) → lo ≤ k → k < hi → Passes (f k) true) → None ≡ first_false (map f (range lo m))
   loop-none h = sym (none-range f lo m (λ k a. h k a.0 (let b = a.1 in omega (arith, b, e))))
 
-  pub loop-some : (j : ℕ) → lo ≤ j → j < hi → ((k : ℕ) → lo ≤ k → k < j → Passes (f k) true) → Passes (f j) false
+  pub loop-some : (j : ℕ) → lo ≤ j → j < hi → ((k : ℕ) → lo ≤ k → k < j → Passes (f k) true)
+      → Passes (f j) false
       → Some (f j).name ≡ first_false (map f (range lo m))
   loop-some j h l before s = sym (some-range f lo m j (h, omega (arith, l, e)) before s)
 
-pub loop-next : (f : ℕ → Equation) (lo j : ℕ) → ((k : ℕ) → lo ≤ k → k < j → Passes (f k) true) → Passes (f j) true
+pub loop-next : (f : ℕ → Equation) (lo j : ℕ) → ((k : ℕ) → lo ≤ k → k < j → Passes (f k) true)
+    → Passes (f j) true
     → (k : ℕ) → lo ≤ k → k < j + 1 → Passes (f k) true
 loop-next f lo j before s k h l = go (less-or k j)
   where
@@ -65,40 +67,50 @@ module _ (P : Presented) (m : ℕ) (L : Layer) (R : IsLayerOf P m L) (F : IsSoun
   image-of : (j : ℕ) → i < j → j < L.gens + 1 → image (generator j) ≡ α (P.prime ^ (j - suc i))
   image-of j h l =
       let g = F.generators-len in
-      R.numbers.images-are (generator j) (F.generators-below j (omega (arith, l, g))) ∙ ap α (R.numbers.generators-are j h (let e = R.gens-is in omega (arith, l, e)))
+      R.numbers.images-are (generator j) (F.generators-below j (omega (arith, l, g)))
+      ∙ ap α (R.numbers.generators-are j h (let e = R.gens-is in omega (arith, l, e)))
 
-  image-power : (j : ℕ) → i ≤ j → j < L.gens + 1 → image (power j) ≡ α (number P.prime (drop i (power_word P j)))
+  image-power : (j : ℕ) → i ≤ j → j < L.gens + 1
+      → image (power j) ≡ α (number P.prime (drop i (power_word P j)))
   image-power j h l =
       let g = F.powers-len in
       let e = R.gens-is in
-      R.numbers.images-are (power j) (F.powers-below j (omega (arith, l, g))) ∙ ap α (R.numbers.powers-are j h (omega (arith, l, e)))
+      R.numbers.images-are (power j) (F.powers-below j (omega (arith, l, g)))
+      ∙ ap α (R.numbers.powers-are j h (omega (arith, l, e)))
 
   place : (n k j : ℕ) → j < k → k < n + 1 → k * (n + 1) + j < (n + 1) * (n + 1)
   place n k j h l = grind arith
 
-  image-commutator : (k j : ℕ) → i < j → j < k → k < L.gens + 1 → image (commutator k j) ≡ α (number P.prime (drop i (commutator_word P k j)))
+  image-commutator : (k j : ℕ) → i < j → j < k → k < L.gens + 1
+      → image (commutator k j) ≡ α (number P.prime (drop i (commutator_word P k j)))
   image-commutator k j h l s =
       let g = F.commutators-len in
       let w = place L.gens k j l s in
       R.numbers.images-are (commutator k j) (F.commutators-below (k * (L.gens + 1) + j) (omega (arith, g, w)))
-      ∙ ap α (ap (λ n. get_or L.commutators.now (k * (n + 1) + j) 0) (sym R.gens-is) ∙ R.numbers.commutators-are k j h l (let e = R.gens-is in omega (arith, s, e)))
+      ∙ ap α (ap (λ n. get_or L.commutators.now (k * (n + 1) + j) 0) (sym R.gens-is)
+      ∙ R.numbers.commutators-are k j h l (let e = R.gens-is in omega (arith, s, e)))
 
   pub power-tells : (j : ℕ) → i < j → j < L.gens + 1
       → Passes (power_test P mul i m j) (eqb (pow t 0 (image (generator j)) L.prime) (image (power j)))
   power-tells j h l =
-      power-passes P R.numbers.some R.numbers.valid i m R.numbers.count R.numbers.index t R.numbers.table-is j (among j h l)
-      ∙ sym (ap₂ eqb (ap₂ (pow t 0) (image-of j h l) R.prime-is) (image-power j (let h' : i < j = h in omega (arith, h')) l))
+      power-passes P R.numbers.some R.numbers.valid i m R.numbers.count R.numbers.index t R.numbers.table-is j
+      (among j h l)
+      ∙ sym (ap₂ eqb (ap₂ (pow t 0) (image-of j h l) R.prime-is)
+      (image-power j (let h' : i < j = h in omega (arith, h')) l))
 
   pub swap-tells : (j k : ℕ) → i < j → j < k → k < L.gens + 1
       → Passes (swap_test P mul i m j k)
-      (eqb (t (image (generator k)) (image (generator j))) (t (t (image (generator j)) (image (generator k))) (image (commutator k j))))
+      (eqb (t (image (generator k)) (image (generator j)))
+      (t (t (image (generator j)) (image (generator k))) (image (commutator k j))))
   swap-tells j k h l s =
       let h' : i < j = h in
       let l' : j < k = l in
       let ij : j < L.gens + 1 = omega (arith, l', s) in
       let ik : i < k = omega (arith, h', l') in
-      swap-passes P R.numbers.some R.numbers.valid i m R.numbers.count R.numbers.index t R.numbers.table-is j k (among j h ij) (among k ik s) l
-      ∙ sym (ap₂ eqb (ap₂ t (image-of k ik s) (image-of j h ij)) (ap₂ t (ap₂ t (image-of j h ij) (image-of k ik s)) (image-commutator k j h l s)))
+      swap-passes P R.numbers.some R.numbers.valid i m R.numbers.count R.numbers.index t R.numbers.table-is j
+      k (among j h ij) (among k ik s) l
+      ∙ sym (ap₂ eqb (ap₂ t (image-of k ik s) (image-of j h ij))
+      (ap₂ t (ap₂ t (image-of j h ij) (image-of k ik s)) (image-commutator k j h l s)))
 
   own : i < L.gens + 1 → power i ≡ number P.prime (drop i (power_word P i))
   own l = R.numbers.powers-are i (omega arith) (let e = R.gens-is in omega (arith, l, e))
@@ -115,9 +127,11 @@ module _ (P : Presented) (m : ℕ) (L : Layer) (R : IsLayerOf P m L) (F : IsSoun
       let h' : i < j = h in
       let g = F.generators-len in
       let w : power i ≡ number P.prime (drop i (power_word P i)) = own (omega (arith, h', l)) in
-      let gen : generator j ≡ P.prime ^ (j - suc i) = R.numbers.generators-are j h (let e = R.gens-is in omega (arith, l, e)) in
+      let gen : generator j ≡ P.prime ^ (j - suc i) =
+      R.numbers.generators-are j h (let e = R.gens-is in omega (arith, l, e)) in
       let agree =
       iterate-agree (width L) α (at L.images.now) (λ k b. sym (R.numbers.images-are k b)) F.images-below.small
       L.prime (generator j) (F.generators-below j (omega (arith, l, g))) in
-      twist-passes P R.numbers.some R.numbers.valid i m R.numbers.count R.numbers.index t R.numbers.table-is j (among j h l)
+      twist-passes P R.numbers.some R.numbers.valid i m R.numbers.count R.numbers.index t R.numbers.table-is j
+      (among j h l)
       ∙ sym (ap₂ eqb (ap₂ t w (sym agree.0 ∙ ap₂ (iterate α) R.prime-is gen)) (ap₂ t gen w))

@@ -12,7 +12,8 @@ use Rattle.pc_group.specs.WordNumbers.{IsTableOf}
 use Rattle.pc_group.specs.GroupOf.{IsCommutator, IsGroupOf, HasPowers, HasCommutators}
 
 -- a product that agrees with that of a group
-pub group-same : (n : ℕ) (f g : ℕ → ℕ → ℕ) → ((a b : ℕ) → a < n → b < n → g a b ≡ f a b) → IsGroup n f → IsGroup n g
+pub group-same : (n : ℕ) (f g : ℕ → ℕ → ℕ) → ((a b : ℕ) → a < n → b < n → g a b ≡ f a b) → IsGroup n f
+    → IsGroup n g
 group-same n f g e F = record {
   closed = λ a b h k. subst (λ t. t < n) (sym (e a b h k)) (F.closed a b h k);
   some = F.some;
@@ -24,7 +25,8 @@ group-same n f g e F = record {
   inverse = λ a h. let i = F.inverse a h in (i.0, i.1, e a i.0 h i.1 ∙ i.2, e i.0 a i.1 h ∙ i.3);
 }
 
-module _ (P : Presented) (s : 1 < P.prime) (V : IsPresentation P) (C : GroupClaims P) (p n : ℕ) (ts : List ℕ) (a : p ≡ P.prime) (b : n ≡ P.gens) (T : IsTableOf P 1 P.gens ts) where
+module _ (P : Presented) (s : 1 < P.prime) (V : IsPresentation P) (C : GroupClaims P) (p n : ℕ) (ts : List ℕ)
+    (a : p ≡ P.prime) (b : n ≡ P.gens) (T : IsTableOf P 1 P.gens ts) where
   abbrev G : GroupTable
   G = record { p = p; n = n; entries = ts }
 
@@ -62,20 +64,24 @@ module _ (P : Presented) (s : 1 < P.prime) (V : IsPresentation P) (C : GroupClai
   }
 
   -- the product of the elements of two words
-  product-words : (x y : List ℕ) → IsWord P.prime P.gens 0 x → IsWord P.prime P.gens 0 y → product G (N x) (N y) ≡ N (multiply P x y)
+  product-words : (x y : List ℕ) → IsWord P.prime P.gens 0 x → IsWord P.prime P.gens 0 y
+      → product G (N x) (N y) ≡ N (multiply P x y)
   product-words x y h k =
       product-of (N x) (N y) (C.numbering.number-below x h) (C.numbering.number-below y k)
       ∙ ap N (ap₂ (multiply P) (C.numbering.word-number x h) (C.numbering.word-number y k))
 
-  pow-word : (x : List ℕ) → IsWord P.prime P.gens 0 x → (e : ℕ) → IsWord P.prime P.gens 0 (pow (multiply P) (identity P.gens) x e)
+  pow-word : (x : List ℕ) → IsWord P.prime P.gens 0 x → (e : ℕ)
+      → IsWord P.prime P.gens 0 (pow (multiply P) (identity P.gens) x e)
   pow-word x h zero = C.group.one-word
   pow-word x h (suc e) = C.group.closed x (pow (multiply P) (identity P.gens) x e) h (pow-word x h e)
 
   -- the power of the element of a word
-  power-word : (x : List ℕ) → IsWord P.prime P.gens 0 x → (e : ℕ) → power G (N x) e ≡ N (pow (multiply P) (identity P.gens) x e)
+  power-word : (x : List ℕ) → IsWord P.prime P.gens 0 x → (e : ℕ)
+      → power G (N x) e ≡ N (pow (multiply P) (identity P.gens) x e)
   power-word x h zero = sym C.numbering.one
   power-word x h (suc e) =
-      let i : N x < order G = let z = order-of in let k = C.numbering.number-below x h in omega (arith, z, k) in
+      let i : N x < order G = let z = order-of in let k = C.numbering.number-below x h in
+      omega (arith, z, k) in
       commutes-power G is-group (N x) (N x) e i i refl
       ∙ ap (product G (N x)) (power-word x h e)
       ∙ product-words x (pow (multiply P) (identity P.gens) x e) h (pow-word x h e)
@@ -97,7 +103,8 @@ module _ (P : Presented) (s : 1 < P.prime) (V : IsPresentation P) (C : GroupClai
       let l' : i < j = l in
       let k' : j ≤ P.gens = k in
       let word = V.commutator j i h l k in
-      let c : IsWord P.prime P.gens 0 (commutator_word P j i) = record { len = word.len; small = word.small; later = λ m z. absurd (omega (arith, z)) } in
+      let c : IsWord P.prime P.gens 0 (commutator_word P j i) =
+      record { len = word.len; small = word.small; later = λ m z. absurd (omega (arith, z)) } in
       let gj = C.numbering.generators j (omega (arith, h', l')) k in
       let gi = C.numbering.generators i h (omega (arith, l', k')) in
       subst₂ (λ x y. IsCommutator G x y (N (commutator_word P j i))) gj gi
@@ -105,4 +112,5 @@ module _ (P : Presented) (s : 1 < P.prime) (V : IsPresentation P) (C : GroupClai
       ∙ ap N (C.relations.commutator j i h l k)
       ∙ sym
       (ap (product G (N (g i))) (product-words (g j) (commutator_word P j i) (is-word j) c)
-      ∙ product-words (g i) (multiply P (g j) (commutator_word P j i)) (is-word i) (C.group.closed (g j) (commutator_word P j i) (is-word j) c)))
+      ∙ product-words (g i) (multiply P (g j) (commutator_word P j i)) (is-word i)
+      (C.group.closed (g j) (commutator_word P j i) (is-word j) c)))

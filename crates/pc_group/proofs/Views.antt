@@ -10,11 +10,14 @@ use Rattle.pc_group.specs.declared.presentation.Presentation.TheInside.{Inside}
 use Rattle.pc_group.specs.Parts.{with_power}
 use Rattle.pc_group.specs.Shown.{shown}
 
-pub shown-powers : (s : Inside) (i : ℕ) (w : SmallVec ℕ) → shown (record s { powers = with_item s.powers (i - 1) w }) ≡ with_power (shown s) i w.items
-shown-powers s i w = ap (λ ws. record (shown s) { powers = ws }) (map-set (λ v. v.items) s.powers.items (i - 1) w)
+pub shown-powers : (s : Inside) (i : ℕ) (w : SmallVec ℕ)
+    → shown (record s { powers = with_item s.powers (i - 1) w }) ≡ with_power (shown s) i w.items
+shown-powers s i w = ap (λ ws. record (shown s) { powers = ws })
+    (map-set (λ v. v.items) s.powers.items (i - 1) w)
 
 -- what an element of a list stands for
-pub entry-shown : {X Y : Type 0} (xs : List X) (k : ℕ) (x : X) (f : X → Y) (d : Y) → k < length xs → x ≡ get_or xs k x → get_or (map f xs) k d ≡ f x
+pub entry-shown : {X Y : Type 0} (xs : List X) (k : ℕ) (x : X) (f : X → Y) (d : Y) → k < length xs
+    → x ≡ get_or xs k x → get_or (map f xs) k d ≡ f x
 entry-shown xs k x f d l e = get_or-map f xs k x d l ∙ ap f (sym e)
 
 pub prime_value-above : (p : Prime) → 1 < prime_value p

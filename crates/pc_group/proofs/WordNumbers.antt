@@ -15,7 +15,8 @@ number-small p s (e ∷ w) h =
     omega (arith, head, z, k, d)
 
 -- the number of the exponents from place k on
-pub number-from : (p : ℕ) (w : List ℕ) (k : ℕ) → k < length w → number p (drop k w) ≡ get_or w k 0 + p * number p (drop (suc k) w)
+pub number-from : (p : ℕ) (w : List ℕ) (k : ℕ) → k < length w
+    → number p (drop k w) ≡ get_or w k 0 + p * number p (drop (suc k) w)
 number-from p [] k l = absurd (omega (arith, l))
 number-from p (e ∷ w) zero l = refl
 number-from p (e ∷ w) (suc k) l = number-from p w k (omega (arith, l))

@@ -11,7 +11,8 @@ generator_number P i = P.prime ^ (i - 1)
 abbrev pub IsCommutator : GroupTable → (a b c : ℕ) → Type 0
 IsCommutator G a b c = product G a b ≡ product G b (product G a c)
 
--- G has p^n elements, and the product of two of them is the number of the product of the elements with these numbers
+-- G has p^n elements, and the product of two of them is the number of the product of the elements with these
+-- numbers
 pub record IsGroupOf (P : Presented) (G : GroupTable) : Type 0 where
   pub prime-is : G.p ≡ P.prime
   pub rank-is : G.n ≡ P.gens
@@ -21,7 +22,8 @@ pub record IsGroupOf (P : Presented) (G : GroupTable) : Type 0 where
 
 -- g_i^p is the element of the word w_i
 abbrev pub HasPowers : Presented → GroupTable → Type 0
-HasPowers P G = (i : ℕ) → 0 < i → i ≤ P.gens → power G (generator_number P i) P.prime ≡ number P.prime (power_word P i)
+HasPowers P G = (i : ℕ) → 0 < i → i ≤ P.gens
+    → power G (generator_number P i) P.prime ≡ number P.prime (power_word P i)
 
 -- [g_j, g_i] is the element of the word c_{j,i}
 abbrev pub HasCommutators : Presented → GroupTable → Type 0

@@ -1,4 +1,5 @@
--- Presentations by their parts: the one of the elementary abelian group, and others from it, a word at a time.
+-- Presentations by their parts: the one of the elementary abelian group, and others from it, a word at a
+-- time.
 use Rattle.std.specs.Prelude.{ℕ, ◌-◌, List, [], map, replicate, get_or, slice_set}
 use Rattle.smallvec.specs.SmallVec.{SmallVec}
 use Rattle.power_commutator.specs.Presentations.{Presentation, identity, range}

@@ -36,4 +36,5 @@ IsStepOf P i m r =
 -- no test is false, and the list is the product of layer 1; or the name is that of the first false test
 abbrev pub IsOutcomeOf : Presented → Result (Vec ℕ Global) TestName → Type 0
 IsOutcomeOf P r =
-    MatchResult r (λ table. (first_fault P ≡ None) × IsTableOf P 1 P.gens table.items) (λ name. first_fault P ≡ Some name)
+    MatchResult r (λ table. (first_fault P ≡ None)
+    × IsTableOf P 1 P.gens table.items) (λ name. first_fault P ≡ Some name)

@@ -25,7 +25,8 @@ pub fn collect(alloc: Global, c: &Consistent, gens: &[u8]) -> Result<Word, Memor
     Ok(word)
 }
 
-// Multiplies a collected word by g_k. What stands right of g_k's place is collected after it, as it is once g_k has passed it.
+// Multiplies a collected word by g_k. What stands right of g_k's place is collected after it, as it is once
+// g_k has passed it.
 fn collect_generator(alloc: Global, c: &Consistent, word: &mut [u8], k: u8) -> Result<(), Memory>
     requires first { 0 < k }
     requires last { k ≤ c.now.gens }

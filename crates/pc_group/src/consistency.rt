@@ -56,7 +56,8 @@ impl Consistent {
 }
 
 /// Makes the consistency tests of a presentation of order p^n at most 256, from the last layer to the first.
-/// A presentation without a false test is that of a group of order p^n; otherwise the first false test is named.
+/// A presentation without a false test is that of a group of order p^n; otherwise the first false test is
+/// named.
 pub fn check(alloc: Global, p: Presentation) -> Result<Consistent, Refused>
     requires { p.prime ^ p.gens ≤ 256 }
     ensures same { IfOk result (λ c. c ≡ p) }

@@ -8,7 +8,8 @@ use crate::tables::{entry, iterated};
 use group_table::Memory;
 use std::alloc::Global;
 
-/// The entry of a layer's table at (a, b): `next` is the next layer's table, `images` is its twist and w its power word.
+/// The entry of a layer's table at (a, b): `next` is the next layer's table, `images` is its twist and w its
+/// power word.
 pub(crate) fn product_entry(
     prime: usize,
     next: &[u16],

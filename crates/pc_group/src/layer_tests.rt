@@ -7,7 +7,8 @@ ghost use Rattle.power_commutator.specs.Order.{row};
 use crate::tables::{entry, iterated, power};
 use power_commutator::TestName;
 
-/// The layer after g_i by the numbers of its elements: its product, the map α_i, and the words there of g_j^p and [g_k, g_j].
+/// The layer after g_i by the numbers of its elements: its product, the map α_i, and the words there of g_j^p
+/// and [g_k, g_j].
 /// The word of g_j^p stands at j, that of [g_k, g_j] at k (n + 1) + j, and g_j at j.
 #[derive(Clone, Copy)]
 pub(crate) struct Layer<'a> {

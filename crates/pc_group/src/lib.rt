@@ -1,4 +1,5 @@
-//! Power-commutator presentations as values: their making, their consistency tests and the group of a consistent one.
+//! Power-commutator presentations as values: their making, their consistency tests and the group of a
+//! consistent one.
 //! See Holt, Eick and O'Brien, Handbook of Computational Group Theory, chapter 8.
 #![tactic(auto)]
 

@@ -1,4 +1,5 @@
-//! One step down the layers: the lists of a layer, its tests, and the product of the layer with one generator more.
+//! One step down the layers: the lists of a layer, its tests, and the product of the layer with one generator
+//! more.
 
 ghost use Rattle.std.specs.Prelude.{◌≡◌, ◌<◌, ◌≤◌, ◌+◌, ◌*◌, ◌^◌, ℕ, suc, length, IfOk};
 ghost use Rattle.power_commutator.specs.Presentations.{Presentation as Presented, IsPresentation};
@@ -14,7 +15,8 @@ use group_table::Memory;
 use power_commutator::TestName;
 use std::alloc::Global;
 
-/// The lists of a layer after g_i: the images under α_i, the words of g_j^p and [g_k, g_j], and the generators.
+/// The lists of a layer after g_i: the images under α_i, the words of g_j^p and [g_k, g_j], and the
+/// generators.
 #[derive(Drop)]
 pub(crate) struct Lists {
     pub images: Vec<u16>,

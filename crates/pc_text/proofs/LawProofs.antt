@@ -16,7 +16,10 @@ use Rattle.pc_text.proofs.SpelledTexts.{content_read}
 use Rattle.pc_text.proofs.WrittenTexts.{content_written}
 
 pub table_is_grammar : TableIsGrammar
-table_is_grammar text c = ((λ h. (content_kept text c h, content_written text c h)), (λ h. ap content h.1 ∙ content_read c h.0))
+table_is_grammar text c = (
+  (λ h. (content_kept text c h, content_written text c h)),
+  (λ h. ap content h.1 ∙ content_read c h.0),
+)
 
 pub stands_for : (text : List ℕ) (P : Presentation) → read text ≡ Ok P → StandsFor text P
 stands_for text P h =
@@ -30,8 +33,10 @@ outside text f h c good is =
 
 is_outside : (e : TextFault) (text : List ℕ) → TextFails e (read text) → IsOutside e text
 is_outside faults.Memory text h = tt
-is_outside (faults.At kind line column) text h = outside text (record { kind = kind; line = line; column = column }) h
+is_outside (faults.At kind line column) text h =
+    outside text (record { kind = kind; line = line; column = column }) h
 
-pub all_outside : {X : Type 0} (text : List ℕ) (r : Result X TextFault) → IfErr r (λ e. TextFails e (read text)) → IfErr r (λ e. IsOutside e text)
+pub all_outside : {X : Type 0} (text : List ℕ) (r : Result X TextFault)
+    → IfErr r (λ e. TextFails e (read text)) → IfErr r (λ e. IsOutside e text)
 all_outside text (Ok x) h = tt
 all_outside text (Err e) h = is_outside e text h

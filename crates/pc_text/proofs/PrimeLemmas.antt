@@ -17,6 +17,7 @@ no_prime : (v : ℕ) → 2 ≢ v → 3 ≢ v → 5 ≢ v → 7 ≢ v → prime v
 no_prime v two three five seven = grind (arith, nat_tests)
 
 -- what `Prime::of` answers is the prime of the text
-pub prime_found : (v : ℕ) (r : Option Prime) → IfSome r (λ q. prime_value q ≡ v) → (IsNone r → (q : Prime) → prime_value q ≢ v) → option_map prime_value r ≡ prime v
+pub prime_found : (v : ℕ) (r : Option Prime) → IfSome r (λ q. prime_value q ≡ v)
+    → (IsNone r → (q : Prime) → prime_value q ≢ v) → option_map prime_value r ≡ prime v
 prime_found v (Some q) some none = let e : prime_value q ≡ v = some in rw (← e) (sym (prime_is q))
 prime_found v None some none = sym (no_prime v (none refl P2) (none refl P3) (none refl P5) (none refl P7))

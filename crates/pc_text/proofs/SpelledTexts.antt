@@ -17,25 +17,34 @@ use Rattle.pc_text.proofs.SpelledLines.{relation_read, relation_text_lacks}
 use Rattle.pc_text.proofs.TextLemmas.{good_line}
 use Rattle.pc_text.proofs.CutsLemmas.{content_by_cuts}
 
-line_cut : (bytes rest : List ℕ) → lacks 10 bytes ≡ true → cut_at 10 (line_text bytes ++ rest) ≡ Some (bytes, rest)
+line_cut : (bytes rest : List ℕ) → lacks 10 bytes ≡ true
+    → cut_at 10 (line_text bytes ++ rest) ≡ Some (bytes, rest)
 line_cut bytes rest h =
     let e : line_text bytes ++ rest ≡ bytes ++ 10 ∷ rest = simp append_assoc in
     ap (cut_at 10) e ∙ cut_spelled 10 bytes rest h
 
-relations_read : (p n : ℕ) (earlier rs : List Relation) (k : ℕ) → p ≤ 7 → n ≤ MOST_GENERATORS → All (IsRelation p n) rs → AreNew earlier rs
-    → relations (by_number p n) earlier (lines_from k (flat_map (λ r. line_text (relation_text p r)) rs)) ≡ Ok (earlier ++ rs)
-relations_read p n earlier [] k prime few are new = ap (λ (rs : List Relation). Ok rs) (sym (append-nil earlier))
+relations_read : (p n : ℕ) (earlier rs : List Relation) (k : ℕ) → p ≤ 7 → n ≤ MOST_GENERATORS
+    → All (IsRelation p n) rs → AreNew earlier rs
+    → relations (by_number p n) earlier (lines_from k (flat_map (λ r. line_text (relation_text p r)) rs)) ≡ Ok
+    (earlier ++ rs)
+relations_read p n earlier [] k prime few are new =
+    ap (λ (rs : List Relation). Ok rs) (sym (append-nil earlier))
 relations_read p n earlier (r ∷ rs) k prime few are new =
     let rest = flat_map (λ r. line_text (relation_text p r)) rs in
     let is = are 0 r (omega arith) in
     let whole : (earlier ++ r ∷ []) ++ rs ≡ earlier ++ r ∷ rs = simp append_assoc in
     good_line (by_number p n) earlier r k (line_text (relation_text p r) ++ rest) (relation_text p r) rest
-    (line_cut (relation_text p r) rest (relation_text_lacks p n r prime few is)) (relation_read p n earlier r prime few is new.0)
-    ∙ relations_read p n (earlier ++ r ∷ []) rs (k + 1) prime few (λ i d lt. are (suc i) d (omega arith)) new.1
+    (line_cut (relation_text p r) rest (relation_text_lacks p n r prime few is))
+    (relation_read p n earlier r prime few is new.0)
+    ∙ relations_read p n (earlier ++ r ∷ []) rs (k + 1) prime few
+    (λ i d lt. are (suc i) d (omega arith)) new.1
     ∙ ap (λ (rs : List Relation). Ok rs) whole
 
-text_from : (t0 t1 t2 t3 h a b : List ℕ) (p n : ℕ) (found : List Relation) → cut_at 10 t0 ≡ Some (h, t1) → header h ≡ Some tt → cut_at 10 t1 ≡ Some (a, t2) → prime_line a ≡ Some p
-    → cut_at 10 t2 ≡ Some (b, t3) → count_line b ≡ Some n → relations (by_number p n) [] (lines_from 4 t3) ≡ Ok found → by_cuts t0 ≡ Ok (record { prime = p; gens = n; relations = found })
+text_from : (t0 t1 t2 t3 h a b : List ℕ) (p n : ℕ) (found : List Relation) → cut_at 10 t0 ≡ Some (h, t1)
+    → header h ≡ Some tt → cut_at 10 t1 ≡ Some (a, t2) → prime_line a ≡ Some p
+    → cut_at 10 t2 ≡ Some (b, t3) → count_line b ≡ Some n
+    → relations (by_number p n) [] (lines_from 4 t3) ≡ Ok found
+    → by_cuts t0 ≡ Ok (record { prime = p; gens = n; relations = found })
 unfolding by_cuts
 text_from t0 t1 t2 t3 h a b p n found c0 is0 c1 is1 c2 is2 rest = rw (c0, is0, c1, is1, c2, is2, rest) refl
 
@@ -62,5 +71,8 @@ content_read c good =
     let t1 = line_text a ++ t2 in
     sym (content_by_cuts (text_of c))
     ∙ text_from (text_of c) t1 t2 t3 (codes "pgroup 1") a b c.prime c.gens c.relations
-    (line_cut (codes "pgroup 1") t1 refl) refl (line_cut a t2 (decimal_lacks 10 c.prime line_feed_no_digit (omega (arith, small)))) (prime_spelled c.prime small good.prime)
-    (line_cut b t3 (decimal_lacks 10 c.gens line_feed_no_digit good.few)) (count_spelled c.gens good.few) (relations_read c.prime c.gens [] c.relations 4 small good.few good.relations good.once)
+    (line_cut (codes "pgroup 1") t1 refl) refl
+    (line_cut a t2 (decimal_lacks 10 c.prime line_feed_no_digit (omega (arith, small))))
+    (prime_spelled c.prime small good.prime)
+    (line_cut b t3 (decimal_lacks 10 c.gens line_feed_no_digit good.few)) (count_spelled c.gens good.few)
+    (relations_read c.prime c.gens [] c.relations 4 small good.few good.relations good.once)

@@ -9,7 +9,8 @@ use Rattle.pc_text.specs.Words.{by_number}
 use Rattle.pc_text.specs.Texts.{Content, header, prime_line, count_line, relations}
 
 -- a line that has its LF and is of its form, and the text after it
-abbrev pub checked : {A : Type 0} → Kind → ℕ → (List ℕ → Option A) → Option (List ℕ × List ℕ) → Result (A × List ℕ) Fault
+abbrev pub checked : {A : Type 0} → Kind → ℕ → (List ℕ → Option A) → Option (List ℕ × List ℕ)
+    → Result (A × List ℕ) Fault
 checked kind n form None = in_line n (expect kind 1 None)
 checked kind n form (Some cut) = in_line n (expect kind 1 (form cut.0)) >>= λ x. Ok (x, cut.1)
 

@@ -26,7 +26,8 @@ bad_prime : read (text (codes "pgroup 1" ∷ codes "prime 4" ∷ codes "gens 1" 
 unfolding at text
 bad_prime = refl
 
-bad_count : read (text (codes "pgroup 1" ∷ codes "prime 2" ∷ (codes "gens " ++ decimal (MOST_GENERATORS + 1)) ∷ [])) ≡ at 3 1 kind.BadCount
+bad_count : read (text (codes "pgroup 1" ∷ codes "prime 2" ∷
+    (codes "gens " ++ decimal (MOST_GENERATORS + 1)) ∷ [])) ≡ at 3 1 kind.BadCount
 unfolding at text digits
 bad_count = refl
 
@@ -50,11 +51,13 @@ bad_order : read (over_two (codes "[g1,g2] = 1")) ≡ at 4 1 kind.BadOrder
 unfolding at text over_two
 bad_order = refl
 
-bad_word : read (text (codes "pgroup 1" ∷ codes "prime 2" ∷ codes "gens 3" ∷ codes "g1^2 = g3*g2" ∷ [])) ≡ at 4 11 kind.BadWord
+bad_word : read (text (codes "pgroup 1" ∷ codes "prime 2" ∷ codes "gens 3" ∷ codes "g1^2 = g3*g2" ∷ []))
+    ≡ at 4 11 kind.BadWord
 unfolding at text
 bad_word = refl
 
-repeated : read (text (codes "pgroup 1" ∷ codes "prime 2" ∷ codes "gens 2" ∷ codes "g1^2 = g2" ∷ codes "g1^2 = g2" ∷ [])) ≡ at 5 1 kind.Repeated
+repeated : read (text (codes "pgroup 1" ∷ codes "prime 2" ∷ codes "gens 2" ∷ codes "g1^2 = g2" ∷ codes "g1^2 =
+    g2" ∷ [])) ≡ at 5 1 kind.Repeated
 unfolding at text
 repeated = refl
 

@@ -9,7 +9,8 @@ use Rattle.pc_text.specs.Grammar.{text_of}
 use Rattle.pc_text.specs.Canonical.{canonical}
 use Rattle.pc_text.specs.Rules.{IsContent}
 
--- the table of faults and the grammar agree: a text has no fault and says c exactly where it is written from c, which keeps the rules
+-- the table of faults and the grammar agree: a text has no fault and says c exactly where it is written from
+-- c, which keeps the rules
 abbrev pub TableIsGrammar : Type 0
 TableIsGrammar = (text : List ℕ) (c : Content) → (content text ≡ Ok c) ↔ (IsContent c × (text ≡ text_of c))
 

@@ -42,7 +42,8 @@ commutator_shape names bytes = option_and_then (commutator_parts names) (cut_at 
 
 abbrev pub left_shape : Naming → List ℕ → Option Left
 left_shape names [] = None
-left_shape names (b ∷ bytes) = if b == open_bracket then commutator_shape names bytes else power_shape names (b ∷ bytes)
+left_shape names (b ∷ bytes) = if b == open_bracket then commutator_shape names bytes else power_shape names
+    (b ∷ bytes)
 
 -- the parts of a line: a left side, ` = `, and at least one byte, of which the first is at this column
 pub record Shape : Type 0 where
@@ -57,7 +58,8 @@ joined column (Some left) None = None
 joined column None right = None
 
 abbrev pub shape_parts : Naming → List ℕ × List ℕ → Option Shape
-shape_parts names parts = joined (length parts.0 + 4) (left_shape names parts.0) (after_front (codes "= ") parts.1)
+shape_parts names parts = joined (length parts.0 + 4) (left_shape names parts.0)
+    (after_front (codes "= ") parts.1)
 
 abbrev pub shape : Naming → List ℕ → Option Shape
 shape names bytes = option_and_then (shape_parts names) (cut_at space bytes)

@@ -35,7 +35,8 @@ LineGives view (Err e) read = LineFails e read
 -- The same of a text.
 abbrev pub TextFails : {Y : Type 0} → TextFault → Result Y Fault → Type 0
 TextFails faults.Memory read = Unit {0}
-TextFails (faults.At kind line column) read = read ≡ Err (record { kind = kind; line = line; column = column })
+TextFails (faults.At kind line column) read =
+    read ≡ Err (record { kind = kind; line = line; column = column })
 
 abbrev pub TextGives : {X Y : Type 0} → (X → Y) → Result X TextFault → Result Y Fault → Type 0
 TextGives view (Ok x) read = read ≡ Ok (view x)
@@ -75,8 +76,10 @@ shown_content c = record {
 }
 
 -- the first line of the text gives this relation, and next is the text after it
-pub record GoesOn (names : Naming) (found : List table.Relation) (r : table.Relation) (number : ℕ) (text next : List ℕ) : Type 0 where
-  pub same : relations names found (lines_from number text) ≡ relations names (found ++ r ∷ []) (lines_from (number + 1) next)
+pub record GoesOn (names : Naming) (found : List table.Relation) (r : table.Relation) (number : ℕ)
+    (text next : List ℕ) : Type 0 where
+  pub same : relations names found (lines_from number text) ≡ relations names (found ++ r ∷ [])
+      (lines_from (number + 1) next)
   pub less : length next + 1 ≤ length text
 
 -- a stop in this line

@@ -8,7 +8,8 @@ use Rattle.pc_text.specs.Faults.{◌>>=◌, expect}
 use Rattle.pc_text.specs.Lines.{cut_at}
 use Rattle.pc_text.specs.Numerals.{numeral, is_digits}
 
--- what the first lines fix: the prime, the number of generators, what has the shape of a name, and the generator of a name
+-- what the first lines fix: the prime, the number of generators, what has the shape of a name, and the
+-- generator of a name
 pub record Naming : Type 0 where
   pub prime : ℕ
   pub gens : ℕ
@@ -52,7 +53,8 @@ abbrev pub above : ℕ → Option Factor → Option Factor
 above least None = None
 above least (Some f) = if nat_lt least f.0 then Some f else None
 
--- the exponents with those of the pieces written in; the first piece stands at this column, and its generator comes after least
+-- the exponents with those of the pieces written in; the first piece stands at this column, and its generator
+-- comes after least
 abbrev pub factors : Naming → ℕ → ℕ → List ℕ → List (List ℕ) → Result (List ℕ) LineFault
 factors names least column exponents [] = Ok exponents
 factors names least column exponents (piece ∷ pieces) = do

@@ -43,8 +43,10 @@ pub fn strip<'a>(front: &[u8], bytes: &'a [u8]) -> Option<&'a [u8]>
 
 /// The first part of the bytes that b cuts, and what stands after that b.
 pub fn first_part(bytes: &[u8], b: u8) -> (&[u8], Option<&[u8]>)
-    ensures parts { slice_split (λ x. x == b) bytes.now ≡ result.0.now ∷ option_map_or (λ rest. slice_split (λ x. x == b) rest.now) result.1 [] }
-    ensures len { MatchOption result.1 (length result.0.now ≡ length bytes.now) (λ rest. length result.0.now + length rest.now + 1 ≡ length bytes.now) }
+    ensures parts { slice_split (λ x. x == b) bytes.now ≡ result.0.now ∷ option_map_or
+        (λ rest. slice_split (λ x. x == b) rest.now) result.1 [] }
+    ensures len { MatchOption result.1 (length result.0.now ≡ length bytes.now)
+        (λ rest. length result.0.now + length rest.now + 1 ≡ length bytes.now) }
 {
     let at = first(bytes, b);
     if at < bytes.len() {

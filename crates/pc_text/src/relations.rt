@@ -163,7 +163,8 @@ pub fn read_relation(
     bytes: &[u8],
 ) -> Result<Relation, LineStop>
     requires { length bytes.now ≤ 2 ^ 16 }
-    ensures gives { LineGives shown result (relation (names_of frame) (map shown earlier.now) bytes.now true) }
+    ensures gives { LineGives shown result
+        (relation (names_of frame) (map shown earlier.now) bytes.now true) }
     ensures column { IfErr result HasSmallColumn }
 {
     let Some(parts) = line_shape(frame, bytes) else {

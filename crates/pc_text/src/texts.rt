@@ -71,8 +71,10 @@ fn next_relation<'a>(
 ) -> Result<(Relation, &'a [u8]), TextFault>
     requires few { length text.now ≤ LONGEST_TEXT }
     requires more { 0 < length text.now }
-    ensures ok { IfOk result (λ x. GoesOn (names_of frame) (all_shown found.now) (shown x.0) number text.now x.1.now) }
-    ensures err { IfErr result (λ e. TextFails e (relations (names_of frame) (all_shown found.now) (lines_from number text.now))) }
+    ensures ok { IfOk result (λ x. GoesOn (names_of frame) (all_shown found.now)
+        (shown x.0) number text.now x.1.now) }
+    ensures err { IfErr result (λ e. TextFails e
+        (relations (names_of frame) (all_shown found.now) (lines_from number text.now))) }
 {
     let Some((bytes, next)) = cut(text, b'\n') else {
         return Err(at(Kind::BadLine, number));
@@ -86,7 +88,8 @@ fn next_relation<'a>(
 /// The relations of the lines from line 4 on.
 fn relations_of(alloc: Global, frame: Frame, text: &[u8]) -> Result<Vec<Relation>, TextFault>
     requires { length text.now ≤ LONGEST_TEXT }
-    ensures { TextGives (λ v. all_shown v.items) result (relations (names_of frame) [] (lines_from 4 text.now)) }
+    ensures { TextGives (λ v. all_shown v.items) result
+        (relations (names_of frame) [] (lines_from 4 text.now)) }
 {
     let mut found: Vec<Relation> = Vec::new(alloc);
     let mut rest = text;

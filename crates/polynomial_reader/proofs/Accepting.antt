@@ -31,14 +31,16 @@ factors-joined f [] v = refl
 factors-joined f (g ∷ fs) v = append_assoc (factor_text f) (42 ∷ joined_by star (map factor_text (g ∷ fs))) v
     ∙ ap (λ w. factor_text f ++ 42 ∷ w) (factors-joined g fs v)
 
-terms-joined : (t : NamedTerm) (ts : List NamedTerm) → joined_by plus_sign (map term_bytes (t ∷ ts)) ≡ term_bytes t ++ more_terms ts
+terms-joined : (t : NamedTerm) (ts : List NamedTerm)
+    → joined_by plus_sign (map term_bytes (t ∷ ts)) ≡ term_bytes t ++ more_terms ts
 terms-joined t [] = sym (append-nil (term_bytes t))
 terms-joined t (u ∷ ts) = ap (λ w. term_bytes t ++ 43 ∷ w) (terms-joined u ts)
 
 -- a numeral before its factors
 numeral-joined : (c : ℕ) (f : NamedFactor) (fs : List NamedFactor) (v : List ℕ) → c < 10
     → term_bytes (record { numeral = Some c; factors = f ∷ fs }) ++ v ≡ (48 + c) ∷ more_factors (f ∷ fs) v
-numeral-joined c f fs v l = ap (λ (ds : List ℕ). (ds ++ 42 ∷ joined_by star (map factor_text (f ∷ fs))) ++ v) (decimal_digit c l)
+numeral-joined c f fs v l = ap (λ (ds : List ℕ). (ds ++ 42 ∷ joined_by star (map factor_text (f ∷ fs))) ++ v)
+    (decimal_digit c l)
     ∙ ap (λ w. (48 + c) ∷ 42 ∷ w) (factors-joined f fs v)
 
 module _ (q : ℕ) where
@@ -123,12 +125,21 @@ module _ (q : ℕ) where
   at-end Coefficient h = absurd (false≢true h)
   at-end TermStart h = absurd (false≢true h)
   at-end FactorStart h = absurd (false≢true h)
-  at-end Name h = record { name = []; exponent = None; named = tt; formed = tt; rest = []; tail = no-tail; bytes = refl }
+  at-end Name h = record {
+    name = [];
+    exponent = None;
+    named = tt;
+    formed = tt;
+    rest = [];
+    tail = no-tail;
+    bytes = refl;
+  }
   at-end Caret h = absurd (false≢true h)
   at-end (ExponentDigit c) h = λ l u. digit-exponent c [] l u no-tail
   at-end Exponent h = no-tail
 
-  chosen : {X : Type 0} (b : Bool) (x y : Option X) (z : X) → cond b x y ≡ Some z → ((b ≡ true) × (x ≡ Some z)) ⊎ ((b ≡ false) × (y ≡ Some z))
+  chosen : {X : Type 0} (b : Bool) (x y : Option X) (z : X) → cond b x y ≡ Some z
+      → ((b ≡ true) × (x ≡ Some z)) ⊎ ((b ≡ false) × (y ≡ Some z))
   chosen true x y z h = inl (refl, h)
   chosen false x y z h = inr (refl, h)
 
@@ -143,17 +154,28 @@ module _ (q : ℕ) where
   }
 
   plus-tail : (w : List ℕ) → TermRest w → Tail (43 ∷ w)
-  plus-tail w r = record { factors = []; others = r.first ∷ r.others; each = tt; each_other = (r.formed, r.each); bytes = ap (λ w. 43 ∷ w) r.bytes }
+  plus-tail w r = record {
+    factors = [];
+    others = r.first ∷ r.others;
+    each = tt;
+    each_other = (r.formed, r.each);
+    bytes = ap (λ w. 43 ∷ w) r.bytes;
+  }
 
   separator-tail : (b : ℕ) (w : List ℕ) (t : State) → separator b ≡ Some t → Rest t w → Tail (b ∷ w)
-  separator-tail b w t h r = go (chosen (eqb b 42) (Some FactorStart) (cond (eqb b 43) (Some TermStart) None) t h)
+  separator-tail b w t h r = go (chosen (eqb b 42) (Some FactorStart)
+      (cond (eqb b 43) (Some TermStart) None) t h)
     where
-      plus : ((eqb b 43 ≡ true) × (Some TermStart ≡ Some t)) ⊎ ((eqb b 43 ≡ false) × (None ≡ Some t)) → Tail (b ∷ w)
-      plus (inl e) = subst (λ b. Tail (b ∷ w)) (sym (eqb-true b 43 e.0)) (plus-tail w (let z : t ≡ TermStart = cc e.1 in subst (λ t. Rest t w) z r))
+      plus : ((eqb b 43 ≡ true) × (Some TermStart ≡ Some t)) ⊎ ((eqb b 43 ≡ false) × (None ≡ Some t))
+          → Tail (b ∷ w)
+      plus (inl e) = subst (λ b. Tail (b ∷ w)) (sym (eqb-true b 43 e.0))
+          (plus-tail w (let z : t ≡ TermStart = cc e.1 in subst (λ t. Rest t w) z r))
       plus (inr e) = cc e.1
 
-      go : ((eqb b 42 ≡ true) × (Some FactorStart ≡ Some t)) ⊎ ((eqb b 42 ≡ false) × (cond (eqb b 43) (Some TermStart) None ≡ Some t)) → Tail (b ∷ w)
-      go (inl e) = subst (λ b. Tail (b ∷ w)) (sym (eqb-true b 42 e.0)) (star-tail w (let z : t ≡ FactorStart = cc e.1 in subst (λ t. Rest t w) z r))
+      go : ((eqb b 42 ≡ true) × (Some FactorStart ≡ Some t))
+          ⊎ ((eqb b 42 ≡ false) × (cond (eqb b 43) (Some TermStart) None ≡ Some t)) → Tail (b ∷ w)
+      go (inl e) = subst (λ b. Tail (b ∷ w)) (sym (eqb-true b 42 e.0))
+          (star-tail w (let z : t ≡ FactorStart = cc e.1 in subst (λ t. Rest t w) z r))
       go (inr e) = plus (chosen (eqb b 43) (Some TermStart) None t e.1)
 
   -- a name, which begins with a letter, makes a factor
@@ -197,44 +219,60 @@ module _ (q : ℕ) where
     },
   )
 
-  star-after : (b : ℕ) (w : List ℕ) (t : State) → cond (eqb b 42) (Some FactorStart) None ≡ Some t → Rest t w → StarRest (b ∷ w)
+  star-after : (b : ℕ) (w : List ℕ) (t : State) → cond (eqb b 42) (Some FactorStart) None ≡ Some t → Rest t w
+      → StarRest (b ∷ w)
   star-after b w t h r = go (chosen (eqb b 42) (Some FactorStart) None t h)
     where
-      go : ((eqb b 42 ≡ true) × (Some FactorStart ≡ Some t)) ⊎ ((eqb b 42 ≡ false) × (None ≡ Some t)) → StarRest (b ∷ w)
-      go (inl e) = (w, ap (λ b. b ∷ w) (eqb-true b 42 e.0), (let z : t ≡ FactorStart = cc e.1 in subst (λ t. Rest t w) z r))
+      go : ((eqb b 42 ≡ true) × (Some FactorStart ≡ Some t)) ⊎ ((eqb b 42 ≡ false) × (None ≡ Some t))
+          → StarRest (b ∷ w)
+      go (inl e) = (
+        w,
+        ap (λ b. b ∷ w) (eqb-true b 42 e.0),
+        (let z : t ≡ FactorStart = cc e.1 in subst (λ t. Rest t w) z r),
+      )
       go (inr e) = cc e.1
 
   between : (b : ℕ) → (leb 49 b && leb b (48 + q)) ≡ true → (49 ≤ b) × (b ≤ 48 + q)
   between b h = (grind (arith, nat_tests), grind (arith, nat_tests))
 
-  term-after : (b : ℕ) (w : List ℕ) (t : State) → q ≤ 6 → term_start q b ≡ Some t → Rest t w → TermRest (b ∷ w)
-  term-after b w t m h r = go (chosen (is_letter b) (Some Name) (cond (leb 49 b && leb b (48 + q)) (Some Coefficient) None) t h)
+  term-after : (b : ℕ) (w : List ℕ) (t : State) → q ≤ 6 → term_start q b ≡ Some t → Rest t w
+      → TermRest (b ∷ w)
+  term-after b w t m h r = go (chosen (is_letter b) (Some Name)
+      (cond (leb 49 b && leb b (48 + q)) (Some Coefficient) None) t h)
     where
       numeral : ((leb 49 b && leb b (48 + q) ≡ true) × (Some Coefficient ≡ Some t)) ⊎
           ((leb 49 b && leb b (48 + q) ≡ false) × (None ≡ Some t)) → TermRest (b ∷ w)
       numeral (inl e) = let k = between b e.0 in let z : t ≡ Coefficient = cc e.1 in
           let n : 48 + (b - 48) ≡ b = omega (arith, k.0) in
-          subst (λ b. TermRest (b ∷ w)) n (numeral-term (b - 48) w m (omega (arith, k.0)) (omega (arith, k.1)) (subst (λ t. Rest t w) z r))
+          subst (λ b. TermRest (b ∷ w)) n
+          (numeral-term (b - 48) w m (omega (arith, k.0)) (omega (arith, k.1))
+          (subst (λ t. Rest t w) z r))
       numeral (inr e) = cc e.1
 
       go : ((is_letter b ≡ true) × (Some Name ≡ Some t)) ⊎
-          ((is_letter b ≡ false) × (cond (leb 49 b && leb b (48 + q)) (Some Coefficient) None ≡ Some t)) → TermRest (b ∷ w)
-      go (inl e) = letter-term (b ∷ w) (letter-factor b w e.0 (let z : t ≡ Name = cc e.1 in subst (λ t. Rest t w) z r))
+          ((is_letter b ≡ false) × (cond (leb 49 b && leb b (48 + q)) (Some Coefficient) None ≡ Some t))
+          → TermRest (b ∷ w)
+      go (inl e) = letter-term (b ∷ w) (letter-factor b w e.0
+          (let z : t ≡ Name = cc e.1 in subst (λ t. Rest t w) z r))
       go (inr e) = numeral (chosen (leb 49 b && leb b (48 + q)) (Some Coefficient) None t e.1)
 
-  start-after : (b : ℕ) (w : List ℕ) (t : State) → q ≤ 6 → 1 ≤ q → after q Start b ≡ Some t → Rest t w → (s : Sum) × IsTextOf q s (b ∷ w)
-  start-after b w t m l h r = go (chosen (eqb b 48) (Some Zero) (cond (eqb b 49) (Some One) (term_start q b)) t h)
+  start-after : (b : ℕ) (w : List ℕ) (t : State) → q ≤ 6 → 1 ≤ q → after q Start b ≡ Some t → Rest t w
+      → (s : Sum) × IsTextOf q s (b ∷ w)
+  start-after b w t m l h r = go (chosen (eqb b 48) (Some Zero)
+      (cond (eqb b 49) (Some One) (term_start q b)) t h)
     where
       one : (w : List ℕ) → (w ≡ []) ⊎ StarRest w → (s : Sum) × IsTextOf q s (49 ∷ w)
       one w (inl e) = (one_text, record { formed = tt; text_is = ap (λ w. 49 ∷ w) (sym e) })
       one w (inr k) = term-sum (49 ∷ w) (numeral-term 1 w m (omega arith) l k)
 
-      others : ((eqb b 49 ≡ true) × (Some One ≡ Some t)) ⊎ ((eqb b 49 ≡ false) × (term_start q b ≡ Some t)) → (s : Sum) × IsTextOf q s (b ∷ w)
+      others : ((eqb b 49 ≡ true) × (Some One ≡ Some t)) ⊎ ((eqb b 49 ≡ false) × (term_start q b ≡ Some t))
+          → (s : Sum) × IsTextOf q s (b ∷ w)
       others (inl e) = subst (λ b. (s : Sum) × IsTextOf q s (b ∷ w)) (sym (eqb-true b 49 e.0))
           (one w (let z : t ≡ One = cc e.1 in subst (λ t. Rest t w) z r))
       others (inr e) = term-sum (b ∷ w) (term-after b w t m e.1 r)
 
-      go : ((eqb b 48 ≡ true) × (Some Zero ≡ Some t)) ⊎ ((eqb b 48 ≡ false) × (cond (eqb b 49) (Some One) (term_start q b) ≡ Some t))
+      go : ((eqb b 48 ≡ true) × (Some Zero ≡ Some t))
+          ⊎ ((eqb b 48 ≡ false) × (cond (eqb b 49) (Some One) (term_start q b) ≡ Some t))
           → (s : Sum) × IsTextOf q s (b ∷ w)
       go (inl e) = (
         zero_text,
@@ -248,7 +286,15 @@ module _ (q : ℕ) where
 
   -- a tail is the rest of a name
   tail-name : (v : List ℕ) → Tail v → NameRest v
-  tail-name v r = record { name = []; exponent = None; named = tt; formed = tt; rest = v; tail = r; bytes = refl }
+  tail-name v r = record {
+    name = [];
+    exponent = None;
+    named = tt;
+    formed = tt;
+    rest = v;
+    tail = r;
+    bytes = refl;
+  }
 
   caret-name : (v : List ℕ) → ExponentRest [] v → NameRest (94 ∷ v)
   caret-name v r = record {
@@ -273,20 +319,24 @@ module _ (q : ℕ) where
   }
 
   name-after : (b : ℕ) (w : List ℕ) (t : State) → after q Name b ≡ Some t → Rest t w → NameRest (b ∷ w)
-  name-after b w t h r = go (chosen (is_name_byte b) (Some Name) (cond (eqb b caret) (Some Caret) (separator b)) t h)
+  name-after b w t h r = go (chosen (is_name_byte b) (Some Name)
+      (cond (eqb b caret) (Some Caret) (separator b)) t h)
     where
-      others : ((eqb b caret ≡ true) × (Some Caret ≡ Some t)) ⊎ ((eqb b caret ≡ false) × (separator b ≡ Some t)) → NameRest (b ∷ w)
+      others : ((eqb b caret ≡ true) × (Some Caret ≡ Some t))
+          ⊎ ((eqb b caret ≡ false) × (separator b ≡ Some t)) → NameRest (b ∷ w)
       others (inl e) = subst (λ b. NameRest (b ∷ w)) (sym (eqb-true b 94 e.0))
           (caret-name w (let z : t ≡ Caret = cc e.1 in subst (λ t. Rest t w) z r))
       others (inr e) = tail-name (b ∷ w) (separator-tail b w t e.1 r)
 
       go : ((is_name_byte b ≡ true) × (Some Name ≡ Some t)) ⊎
-          ((is_name_byte b ≡ false) × (cond (eqb b caret) (Some Caret) (separator b) ≡ Some t)) → NameRest (b ∷ w)
+          ((is_name_byte b ≡ false) × (cond (eqb b caret) (Some Caret) (separator b) ≡ Some t))
+          → NameRest (b ∷ w)
       go (inl e) = more-name b w e.0 (let z : t ≡ Name = cc e.1 in subst (λ t. Rest t w) z r)
       go (inr e) = others (chosen (eqb b caret) (Some Caret) (separator b) t e.1)
 
   -- an exponent of two digits
-  digits-exponent : (c d : ℕ) (w : List ℕ) → 1 ≤ c → d < 10 → 10 * c + d ≤ GREATEST_DEGREE → Tail w → ExponentRest ((48 + c) ∷ []) ((48 + d) ∷ w)
+  digits-exponent : (c d : ℕ) (w : List ℕ) → 1 ≤ c → d < 10 → 10 * c + d ≤ GREATEST_DEGREE → Tail w
+      → ExponentRest ((48 + c) ∷ []) ((48 + d) ∷ w)
   digits-exponent c d w l h k r = record {
     exponent = 10 * c + d;
     low = omega arith;
@@ -298,43 +348,60 @@ module _ (q : ℕ) where
   }
 
   shifted : (b : ℕ) (w : List ℕ) → ExponentRest (b ∷ []) w → ExponentRest [] (b ∷ w)
-  shifted b w r = record { exponent = r.exponent; low = r.low; high = r.high; rest = r.rest; tail = r.tail; bytes = r.bytes }
+  shifted b w r = record {
+    exponent = r.exponent;
+    low = r.low;
+    high = r.high;
+    rest = r.rest;
+    tail = r.tail;
+    bytes = r.bytes;
+  }
 
   in-range : (a b c : ℕ) → (leb a b && leb b c) ≡ true → (a ≤ b) × (b ≤ c)
   in-range a b c h = (grind (arith, nat_tests), grind (arith, nat_tests))
 
-  caret-after : (b : ℕ) (w : List ℕ) (t : State) → exponent_start b ≡ Some t → Rest t w → ExponentRest [] (b ∷ w)
+  caret-after : (b : ℕ) (w : List ℕ) (t : State) → exponent_start b ≡ Some t → Rest t w
+      → ExponentRest [] (b ∷ w)
   caret-after b w t h r = go (chosen (leb 49 b && leb b 57) (Some (ExponentDigit (b - 48))) None t h)
     where
-      go : ((leb 49 b && leb b 57 ≡ true) × (Some (ExponentDigit (b - 48)) ≡ Some t)) ⊎ ((leb 49 b && leb b 57 ≡ false) × (None ≡ Some t))
+      go : ((leb 49 b && leb b 57 ≡ true) × (Some (ExponentDigit (b - 48)) ≡ Some t))
+          ⊎ ((leb 49 b && leb b 57 ≡ false) × (None ≡ Some t))
           → ExponentRest [] (b ∷ w)
-      go (inl e) = let k = in-range 49 b 57 e.0 in let z : t ≡ ExponentDigit (b - 48) = cc e.1 in let n : 48 + (b - 48) ≡ b = omega (arith, k.0) in
-          shifted b w (subst (λ b. ExponentRest (b ∷ []) w) n ((subst (λ t. Rest t w) z r) (omega (arith, k.0)) (omega (arith, k.1))))
+      go (inl e) = let k = in-range 49 b 57 e.0 in let z : t ≡ ExponentDigit (b - 48) = cc e.1 in
+          let n : 48 + (b - 48) ≡ b = omega (arith, k.0) in
+          shifted b w (subst (λ b. ExponentRest (b ∷ []) w) n
+          ((subst (λ t. Rest t w) z r) (omega (arith, k.0)) (omega (arith, k.1))))
       go (inr e) = cc e.1
 
   digit-fits : (c b : ℕ) → goes_on c b ≡ true → (48 ≤ b) × (b < 58) × (10 * c + (b - 48) ≤ GREATEST_DEGREE)
   digit-fits c b h = (grind (arith, nat_tests), grind (arith, nat_tests), grind (arith, nat_tests))
 
   -- a digit, or the end of the factor, behind the first digit c
-  exponent-after : (c b : ℕ) (w : List ℕ) (t : State) → cond (goes_on c b) (Some Exponent) (separator b) ≡ Some t → Rest t w
+  exponent-after : (c b : ℕ) (w : List ℕ) (t : State)
+      → cond (goes_on c b) (Some Exponent) (separator b) ≡ Some t → Rest t w
       → 1 ≤ c → c < 10 → ExponentRest ((48 + c) ∷ []) (b ∷ w)
   exponent-after c b w t h r l u = go (chosen (goes_on c b) (Some Exponent) (separator b) t h)
     where
-      go : ((goes_on c b ≡ true) × (Some Exponent ≡ Some t)) ⊎ ((goes_on c b ≡ false) × (separator b ≡ Some t))
+      go : ((goes_on c b ≡ true) × (Some Exponent ≡ Some t))
+          ⊎ ((goes_on c b ≡ false) × (separator b ≡ Some t))
           → ExponentRest ((48 + c) ∷ []) (b ∷ w)
-      go (inl e) = let i = digit-fits c b e.0 in let z : t ≡ Exponent = cc e.1 in let n : 48 + (b - 48) ≡ b = omega (arith, i.0) in
+      go (inl e) = let i = digit-fits c b e.0 in let z : t ≡ Exponent = cc e.1 in let n : 48 + (b - 48) ≡ b =
+          omega (arith, i.0) in
           subst (λ b. ExponentRest ((48 + c) ∷ []) (b ∷ w)) n
           (digits-exponent c (b - 48) w l (omega (arith, i.0, i.1)) i.2 (subst (λ t. Rest t w) z r))
       go (inr e) = digit-exponent c (b ∷ w) l u (separator-tail b w t e.1 r)
 
-  letter-after : (b : ℕ) (w : List ℕ) (t : State) → cond (is_letter b) (Some Name) None ≡ Some t → Rest t w → FactorRest (b ∷ w)
+  letter-after : (b : ℕ) (w : List ℕ) (t : State) → cond (is_letter b) (Some Name) None ≡ Some t → Rest t w
+      → FactorRest (b ∷ w)
   letter-after b w t h r = go (chosen (is_letter b) (Some Name) None t h)
     where
-      go : ((is_letter b ≡ true) × (Some Name ≡ Some t)) ⊎ ((is_letter b ≡ false) × (None ≡ Some t)) → FactorRest (b ∷ w)
+      go : ((is_letter b ≡ true) × (Some Name ≡ Some t)) ⊎ ((is_letter b ≡ false) × (None ≡ Some t))
+          → FactorRest (b ∷ w)
       go (inl e) = letter-factor b w e.0 (let z : t ≡ Name = cc e.1 in subst (λ t. Rest t w) z r)
       go (inr e) = cc e.1
 
-  step : (s : State) (b : ℕ) (w : List ℕ) (t : State) → q ≤ 6 → 1 ≤ q → after q s b ≡ Some t → Rest t w → Rest s (b ∷ w)
+  step : (s : State) (b : ℕ) (w : List ℕ) (t : State) → q ≤ 6 → 1 ≤ q → after q s b ≡ Some t → Rest t w
+      → Rest s (b ∷ w)
   step Start b w t m l h r = start-after b w t m l h r
   step Zero b w t m l h r = cc h
   step One b w t m l h r = inr (star-after b w t h r)
@@ -352,5 +419,6 @@ module _ (q : ℕ) where
       (λ x e k. step s b w x m l e (accepted-rest w x m l (h.0, k, h.2)))
 
 -- what is accepted is a text of the grammar
-pub accepted-text : (q : ℕ) (text : List ℕ) → q ≤ 6 → 1 ≤ q → IsAccepted q Start text → (s : Sum) × IsTextOf q s text
+pub accepted-text : (q : ℕ) (text : List ℕ) → q ≤ 6 → 1 ≤ q → IsAccepted q Start text → (s : Sum)
+    × IsTextOf q s text
 accepted-text q text m l h = accepted-rest q text Start m l h

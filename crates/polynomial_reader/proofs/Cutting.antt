@@ -18,7 +18,8 @@ use Rattle.polynomial_reader.proofs.Running.{decimal-two}
 
 -- a numeral up to the greatest degree has one or two digits
 numeral-digits : (e : ℕ) → e ≤ GREATEST_DEGREE
-    → ((decimal e ≡ (48 + e) ∷ []) × (e < 10)) ⊎ ((decimal e ≡ (48 + e / 10) ∷ (48 + e % 10) ∷ []) × (e / 10 < 10) × (e % 10 < 10))
+    → ((decimal e ≡ (48 + e) ∷ []) × (e < 10))
+    ⊎ ((decimal e ≡ (48 + e / 10) ∷ (48 + e % 10) ∷ []) × (e / 10 < 10) × (e % 10 < 10))
 numeral-digits e h = go (cases_lt e 10)
   where
     go : (e < 10) ⊎ (10 ≤ e) → ((decimal e ≡ (48 + e) ∷ []) × (e < 10)) ⊎
@@ -36,36 +37,46 @@ pub digit-value : (e r : ℕ) (ds : List ℕ) → e ≤ GREATEST_DEGREE → deci
     → (is_digit (get_or ds 0 0) ≡ true → 48 + r ≡ get_or ds 0 0) → r ≡ e
 digit-value e r ds h k l v = go (numeral-digits e h)
   where
-    go : ((decimal e ≡ (48 + e) ∷ []) × (e < 10)) ⊎ ((decimal e ≡ (48 + e / 10) ∷ (48 + e % 10) ∷ []) × (e / 10 < 10) × (e % 10 < 10)) → r ≡ e
+    go : ((decimal e ≡ (48 + e) ∷ []) × (e < 10))
+        ⊎ ((decimal e ≡ (48 + e / 10) ∷ (48 + e % 10) ∷ []) × (e / 10 < 10) × (e % 10 < 10)) → r ≡ e
     go (inl p) = digit-at ds ((48 + e) ∷ []) 0 e r (sym k ∙ p.0) p.1 refl v
     go (inr p) = absurd (let n : length ds ≡ 2 = ap length (sym k ∙ p.0) in omega arith)
 
 pub digits-value : (e r s : ℕ) (ds : List ℕ) → e ≤ GREATEST_DEGREE → decimal e ≡ ds → 2 ≤ length ds
-    → (is_digit (get_or ds 0 0) ≡ true → 48 + r ≡ get_or ds 0 0) → (is_digit (get_or ds 1 0) ≡ true → 48 + s ≡ get_or ds 1 0) → 10 * r + s ≡ e
+    → (is_digit (get_or ds 0 0) ≡ true → 48 + r ≡ get_or ds 0 0)
+    → (is_digit (get_or ds 1 0) ≡ true → 48 + s ≡ get_or ds 1 0) → 10 * r + s ≡ e
 digits-value e r s ds h k l v w = go (numeral-digits e h)
   where
-    go : ((decimal e ≡ (48 + e) ∷ []) × (e < 10)) ⊎ ((decimal e ≡ (48 + e / 10) ∷ (48 + e % 10) ∷ []) × (e / 10 < 10) × (e % 10 < 10))
+    go : ((decimal e ≡ (48 + e) ∷ []) × (e < 10))
+        ⊎ ((decimal e ≡ (48 + e / 10) ∷ (48 + e % 10) ∷ []) × (e / 10 < 10) × (e % 10 < 10))
         → 10 * r + s ≡ e
     go (inl p) = absurd (let n : length ds ≡ 1 = ap length (sym k ∙ p.0) in omega arith)
-    go (inr p) = let a = digit-at ds ((48 + e / 10) ∷ (48 + e % 10) ∷ []) 0 (e / 10) r (sym k ∙ p.0) p.1 refl v in
-        let b = digit-at ds ((48 + e / 10) ∷ (48 + e % 10) ∷ []) 1 (e % 10) s (sym k ∙ p.0) p.2 refl w in omega (arith, a, b)
+    go (inr p) = let a = digit-at ds ((48 + e / 10) ∷ (48 + e % 10) ∷ []) 0 (e / 10) r (sym k
+        ∙ p.0) p.1 refl v in
+        let b = digit-at ds ((48 + e / 10) ∷ (48 + e % 10) ∷ []) 1 (e % 10) s (sym k ∙ p.0) p.2 refl w in
+        omega (arith, a, b)
 
-pub numeral-length : (e : ℕ) (ds : List ℕ) → e ≤ GREATEST_DEGREE → decimal e ≡ ds → (1 ≤ length ds) × (length ds ≤ 2)
+pub numeral-length : (e : ℕ) (ds : List ℕ) → e ≤ GREATEST_DEGREE → decimal e ≡ ds → (1 ≤ length ds)
+    × (length ds ≤ 2)
 numeral-length e ds h k = go (numeral-digits e h)
   where
-    go : ((decimal e ≡ (48 + e) ∷ []) × (e < 10)) ⊎ ((decimal e ≡ (48 + e / 10) ∷ (48 + e % 10) ∷ []) × (e / 10 < 10) × (e % 10 < 10))
+    go : ((decimal e ≡ (48 + e) ∷ []) × (e < 10))
+        ⊎ ((decimal e ≡ (48 + e / 10) ∷ (48 + e % 10) ∷ []) × (e / 10 < 10) × (e % 10 < 10))
         → (1 ≤ length ds) × (length ds ≤ 2)
     go (inl p) = let n : length ds ≡ 1 = ap length (sym k ∙ p.0) in (omega arith, omega arith)
     go (inr p) = let n : length ds ≡ 2 = ap length (sym k ∙ p.0) in (omega arith, omega arith)
 
 none-passes : (s : ℕ) (p : List ℕ) → Without s p → All (λ b. eqb b s ≡ false) p
-none-passes s p h = All-from_recursion (λ b. eqb b s ≡ false) p (each-map (λ b. b ≢ s) (λ b. eqb b s ≡ false) p (λ b n. eqb-false b s n) h)
+none-passes s p h = All-from_recursion (λ b. eqb b s ≡ false) p
+    (each-map (λ b. b ≢ s) (λ b. eqb b s ≡ false) p (λ b n. eqb-false b s n) h)
 
 -- pieces without the separator are those of which they are joined
-pub joined-split : (s : ℕ) (ps : List (List ℕ)) → ps ≢ [] → Each (Without s) ps → slice_split (λ b. eqb b s) (joined_by s ps) ≡ ps
+pub joined-split : (s : ℕ) (ps : List (List ℕ)) → ps ≢ [] → Each (Without s) ps
+    → slice_split (λ b. eqb b s) (joined_by s ps) ≡ ps
 joined-split s [] n h = absurd (n refl)
 joined-split s (p ∷ []) n h = slice_split_none (λ b. eqb b s) p (none-passes s p h.0)
-joined-split s (p ∷ r ∷ ps) n h = slice_split_at (λ b. eqb b s) p s (joined_by s (r ∷ ps)) (none-passes s p h.0) (eqb-self s)
+joined-split s (p ∷ r ∷ ps) n h = slice_split_at (λ b. eqb b s) p s (joined_by s (r ∷ ps))
+    (none-passes s p h.0) (eqb-self s)
     ∙ ap (λ ps. p ∷ ps) (joined-split s (r ∷ ps) (λ e. cc) h.1)
 
 not-at : (s : ℕ) (n : List ℕ) → All (λ y. y ≢ s) n → All (λ b. eqb b s ≡ false) n
@@ -85,18 +96,21 @@ pub record IsCut (f : NamedFactor) (n ds : List ℕ) : Type 0 where
   pub small : exponent ≤ GREATEST_DEGREE
   pub digits : decimal exponent ≡ ds
 
-pub cut-some : (f : NamedFactor) (piece n ds : List ℕ) → IsFactor f → factor_text f ≡ piece → All (λ y. y ≢ 94) n → piece ≡ n ++ 94 ∷ ds
+pub cut-some : (f : NamedFactor) (piece n ds : List ℕ) → IsFactor f → factor_text f ≡ piece
+    → All (λ y. y ≢ 94) n → piece ≡ n ++ 94 ∷ ds
     → IsCut f n ds
 cut-some f piece n ds h k w e = go f.exponent h.exponent refl (sym parts ∙ factor-split f piece h k)
   where
     parts : slice_split (λ b. eqb b 94) piece ≡ n ∷ slice_split (λ b. eqb b 94) ds
     parts = ap (slice_split (λ b. eqb b 94)) e ∙ slice_split_at (λ b. eqb b 94) n 94 ds (not-at 94 n w) refl
 
-    go : (x : Option ℕ) → IsExponent x → f.exponent ≡ x → (n ∷ slice_split (λ b. eqb b 94) ds) ≡ f.name ∷ exponent_pieces x → IsCut f n ds
+    go : (x : Option ℕ) → IsExponent x → f.exponent ≡ x
+        → (n ∷ slice_split (λ b. eqb b 94) ds) ≡ f.name ∷ exponent_pieces x → IsCut f n ds
     go None i s z = absurd (omega (
       arith,
       length-slice_split (λ b. eqb b 94) ds,
-      (let l : length (slice_split (λ b. eqb b 94) ds) ≡ 0 = ap length (let y : slice_split (λ b. eqb b 94) ds ≡ [] = cc in y) in l),
+      (let l : length (slice_split (λ b. eqb b 94) ds) ≡ 0 = ap length
+          (let y : slice_split (λ b. eqb b 94) ds ≡ [] = cc in y) in l),
     ))
     go (Some x) i s z = record {
       name_is = cc;
@@ -108,24 +122,30 @@ cut-some f piece n ds h k w e = go f.exponent h.exponent refl (sym parts ∙ fac
     }
 
 -- a factor that no ^ cuts
-pub cut-none : (f : NamedFactor) (piece : List ℕ) → IsFactor f → factor_text f ≡ piece → All (λ y. y ≢ 94) piece
+pub cut-none : (f : NamedFactor) (piece : List ℕ) → IsFactor f → factor_text f ≡ piece
+    → All (λ y. y ≢ 94) piece
     → (piece ≡ f.name) × (f.exponent ≡ None)
-cut-none f piece h k w = go f.exponent refl (sym (slice_split_none (λ b. eqb b 94) piece (not-at 94 piece w)) ∙ factor-split f piece h k)
+cut-none f piece h k w = go f.exponent refl (sym (slice_split_none (λ b. eqb b 94) piece (not-at 94 piece w))
+    ∙ factor-split f piece h k)
   where
-    go : (x : Option ℕ) → f.exponent ≡ x → (piece ∷ []) ≡ f.name ∷ exponent_pieces x → (piece ≡ f.name) × (f.exponent ≡ None)
+    go : (x : Option ℕ) → f.exponent ≡ x → (piece ∷ []) ≡ f.name ∷ exponent_pieces x → (piece ≡ f.name)
+        × (f.exponent ≡ None)
     go None s z = (cc, s)
     go (Some x) s z = absurd cc
 
 -- the first byte of factors is a letter
-first-letter : (n x : List ℕ) (ps : List (List ℕ)) → IsName n → is_letter (get_or (joined_by star ((n ++ x) ∷ ps)) 0 0) ≡ true
+first-letter : (n x : List ℕ) (ps : List (List ℕ)) → IsName n
+    → is_letter (get_or (joined_by star ((n ++ x) ∷ ps)) 0 0) ≡ true
 first-letter [] x ps h = absurd h
 first-letter (b ∷ bs) x [] h = h.0
 first-letter (b ∷ bs) x (p ∷ ps) h = h.0
 
 numeral-first : (c : ℕ) (fs : List NamedFactor) → c < 10 → fs ≢ []
-    → term_bytes (record { numeral = Some c; factors = fs }) ≡ (48 + c) ∷ 42 ∷ joined_by star (map factor_text fs)
+    → term_bytes (record { numeral = Some c; factors = fs }) ≡ (48 + c) ∷ 42 ∷ joined_by star
+    (map factor_text fs)
 numeral-first c [] l n = absurd (n refl)
-numeral-first c (f ∷ fs) l n = ap (λ (ds : List ℕ). ds ++ 42 ∷ joined_by star (map factor_text (f ∷ fs))) (decimal_digit c l)
+numeral-first c (f ∷ fs) l n = ap (λ (ds : List ℕ). ds ++ 42 ∷ joined_by star (map factor_text (f ∷ fs)))
+    (decimal_digit c l)
 
 -- a term that begins with a digit has a numeral
 pub numeral-some : (q : ℕ) (t : NamedTerm) (term : List ℕ) (r : ℕ) → q ≤ 6 → IsTerm q t → term_bytes t ≡ term
@@ -133,14 +153,20 @@ pub numeral-some : (q : ℕ) (t : NamedTerm) (term : List ℕ) (r : ℕ) → q �
     → (r ≡ number t.numeral) × (drop 2 term ≡ joined_by star (map factor_text t.factors))
 numeral-some q t term r m h k d v = go t.numeral t.factors h.numeral h.some h.each k
   where
-    go : (n : Option ℕ) (fs : List NamedFactor) → IfSome n (λ c. (1 ≤ c) × (c ≤ q)) → fs ≢ [] → Each IsFactor fs
-        → term_bytes (record { numeral = n; factors = fs }) ≡ term → (r ≡ number n) × (drop 2 term ≡ joined_by star (map factor_text fs))
+    go : (n : Option ℕ) (fs : List NamedFactor) → IfSome n (λ c. (1 ≤ c) × (c ≤ q)) → fs ≢ []
+        → Each IsFactor fs
+        → term_bytes (record { numeral = n; factors = fs }) ≡ term → (r ≡ number n)
+        × (drop 2 term ≡ joined_by star (map factor_text fs))
     go None [] i n e k = absurd (n refl)
     go None (f ∷ fs) i n e k = absurd
         (letter-no-digit (get_or term 0 0)
-        (ap (λ bs. is_letter (get_or bs 0 0)) (sym k) ∙ first-letter f.name (exponent_text f.exponent) (map factor_text fs) e.0.name) d)
-    go (Some c) fs i n e k = let z = sym k ∙ numeral-first c fs (omega (arith, i.1)) n in
-        (digit-at term ((48 + c) ∷ 42 ∷ joined_by star (map factor_text fs)) 0 c r z (omega (arith, i.1)) refl v, ap (drop 2) z)
+        (ap (λ bs. is_letter (get_or bs 0 0)) (sym k)
+        ∙ first-letter f.name (exponent_text f.exponent) (map factor_text fs) e.0.name) d)
+    go (Some c) fs i n e k = let z = sym k ∙ numeral-first c fs (omega (arith, i.1)) n in (
+      digit-at term ((48 + c) ∷ 42 ∷ joined_by star (map factor_text fs)) 0 c r z
+          (omega (arith, i.1)) refl v,
+      ap (drop 2) z,
+    )
 
 pub numeral-none : (q : ℕ) (t : NamedTerm) (term : List ℕ) → q ≤ 6 → IsTerm q t → term_bytes t ≡ term
     → (2 ≤ length term → is_digit (get_or term 0 0) ≡ true → ⊥)
@@ -148,10 +174,12 @@ pub numeral-none : (q : ℕ) (t : NamedTerm) (term : List ℕ) → q ≤ 6 → I
 numeral-none q t term m h k d = go t.numeral t.factors h.numeral h.some k
   where
     go : (n : Option ℕ) (fs : List NamedFactor) → IfSome n (λ c. (1 ≤ c) × (c ≤ q)) → fs ≢ []
-        → term_bytes (record { numeral = n; factors = fs }) ≡ term → (1 ≡ number n) × (term ≡ joined_by star (map factor_text fs))
+        → term_bytes (record { numeral = n; factors = fs }) ≡ term → (1 ≡ number n)
+        × (term ≡ joined_by star (map factor_text fs))
     go None fs i n k = (refl, sym k)
     go (Some c) fs i n k = let z = sym k ∙ numeral-first c fs (omega (arith, i.1)) n in
-        absurd (d (let l : length term ≡ suc (suc (length (joined_by star (map factor_text fs)))) = ap length z in omega arith)
+        absurd (d (let l : length term ≡ suc
+        (suc (length (joined_by star (map factor_text fs)))) = ap length z in omega arith)
         (ap (λ bs. is_digit (get_or bs 0 0)) z ∙ digit-byte c (omega (arith, i.1))))
 
 pub rest-whole : (xs : List ℕ) (n : ℕ) → take (length xs - n) (drop n xs) ≡ drop n xs

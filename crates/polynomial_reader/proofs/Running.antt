@@ -15,19 +15,24 @@ use Rattle.polynomial_reader.specs.declared.syntax.State.{State}
 use Rattle.polynomial_reader.specs.declared.syntax.State.TheVariants.{Start, Zero, One, Coefficient, TermStart, FactorStart, Name, Caret, ExponentDigit, Exponent}
 use Rattle.polynomial_reader.specs.Automaton.{separator, term_start, exponent_start, goes_on, after, run, is_end}
 
-pub run-append : (q : ℕ) (s : State) (xs ys : List ℕ) → run q s (xs ++ ys) ≡ option_and_then (λ t. run q t ys) (run q s xs)
+pub run-append : (q : ℕ) (s : State) (xs ys : List ℕ)
+    → run q s (xs ++ ys) ≡ option_and_then (λ t. run q t ys) (run q s xs)
 run-append q s [] ys = refl
 run-append q s (x ∷ xs) ys = go (after q s x) (λ t. run-append q t xs ys)
   where
-    go : (o : Option State) → ((t : State) → run q t (xs ++ ys) ≡ option_and_then (λ t. run q t ys) (run q t xs))
-        → option_and_then (λ t. run q t (xs ++ ys)) o ≡ option_and_then (λ t. run q t ys) (option_and_then (λ t. run q t xs) o)
+    go : (o : Option State) → ((t : State)
+        → run q t (xs ++ ys) ≡ option_and_then (λ t. run q t ys) (run q t xs))
+        → option_and_then (λ t. run q t (xs ++ ys)) o ≡ option_and_then (λ t. run q t ys)
+        (option_and_then (λ t. run q t xs) o)
     go None h = refl
     go (Some t) h = h t
 
-pub run-on : (q : ℕ) (s t u : State) (xs ys : List ℕ) → run q s xs ≡ Some t → run q t ys ≡ Some u → run q s (xs ++ ys) ≡ Some u
+pub run-on : (q : ℕ) (s t u : State) (xs ys : List ℕ) → run q s xs ≡ Some t → run q t ys ≡ Some u
+    → run q s (xs ++ ys) ≡ Some u
 run-on q s t u xs ys h k = run-append q s xs ys ∙ ap (option_and_then (λ t. run q t ys)) h ∙ k
 
-pub run-step : (q : ℕ) (s t u : State) (b : ℕ) (bs : List ℕ) → after q s b ≡ Some t → run q t bs ≡ Some u → run q s (b ∷ bs) ≡ Some u
+pub run-step : (q : ℕ) (s t u : State) (b : ℕ) (bs : List ℕ) → after q s b ≡ Some t → run q t bs ≡ Some u
+    → run q s (b ∷ bs) ≡ Some u
 run-step q s t u b bs h k = ap (option_and_then (λ t. run q t bs)) h ∙ k
 
 -- a term may end here
@@ -62,7 +67,8 @@ letter-not : (b n : ℕ) → is_letter n ≡ false → is_letter b ≡ true → 
 letter-not b n z h = eqb-false b n (λ e. false≢true (sym z ∙ ap is_letter (sym e) ∙ h))
 
 start-begins : (q : ℕ) → BeginsName q Start
-start-begins q b h = ap (λ t. cond t (Some Zero) (cond (eqb b 49) (Some One) (term_start q b))) (letter-not b 48 refl h)
+start-begins q b h = ap (λ t. cond t (Some Zero) (cond (eqb b 49) (Some One) (term_start q b)))
+    (letter-not b 48 refl h)
     ∙ ap (λ t. cond t (Some One) (term_start q b)) (letter-not b 49 refl h) ∙ term-begins q b h
 
 name-goes-on : (q : ℕ) (bs : List ℕ) → Each (λ c. is_name_byte c ≡ true) bs → run q Name bs ≡ Some Name
@@ -84,7 +90,12 @@ digit-start e l h = rw (both, back) refl
     back = omega arith
 
 one-digit : (q e : ℕ) → 1 ≤ e → e < 10 → RunsToEnd q Caret ((48 + e) ∷ [])
-one-digit q e l h = (ExponentDigit e, run-step q Caret (ExponentDigit e) (ExponentDigit e) (48 + e) [] (digit-start e l h) refl, digit-end q e)
+one-digit q e l h = (
+  ExponentDigit e,
+  run-step q Caret (ExponentDigit e) (ExponentDigit e) (48 + e) []
+      (digit-start e l h) refl,
+  digit-end q e,
+)
 
 digit-goes-on : (c d : ℕ) → d < 10 → 10 * c + d ≤ GREATEST_DEGREE → goes_on c (48 + d) ≡ true
 digit-goes-on c d l h = rw (digit-byte d l, back) fits
@@ -95,32 +106,44 @@ digit-goes-on c d l h = rw (digit-byte d l, back) fits
     fits : leb (10 * c + d) GREATEST_DEGREE ≡ true
     fits = grind (arith, nat_tests)
 
-two-digits : (q c d : ℕ) → 1 ≤ c → c < 10 → d < 10 → 10 * c + d ≤ GREATEST_DEGREE → RunsToEnd q Caret ((48 + c) ∷ (48 + d) ∷ [])
+two-digits : (q c d : ℕ) → 1 ≤ c → c < 10 → d < 10 → 10 * c + d ≤ GREATEST_DEGREE
+    → RunsToEnd q Caret ((48 + c) ∷ (48 + d) ∷ [])
 two-digits q c d l k u h = (
   Exponent,
   run-step q Caret (ExponentDigit c) Exponent (48 + c) ((48 + d) ∷ []) (digit-start c l k)
-      (run-step q (ExponentDigit c) Exponent Exponent (48 + d) [] (ap (λ t. cond t (Some Exponent) (separator (48 + d))) (digit-goes-on c d u h)) refl),
+      (run-step q (ExponentDigit c) Exponent Exponent (48 + d) []
+      (ap (λ t. cond t (Some Exponent) (separator (48 + d))) (digit-goes-on c d u h)) refl),
   exponent-end q,
 )
 
 -- a numeral of two digits
 pub decimal-two : (e : ℕ) → 10 ≤ e → e ≤ GREATEST_DEGREE → decimal e ≡ (48 + e / 10) ∷ (48 + e % 10) ∷ []
-decimal-two e l h = decimal_step e l (omega arith) ∙ ap (λ ds. ds ++ (48 + e % 10) ∷ []) (decimal_digit (e / 10) (omega arith))
+decimal-two e l h = decimal_step e l (omega arith)
+    ∙ ap (λ ds. ds ++ (48 + e % 10) ∷ []) (decimal_digit (e / 10) (omega arith))
 
 decimal-runs : (q e : ℕ) → 1 ≤ e → e ≤ GREATEST_DEGREE → RunsToEnd q Caret (decimal e)
 decimal-runs q e l h = go (cases_lt e 10)
   where
     go : (e < 10) ⊎ (10 ≤ e) → RunsToEnd q Caret (decimal e)
     go (inl s) = subst (RunsToEnd q Caret) (sym (decimal_digit e s)) (one-digit q e l s)
-    go (inr s) = subst (RunsToEnd q Caret) (sym (decimal-two e s h)) (two-digits q (e / 10) (e % 10) (omega arith) (omega arith) (omega arith) (omega arith))
+    go (inr s) = subst (RunsToEnd q Caret) (sym (decimal-two e s h))
+        (two-digits q (e / 10) (e % 10) (omega arith) (omega arith) (omega arith) (omega arith))
 
-exponent-runs : (q : ℕ) (e : Option ℕ) → IfSome e (λ e. (1 ≤ e) × (e ≤ GREATEST_DEGREE)) → RunsToEnd q Name (exponent_text e)
+exponent-runs : (q : ℕ) (e : Option ℕ) → IfSome e (λ e. (1 ≤ e) × (e ≤ GREATEST_DEGREE))
+    → RunsToEnd q Name (exponent_text e)
 exponent-runs q None h = (Name, refl, name-end q)
-exponent-runs q (Some e) h = let r = decimal-runs q e h.0 h.1 in (r.0, run-step q Name Caret r.0 94 (decimal e) refl r.1, r.2)
+exponent-runs q (Some e) h = let r = decimal-runs q e h.0 h.1 in
+    (r.0, run-step q Name Caret r.0 94 (decimal e) refl r.1, r.2)
 
-factor-runs : (q : ℕ) (s : State) (f : NamedFactor) → BeginsName q s → IsFactor f → RunsToEnd q s (factor_text f)
+factor-runs : (q : ℕ) (s : State) (f : NamedFactor) → BeginsName q s → IsFactor f
+    → RunsToEnd q s (factor_text f)
 factor-runs q s f b h = let r = exponent-runs q f.exponent
-    h.exponent in (r.0, run-on q s Name r.0 f.name (exponent_text f.exponent) (name-runs q s f.name b h.name) r.1, r.2)
+    h.exponent in (
+      r.0,
+      run-on q s Name r.0 f.name (exponent_text f.exponent)
+          (name-runs q s f.name b h.name) r.1,
+      r.2,
+    )
 
 factors-run : (q : ℕ) (s : State) (fs : List NamedFactor) → BeginsName q s → fs ≢ [] → Each IsFactor fs
     → RunsToEnd q s (joined_by star (map factor_text fs))
@@ -138,7 +161,8 @@ factors-run q s (f ∷ g ∷ fs) b n h =
 -- a term may begin here
 pub record BeginsTerm (q : ℕ) (s : State) : Type 0 where
   pub letter : BeginsName q s
-  pub numeral : (c : ℕ) → 1 ≤ c → c ≤ q → (t : State) × (after q s (48 + c) ≡ Some t) × (after q t 42 ≡ Some FactorStart)
+  pub numeral : (c : ℕ) → 1 ≤ c → c ≤ q → (t : State) × (after q s (48 + c) ≡ Some t)
+      × (after q t 42 ≡ Some FactorStart)
 
 digit-no-letter : (c : ℕ) → c < 10 → is_letter (48 + c) ≡ false
 digit-no-letter c h = grind (arith, nat_tests)
@@ -147,29 +171,38 @@ numeral-byte : (q c : ℕ) → 1 ≤ c → c ≤ q → (leb 49 (48 + c) && leb (
 numeral-byte q c l h = grind (arith, nat_tests)
 
 term-numeral : (q c : ℕ) → q ≤ 6 → 1 ≤ c → c ≤ q → term_start q (48 + c) ≡ Some Coefficient
-term-numeral q c m l h = ap (λ t. cond t (Some Name) (cond (leb 49 (48 + c) && leb (48 + c) (48 + q)) (Some Coefficient) None))
+term-numeral q c m l h = ap (λ t. cond t (Some Name)
+    (cond (leb 49 (48 + c) && leb (48 + c) (48 + q)) (Some Coefficient) None))
     (digit-no-letter c (omega arith))
     ∙ ap (λ t. cond t (Some Coefficient) None) (numeral-byte q c l h)
 
 term-start-begins : (q : ℕ) → q ≤ 6 → BeginsTerm q TermStart
-term-start-begins q m = record { letter = term-begins q; numeral = λ c l h. (Coefficient, term-numeral q c m l h, refl) }
+term-start-begins q m = record {
+  letter = term-begins q;
+  numeral = λ c l h. (Coefficient, term-numeral q c m l h, refl);
+}
 
 start-start-begins : (q : ℕ) → q ≤ 6 → BeginsTerm q Start
 start-start-begins q m = record { letter = start-begins q; numeral = λ c l h. go c l h (cases_eq c 1) }
   where
-    go : (c : ℕ) → 1 ≤ c → c ≤ q → (c ≡ 1) ⊎ (c ≡ 1 → ⊥) → (t : State) × (after q Start (48 + c) ≡ Some t) × (after q t 42 ≡ Some FactorStart)
+    go : (c : ℕ) → 1 ≤ c → c ≤ q → (c ≡ 1) ⊎ (c ≡ 1 → ⊥) → (t : State) × (after q Start (48 + c) ≡ Some t)
+        × (after q t 42 ≡ Some FactorStart)
     go c l h (inl z) = (One, ap (λ c. after q Start (48 + c)) z, refl)
     go c l h (inr n) = (
       Coefficient,
-      ap (λ t. cond t (Some Zero) (cond (eqb (48 + c) 49) (Some One) (term_start q (48 + c)))) (eqb-false (48 + c) 48 (λ z. omega arith))
-          ∙ ap (λ t. cond t (Some One) (term_start q (48 + c))) (eqb-false (48 + c) 49 (λ z. n (omega arith))) ∙ term-numeral q c m l h,
+      ap (λ t. cond t (Some Zero) (cond (eqb (48 + c) 49) (Some One) (term_start q (48 + c))))
+          (eqb-false (48 + c) 48 (λ z. omega arith))
+          ∙ ap (λ t. cond t (Some One) (term_start q (48 + c))) (eqb-false (48 + c) 49 (λ z. n (omega arith)))
+          ∙ term-numeral q c m l h,
       refl,
     )
 
-term-runs : (q : ℕ) (s : State) (t : NamedTerm) → q ≤ 6 → BeginsTerm q s → IsTerm q t → RunsToEnd q s (term_bytes t)
+term-runs : (q : ℕ) (s : State) (t : NamedTerm) → q ≤ 6 → BeginsTerm q s → IsTerm q t
+    → RunsToEnd q s (term_bytes t)
 term-runs q s t m b h = go t.numeral t.factors h.numeral h.some h.each
   where
-    go : (n : Option ℕ) (fs : List NamedFactor) → IfSome n (λ c. (1 ≤ c) × (c ≤ q)) → fs ≢ [] → Each IsFactor fs
+    go : (n : Option ℕ) (fs : List NamedFactor) → IfSome n (λ c. (1 ≤ c) × (c ≤ q)) → fs ≢ []
+        → Each IsFactor fs
         → RunsToEnd q s (joined_by star (numeral_pieces n ++ map factor_text fs))
     go None fs c n h = factors-run q s fs b.letter n h
     go (Some d) [] c n h = absurd (n refl)
@@ -177,7 +210,8 @@ term-runs q s t m b h = go t.numeral t.factors h.numeral h.some h.each
         let r = b.numeral d c.0 c.1 in
         let k = factors-run q FactorStart (f ∷ fs) (factor-begins q) n h in (
           k.0,
-          ap (λ (ds : List ℕ). run q s (ds ++ 42 ∷ joined_by star (map factor_text (f ∷ fs)))) (decimal_digit d (omega (arith, c.1)))
+          ap (λ (ds : List ℕ). run q s (ds ++ 42 ∷ joined_by star (map factor_text (f ∷ fs))))
+              (decimal_digit d (omega (arith, c.1)))
               ∙ run-step q s r.0 k.0 (48 + d) (42 ∷ joined_by star (map factor_text (f ∷ fs))) r.1
               (run-step q r.0 FactorStart k.0 42 (joined_by star (map factor_text (f ∷ fs))) r.2 k.1),
           k.2,
@@ -206,9 +240,11 @@ text-accepted q s text m h = subst (IsAccepted q Start) h.text_is (go s h.formed
     go : (s : Sum) → IsSum q s → IsAccepted q Start (sum_bytes s)
     go zero_text k = (Zero, refl, refl)
     go one_text k = (One, refl, refl)
-    go (terms ts) k = let r = terms-run q Start ts m (start-start-begins q m) k.0 k.1 in (r.0, r.1, r.2.ending)
+    go (terms ts) k = let r = terms-run q Start ts m (start-start-begins q m) k.0 k.1 in
+        (r.0, r.1, r.2.ending)
 
 -- what goes on has a state
 pub goes-on-runs : (q : ℕ) (front : List ℕ) → q ≤ 6 → GoesOn q front → run q Start front ≢ None
 goes-on-runs q front m h e = let r = text-accepted q h.1 (front ++ h.0) m h.2 in
-    let z : None ≡ Some r.0 = sym (run-append q Start front h.0 ∙ ap (option_and_then (λ t. run q t h.0)) e) ∙ r.1 in cc
+    let z : None ≡ Some r.0 = sym (run-append q Start front h.0 ∙ ap (option_and_then (λ t. run q t h.0)) e)
+    ∙ r.1 in cc

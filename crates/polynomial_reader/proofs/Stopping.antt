@@ -35,10 +35,12 @@ module _ (q : ℕ) (text : List ℕ) (m : q ≤ 6) (l : 1 ≤ q) where
   -- the state behind one more byte
   pub next-state : (i : ℕ) (s : State) → i < length text → run q Start (take i text) ≡ Some s
       → run q Start (take (i + 1) text) ≡ after q s (get_or text i 0)
-  next-state i s k h = ap (run q Start) (take_more text i 0 k) ∙ run-append q Start (take i text) (get_or text i 0 ∷ [])
+  next-state i s k h = ap (run q Start) (take_more text i 0 k)
+      ∙ run-append q Start (take i text) (get_or text i 0 ∷ [])
       ∙ ap (option_and_then (λ t. run q t (get_or text i 0 ∷ []))) h ∙ one-step (after q s (get_or text i 0))
 
-  pub stops-at : (i : ℕ) (s : State) → i < length text → run q Start (take i text) ≡ Some s → after q s (get_or text i 0) ≡ None → Stops q text i
+  pub stops-at : (i : ℕ) (s : State) → i < length text → run q Start (take i text) ≡ Some s
+      → after q s (get_or text i 0) ≡ None → Stops q text i
   stops-at i s k h n = record {
     within = omega arith;
     before = state-goes-on (take i text) s h;
@@ -49,14 +51,17 @@ module _ (q : ℕ) (text : List ℕ) (m : q ≤ 6) (l : 1 ≤ q) where
   whole : (i : ℕ) → i ≡ length text → take i text ≡ text
   whole i e = take_all i text (omega arith)
 
-  pub stops-end : (i : ℕ) (s : State) → i ≡ length text → run q Start (take i text) ≡ Some s → is_end s ≡ false → Stops q text (length text)
+  pub stops-end : (i : ℕ) (s : State) → i ≡ length text → run q Start (take i text) ≡ Some s
+      → is_end s ≡ false → Stops q text (length text)
   stops-end i s e h n = record {
     within = omega arith;
     before = subst (λ n. GoesOn q (take n text)) e (state-goes-on (take i text) s h);
     byte = λ k. absurd (omega arith);
-    ending = λ _ x t. let r = text-accepted q x text m t in let z : s ≡ r.0 = cc (sym h ∙ ap (run q Start) (whole i e) ∙ r.1) in false≢true
+    ending = λ _ x t. let r = text-accepted q x text m t in let z : s ≡ r.0 =
+        cc (sym h ∙ ap (run q Start) (whole i e) ∙ r.1) in false≢true
         (sym n ∙ ap is_end z ∙ r.2);
   }
 
-  pub text-ends : (i : ℕ) (s : State) → i ≡ length text → run q Start (take i text) ≡ Some s → is_end s ≡ true → (x : Sum) × IsTextOf q x text
+  pub text-ends : (i : ℕ) (s : State) → i ≡ length text → run q Start (take i text) ≡ Some s → is_end s ≡ true
+      → (x : Sum) × IsTextOf q x text
   text-ends i s e h n = accepted-text q text m l (s, ap (run q Start) (sym (whole i e)) ∙ h, n)

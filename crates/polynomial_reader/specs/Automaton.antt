@@ -1,4 +1,5 @@
--- The grammar of polynomial texts as an automaton, for the prime p = q + 1: the state behind a byte, where a text goes on with it.
+-- The grammar of polynomial texts as an automaton, for the prime p = q + 1: the state behind a byte, where a
+-- text goes on with it.
 use Rattle.std.specs.Prelude.{ℕ, ◌+◌, ◌-◌, ◌*◌, Bool, true, false, ◌&&◌, eqb, leb, Option, None, Some, List, [], ◌∷◌, if◌then◌else◌}
 use Rattle.std.specs.Option.{option_and_then}
 use Rattle.limits.specs.declared.TheConstants.{GREATEST_DEGREE}
@@ -11,7 +12,8 @@ abbrev pub separator : ℕ → Option State
 separator b = if eqb b star then Some FactorStart else if eqb b plus_sign then Some TermStart else None
 
 abbrev pub term_start : ℕ → ℕ → Option State
-term_start q b = if is_letter b then Some Name else if leb 49 b && leb b (48 + q) then Some Coefficient else None
+term_start q b = if is_letter b then Some Name else if leb 49 b && leb b
+    (48 + q) then Some Coefficient else None
 
 abbrev pub exponent_start : ℕ → Option State
 exponent_start b = if leb 49 b && leb b 57 then Some (ExponentDigit (b - 48)) else None

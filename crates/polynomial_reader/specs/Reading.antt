@@ -23,7 +23,8 @@ spans (p ∷ ps) = length p + 1 + spans ps
 -- the fault is the first of the names that is no generator's, or want of memory
 abbrev pub IsUnknownAt : List ℕ → List PlacedName → PolyFault → Type 0
 IsUnknownAt ds ns (Syntax c) = ⊥
-IsUnknownAt ds ns (UnknownName c) = (n : List ℕ) × IsFirst (λ m. IsUnknown ds m.name) (record { column = c; name = n }) ns
+IsUnknownAt ds ns (UnknownName c) = (n : List ℕ)
+    × IsFirst (λ m. IsUnknown ds m.name) (record { column = c; name = n }) ns
 IsUnknownAt ds ns (Mixed d e) = ⊥
 IsUnknownAt ds ns (TooHigh d) = ⊥
 IsUnknownAt ds ns Memory = Unit {0}
@@ -46,7 +47,8 @@ pub record IsTermOf (g : Generators) (t : ReadTerm) : Type 0 where
 abbrev pub AreTermsOf : Generators → List ReadTerm → Type 0
 AreTermsOf g ts = All (IsTermOf g) ts
 
--- f is the power of a generator as a factor: 0 where for odd p the generator has odd degree and the exponent is above 1
+-- f is the power of a generator as a factor: 0 where for odd p the generator has odd degree and the exponent
+-- is above 1
 pub record IsPowerOf (g : Generators) (x : Factor) (f : Polynomial) : Type 0 where
   pub degree_is : f.degree ≡ slice_index g.degrees x.generator * x.exponent
   pub over : IsOverGenerators g f
@@ -64,7 +66,8 @@ IsDegreeFault ds (Syntax c) = ⊥
 IsDegreeFault ds (UnknownName c) = ⊥
 IsDegreeFault ds (TooHigh d) = IsFirst (λ e. GREATEST_DEGREE < e) d ds
 IsDegreeFault [] (Mixed d e) = ⊥
-IsDegreeFault (x ∷ xs) (Mixed d e) = All (λ k. k ≤ GREATEST_DEGREE) (x ∷ xs) × (x ≡ d) × IsFirst (λ k. k ≢ d) e xs
+IsDegreeFault (x ∷ xs) (Mixed d e) = All (λ k. k ≤ GREATEST_DEGREE) (x ∷ xs) × (x ≡ d)
+    × IsFirst (λ k. k ≢ d) e xs
 IsDegreeFault ds Memory = ⊥
 
 -- the answer is the one that the text has, or want of memory

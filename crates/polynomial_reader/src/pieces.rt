@@ -49,7 +49,8 @@ fn exponent(digits: &[u8]) -> u8
 /// The name and the exponent of a factor.
 pub(crate) fn split_exponent(piece: &[u8]) -> (&[u8], u8)
     ensures name { (f : NamedFactor) → IsFactor f → factor_text f ≡ piece.now → result.0.now ≡ f.name }
-    ensures exponent { (f : NamedFactor) → IsFactor f → factor_text f ≡ piece.now → result.1 ≡ number f.exponent }
+    ensures exponent { (f : NamedFactor) → IsFactor f → factor_text f ≡ piece.now
+        → result.1 ≡ number f.exponent }
 {
     match cut(piece, b'^') {
         Some((name, digits)) => (name, exponent(digits)),
@@ -57,9 +58,11 @@ pub(crate) fn split_exponent(piece: &[u8]) -> (&[u8], u8)
     }
 }
 
-/// The numeral of a term, 1 where none is written, and its factors, which stand at the end. Only a numeral begins with a digit.
+/// The numeral of a term, 1 where none is written, and its factors, which stand at the end. Only a numeral
+/// begins with a digit.
 pub(crate) fn split_numeral(term: &[u8]) -> (u8, &[u8])
-    ensures numeral { (q : ℕ) (t : NamedTerm) → q ≤ 6 → IsTerm q t → term_bytes t ≡ term.now → result.0 ≡ number t.numeral }
+    ensures numeral { (q : ℕ) (t : NamedTerm) → q ≤ 6 → IsTerm q t → term_bytes t ≡ term.now
+        → result.0 ≡ number t.numeral }
     ensures factors { (q : ℕ) (t : NamedTerm) → q ≤ 6 → IsTerm q t → term_bytes t ≡ term.now
         → result.1.now ≡ joined_by star (map factor_text t.factors) }
     ensures len { length result.1.now ≤ length term.now }

@@ -35,7 +35,8 @@ fn generator_names(alloc: Global, gens: &Gens) -> Result<Vec<Vec<u8>>, Memory>
 fn find_name(names: &[Vec<u8>], name: &[u8]) -> Option<usize>
     ensures within { IfSome result (λ i. i < length names.now) }
     ensures found { IfSome result (λ i. slice_index_or (map (λ n. n.items) names.now) i [] ≡ name.now) }
-    ensures none { IsNone result → (i : ℕ) → i < length names.now → slice_index_or (map (λ n. n.items) names.now) i [] ≢ name.now }
+    ensures none { IsNone result → (i : ℕ) → i < length names.now
+        → slice_index_or (map (λ n. n.items) names.now) i [] ≢ name.now }
 {
     for (i, n) in names.iter().enumerate() {
         if n.as_slice() == name {
@@ -48,8 +49,10 @@ fn find_name(names: &[Vec<u8>], name: &[u8]) -> Option<usize>
 // The factor of a piece, where its name is a generator's.
 fn read_factor(gens: &Gens, names: &[Vec<u8>], piece: &[u8]) -> Option<Factor>
     requires names { AreNames gens.now.degrees (map (λ n. n.items) names.now) }
-    ensures some { (f : NamedFactor) → IsFactor f → factor_text f ≡ piece.now → IfSome result (Names gens.now.degrees f) }
-    ensures none { (f : NamedFactor) → IsFactor f → factor_text f ≡ piece.now → IsNone result → IsUnknown gens.now.degrees f.name }
+    ensures some { (f : NamedFactor) → IsFactor f → factor_text f ≡ piece.now
+        → IfSome result (Names gens.now.degrees f) }
+    ensures none { (f : NamedFactor) → IsFactor f → factor_text f ≡ piece.now → IsNone result
+        → IsUnknown gens.now.degrees f.name }
 {
     let (name, exponent) = split_exponent(piece);
     let generator = find_name(names, name)?;
@@ -67,7 +70,8 @@ fn read_factors(
     requires names { AreNames gens.now.degrees (map (λ n. n.items) names.now) }
     requires small { column + spans (map (λ p. p.now) pieces.now) ≤ 2 ^ 20 }
     ensures { (fs : List NamedFactor) → Each IsFactor fs → map factor_text fs ≡ map (λ p. p.now) pieces.now
-        → MatchResult result (λ v. NamesEach gens.now.degrees fs v.items) (IsUnknownAt gens.now.degrees (factor_names column fs)) }
+        → MatchResult result (λ v. NamesEach gens.now.degrees fs v.items)
+        (IsUnknownAt gens.now.degrees (factor_names column fs)) }
 {
     let mut factors = Vec::new(alloc);
     let mut at = column;
@@ -112,8 +116,10 @@ fn read_terms(
     requires prime { gens.now.prime ≤ 7 }
     requires names { AreNames gens.now.degrees (map (λ n. n.items) names.now) }
     requires small { spans (map (λ p. p.now) pieces.now) + 1 ≤ 2 ^ 20 }
-    ensures { (ts : List NamedTerm) → Each (IsTerm (greatest gens.now)) ts → map term_bytes ts ≡ map (λ p. p.now) pieces.now
-        → MatchResult result (λ v. NamesTerms gens.now.degrees ts v.items) (IsUnknownAt gens.now.degrees (term_names 1 ts)) }
+    ensures { (ts : List NamedTerm) → Each (IsTerm (greatest gens.now)) ts
+        → map term_bytes ts ≡ map (λ p. p.now) pieces.now
+        → MatchResult result (λ v. NamesTerms gens.now.degrees ts v.items)
+        (IsUnknownAt gens.now.degrees (term_names 1 ts)) }
 {
     let mut terms = Vec::new(alloc);
     let mut at = 1;
@@ -129,7 +135,8 @@ fn read_sum(alloc: Global, gens: &Gens, text: &[u8]) -> Result<Vec<ReadTerm>, Po
     requires prime { gens.now.prime ≤ 7 }
     requires small { length text.now ≤ LONGEST_TEXT }
     ensures { (s : Sum) → IsTextOf (greatest gens.now) s text.now
-        → MatchResult result (λ v. NamesSum gens.now.degrees s v.items) (IsUnknownAt gens.now.degrees (placed_names s)) }
+        → MatchResult result (λ v. NamesSum gens.now.degrees s v.items)
+        (IsUnknownAt gens.now.degrees (placed_names s)) }
 {
     let mut terms = Vec::new(alloc);
     if text == b"0".as_slice() {
@@ -143,8 +150,10 @@ fn read_sum(alloc: Global, gens: &Gens, text: &[u8]) -> Result<Vec<ReadTerm>, Po
     read_terms(alloc, gens, &names, &pieces(alloc, text, b'+')?)
 }
 
-/// The polynomial of a text, or the text's first fault. The text has at most `LONGEST_TEXT` bytes: `0`, `1`, or terms joined by `+`,
-/// in any order. A term is an optional numeral from 1 to p - 1 with `*`, and factors joined by `*`, multiplied from left to right.
+/// The polynomial of a text, or the text's first fault. The text has at most `LONGEST_TEXT` bytes: `0`, `1`,
+/// or terms joined by `+`,
+/// in any order. A term is an optional numeral from 1 to p - 1 with `*`, and factors joined by `*`,
+/// multiplied from left to right.
 /// A factor is a name, alone or with `^` and a numeral from 1 to `GREATEST_DEGREE`.
 pub fn read_poly(alloc: Global, gens: &Gens, text: &[u8]) -> Result<Poly, PolyFault>
     requires { length text.now ≤ LONGEST_TEXT }

@@ -24,11 +24,14 @@ fn power_monomial(alloc: Global, i: usize, exponent: u8) -> Result<Mono, Memory>
     Mono::of(alloc, &exponents)
 }
 
-// Whether a power of generator i is 0: for odd p, where the generator has odd degree and the exponent is above 1.
+// Whether a power of generator i is 0: for odd p, where the generator has odd degree and the exponent is
+// above 1.
 fn vanishes(gens: &Gens, i: usize, exponent: u8) -> bool
     requires { i < length gens.now.degrees }
-    ensures zero { result ≡ true → (2 ≤ exponent) × (is_exterior (greatest gens.now) (slice_index gens.now.degrees i) ≡ true) }
-    ensures other { result ≡ false → (exponent ≤ 1) ⊎ (is_exterior (greatest gens.now) (slice_index gens.now.degrees i) ≡ false) }
+    ensures zero { result ≡ true → (2 ≤ exponent)
+        × (is_exterior (greatest gens.now) (slice_index gens.now.degrees i) ≡ true) }
+    ensures other { result ≡ false → (exponent ≤ 1)
+        ⊎ (is_exterior (greatest gens.now) (slice_index gens.now.degrees i) ≡ false) }
 {
     exponent > 1 && gens.is_exterior(i)
 }
@@ -55,7 +58,8 @@ fn term_value(alloc: Global, gens: &Gens, t: &ReadTerm) -> Result<Poly, Memory>
     requires term { IsTermOf gens.now t.now }
     requires small { term_degree gens.now.degrees t.now ≤ GREATEST_DEGREE }
     ensures { IfOk result (IsSumOf gens.now (term_degree gens.now.degrees t.now)
-        (read_from (greatest gens.now) gens.now.degrees (record { scalar = t.now.numeral; monomial = [] } ∷ []) t.now.factors)) }
+        (read_from (greatest gens.now) gens.now.degrees
+        (record { scalar = t.now.numeral; monomial = [] } ∷ []) t.now.factors)) }
 {
     let mut out = Poly::constant(alloc, gens, t.numeral())?;
     for x in t.factors() {
@@ -74,7 +78,8 @@ pub(crate) fn value(
     requires terms { AreTermsOf gens.now terms.now }
     requires small { degree ≤ GREATEST_DEGREE }
     requires degrees { All (λ t. term_degree gens.now.degrees t ≡ degree) terms.now }
-    ensures { IfOk result (IsSumOf gens.now degree (read_value (greatest gens.now) gens.now.degrees terms.now)) }
+    ensures { IfOk result (IsSumOf gens.now degree
+        (read_value (greatest gens.now) gens.now.degrees terms.now)) }
 {
     let mut out = Poly::zero(alloc, degree);
     for t in terms {

@@ -13,10 +13,13 @@ pub fn one_answer()
         → IsAnswer q ds text a → IsAnswer q ds text b → a ≡ b }
 {}
 
-/// The text of a stored polynomial of degree 1 to `GREATEST_DEGREE` that is not 0 is read as that polynomial, and as nothing else.
+/// The text of a stored polynomial of degree 1 to `GREATEST_DEGREE` that is not 0 is read as that polynomial,
+/// and as nothing else.
 pub fn text_reads_back()
-    ensures answer { (q : ℕ) (ds : List ℕ) (f : Polynomial) → AreDegrees ds → f.terms ≢ [] → 1 ≤ f.degree → f.degree ≤ GREATEST_DEGREE
+    ensures answer { (q : ℕ) (ds : List ℕ) (f : Polynomial) → AreDegrees ds → f.terms ≢ [] → 1 ≤ f.degree
+        → f.degree ≤ GREATEST_DEGREE
         → IsPolynomial q ds f.degree f.terms → IsAnswer q ds (polynomial_text ds f.terms) (reads f) }
-    ensures only { (q : ℕ) (ds : List ℕ) (f : Polynomial) (a : Answer) → q ≤ 6 → AreDegrees ds → f.terms ≢ [] → 1 ≤ f.degree → f.degree ≤ GREATEST_DEGREE
+    ensures only { (q : ℕ) (ds : List ℕ) (f : Polynomial) (a : Answer) → q ≤ 6 → AreDegrees ds → f.terms ≢ []
+        → 1 ≤ f.degree → f.degree ≤ GREATEST_DEGREE
         → IsPolynomial q ds f.degree f.terms → IsAnswer q ds (polynomial_text ds f.terms) a → a ≡ reads f }
 {}

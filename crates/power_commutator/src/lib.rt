@@ -1,5 +1,7 @@
-//! Power-commutator presentations of groups of order p^n: definitions, the consistency tests, and the laws that tie them to groups.
-//! See Holt, Eick and O'Brien, Handbook of Computational Group Theory, chapter 8, for such presentations and their consistency.
+//! Power-commutator presentations of groups of order p^n: definitions, the consistency tests, and the laws
+//! that tie them to groups.
+//! See Holt, Eick and O'Brien, Handbook of Computational Group Theory, chapter 8, for such presentations and
+//! their consistency.
 #![tactic(auto)]
 
 ghost use Rattle.std.specs.Prelude.{◌≡◌, ◌<◌, None};

@@ -1,4 +1,5 @@
--- The premises of the laws hold together: the algebra over two elements with one generator x of degree 1 and the relation x^2, through degree 3.
+-- The premises of the laws hold together: the algebra over two elements with one generator x of degree 1 and
+-- the relation x^2, through degree 3.
 use Rattle.std.proofs.Common.{◌≡◌, ℕ, zero, suc, ◌+◌, ◌*◌, ◌<◌, List, [], ◌∷◌, ◌⊎◌, inl, inr, arith, ap, sym, ◌∙◌, refl}
 use Rattle.std.specs.Prelude.{slice_index_or}
 use Rattle.std.proofs.lemmas.List.{get_or_past}
@@ -43,10 +44,16 @@ powers-of-x : (d : ℕ) → IsMonomials 1 (1 ∷ []) (suc d) ((suc d ∷ []) ∷
 powers-of-x d = record { each = each; all = all; descending = λ i j b l. absurd (omega (arith, b, l)) }
   where
     each : (i : ℕ) → i < 1 → IsMonomial 1 (1 ∷ []) (suc d) (slice_index_or ((suc d ∷ []) ∷ []) i [])
-    each zero l = record { within = tt; trimmed = ((λ e z. absurd (omega (arith, z))), tt); fitting = refl; degree_is = omega arith }
+    each zero l = record {
+      within = tt;
+      trimmed = ((λ e z. absurd (omega (arith, z))), tt);
+      fitting = refl;
+      degree_is = omega arith;
+    }
     each (suc i) l = absurd (omega (arith, l))
 
-    all : (m : List ℕ) → IsMonomial 1 (1 ∷ []) (suc d) m → (i : ℕ) × (i < 1) × (slice_index_or ((suc d ∷ []) ∷ []) i [] ≡ m)
+    all : (m : List ℕ) → IsMonomial 1 (1 ∷ []) (suc d) m → (i : ℕ) × (i < 1)
+        × (slice_index_or ((suc d ∷ []) ∷ []) i [] ≡ m)
     all [] M = absurd (let e = M.degree_is in omega (arith, e))
     all (y ∷ []) M = (0, omega arith, ap (λ y. y ∷ []) (let e = M.degree_is in omega (arith, e)))
     all (y ∷ z ∷ m) M = absurd M.within
@@ -105,7 +112,8 @@ generators = (
 
 -- degree 1: the value of x, by its class
 values-one : AreValues 1 (vectors 1 multiply) (x ∷ []) ((1 ∷ []) ∷ []) ((1 ∷ []) ∷ [])
-values-one = values-with-last 1 multiply [] x [] [] (1 ∷ []) (no-monomials 0) no-values (unit-vector 1 1 0 (omega arith)) refl
+values-one = values-with-last 1 multiply [] x [] [] (1 ∷ []) (no-monomials 0) no-values
+    (unit-vector 1 1 0 (omega arith)) refl
 
 kernel-one : IsKernelOf 2 ((1 ∷ []) ∷ []) []
 kernel-one = record {
@@ -115,7 +123,8 @@ kernel-one = record {
   spans = λ u r k. ((λ i. 0), record { each = λ j. congruent_sym (at u r k j) });
 }
   where
-    at : (u : List ℕ) → IsRow 2 1 u → IsInKernel 2 ((1 ∷ []) ∷ []) (entry u) → (j : ℕ) → IsCongruent 2 (entry u j) 0
+    at : (u : List ℕ) → IsRow 2 1 u → IsInKernel 2 ((1 ∷ []) ∷ []) (entry u) → (j : ℕ)
+        → IsCongruent 2 (entry u j) 0
     at u r k zero = congruent_trans (congruent_eq (omega arith)) (k 0)
     at u r k (suc j) = congruent_eq (get_or_past u (suc j) 0 (omega (arith, r.length_is)))
 
@@ -129,8 +138,10 @@ relations-one = (
   (1 ∷ []) ∷ [],
   refl,
   powers-of-x 0,
-  relations-from 1 1 multiply (x ∷ []) [] ((1 ∷ []) ∷ []) ((1 ∷ []) ∷ []) [] [] (omega arith) (powers-of-x 0) values-one kernel-one
-      (consequence-pivots 1 1 (Vector 1) (vectors 1 multiply) (x ∷ []) [] ((1 ∷ []) ∷ []) [] [] (λ r o. absurd o) (powers-of-x 0)
+  relations-from 1 1 multiply (x ∷ []) [] ((1 ∷ []) ∷ []) ((1 ∷ []) ∷ []) [] [] (omega arith)
+      (powers-of-x 0) values-one kernel-one
+      (consequence-pivots 1 1 (Vector 1) (vectors 1 multiply) (x ∷ []) [] ((1 ∷ []) ∷ []) [] []
+      (λ r o. absurd o) (powers-of-x 0)
       (no-multiples 1 ((1 ∷ []) ∷ [])) (no-rows 1) (omega arith)),
   refl,
 )
@@ -139,7 +150,8 @@ relations-one = (
 values-two : AreValues 1 (vectors 1 multiply) (x ∷ []) ((2 ∷ []) ∷ []) ([] ∷ [])
 values-two = record { count = refl; each = each }
   where
-    each : (i : ℕ) → i < 1 → vector 1 (row ([] ∷ []) i) ≡ evaluate (vectors 1 multiply) (x ∷ []) (slice_index_or ((2 ∷ []) ∷ []) i [])
+    each : (i : ℕ) → i < 1 → vector 1 (row ([] ∷ []) i) ≡ evaluate (vectors 1 multiply) (x ∷ [])
+        (slice_index_or ((2 ∷ []) ∷ []) i [])
     each zero l = refl
     each (suc i) l = absurd (omega (arith, l))
 
@@ -158,9 +170,11 @@ kernel-two = record {
     at zero l j = congruent_eq (let e : 0 + 1 * 0 ≡ 0 = omega arith in e)
     at (suc i) l j = absurd (omega (arith, l))
 
-    member : (u : List ℕ) → IsRow 2 1 u → (j : ℕ) → IsCongruent 2 (0 + entry u 0 * entry (1 ∷ []) j) (entry u j)
+    member : (u : List ℕ) → IsRow 2 1 u → (j : ℕ)
+        → IsCongruent 2 (0 + entry u 0 * entry (1 ∷ []) j) (entry u j)
     member u r zero = congruent_eq (omega arith)
-    member u r (suc j) = congruent_eq (let e : entry u (suc j) ≡ 0 = get_or_past u (suc j) 0 (omega (arith, r.length_is)) in omega (arith, e))
+    member u r (suc j) = congruent_eq (let e : entry u (suc j) ≡ 0 = get_or_past u (suc j) 0
+        (omega (arith, r.length_is)) in omega (arith, e))
 
 abbrev x-squared : Polynomial
 x-squared = record { degree = 2; terms = record { scalar = 1; monomial = 2 ∷ [] } ∷ [] }
@@ -172,8 +186,10 @@ relations-two = (
   (2 ∷ []) ∷ [],
   relations-one,
   powers-of-x 1,
-  relations-from 1 2 multiply (x ∷ []) [] ((2 ∷ []) ∷ []) ([] ∷ []) ((1 ∷ []) ∷ []) [] (omega arith) (powers-of-x 1) values-two kernel-two
-      (consequence-pivots 1 2 (Vector 1) (vectors 1 multiply) (x ∷ []) [] ((2 ∷ []) ∷ []) [] [] (λ r o. absurd o) (powers-of-x 1)
+  relations-from 1 2 multiply (x ∷ []) [] ((2 ∷ []) ∷ []) ([] ∷ []) ((1 ∷ []) ∷ []) [] (omega arith)
+      (powers-of-x 1) values-two kernel-two
+      (consequence-pivots 1 2 (Vector 1) (vectors 1 multiply) (x ∷ []) [] ((2 ∷ []) ∷ []) [] []
+      (λ r o. absurd o) (powers-of-x 1)
       (no-multiples 2 ((2 ∷ []) ∷ [])) (no-rows 1) (omega arith)),
   refl,
 )
@@ -182,7 +198,8 @@ relations-two = (
 values-three : AreValues 1 (vectors 1 multiply) (x ∷ []) ((3 ∷ []) ∷ []) ([] ∷ [])
 values-three = record { count = refl; each = each }
   where
-    each : (i : ℕ) → i < 1 → vector 1 (row ([] ∷ []) i) ≡ evaluate (vectors 1 multiply) (x ∷ []) (slice_index_or ((3 ∷ []) ∷ []) i [])
+    each : (i : ℕ) → i < 1 → vector 1 (row ([] ∷ []) i) ≡ evaluate (vectors 1 multiply) (x ∷ [])
+        (slice_index_or ((3 ∷ []) ∷ []) i [])
     each zero l = refl
     each (suc i) l = absurd (omega (arith, l))
 
@@ -193,7 +210,12 @@ multiples-three = record { each = each; all = all }
         × (row ((1 ∷ []) ∷ []) i ≡ row_of 1 ((3 ∷ []) ∷ []) (terms_of 1 (1 ∷ []) t))
     each zero l = (
       record { scalar = 1; by = 1 ∷ []; of = x-squared },
-      record { given = inl refl; rest = 1; monomial = (powers-of-x 0).each 0 (omega arith); degree_is = refl },
+      record {
+        given = inl refl;
+        rest = 1;
+        monomial = (powers-of-x 0).each 0 (omega arith);
+        degree_is = refl;
+      },
       refl,
     )
     each (suc i) l = absurd (omega (arith, l))
@@ -207,7 +229,8 @@ multiples-three = record { each = each; all = all }
         go (inl e) = rw (o, by-x, e) refl
           where
             rest-one : h.rest ≡ 1
-            rest-one = let d : t.of.degree ≡ 2 = ap (λ (r : Polynomial). r.degree) e in omega (arith, d, h.degree_is)
+            rest-one = let d : t.of.degree ≡ 2 = ap (λ (r : Polynomial). r.degree) e in
+                omega (arith, d, h.degree_is)
 
             by-x : t.by ≡ 1 ∷ []
             by-x = let m = (powers-of-x 0).all t.by (rw rest-one at h.monomial) in sym m.2
@@ -228,10 +251,13 @@ relations-three = (
   (3 ∷ []) ∷ [],
   relations-two,
   powers-of-x 2,
-  relations-from 1 3 multiply (x ∷ []) (x-squared ∷ []) ((3 ∷ []) ∷ []) ([] ∷ []) ((1 ∷ []) ∷ []) ((1 ∷ []) ∷ []) (omega arith)
+  relations-from 1 3 multiply (x ∷ []) (x-squared ∷ []) ((3 ∷ []) ∷ []) ([] ∷ []) ((1 ∷ []) ∷ [])
+      ((1 ∷ []) ∷ []) (omega arith)
       (powers-of-x 2) values-three kernel-two
-      (consequence-pivots 1 3 (Vector 1) (vectors 1 multiply) (x ∷ []) (x-squared ∷ []) ((3 ∷ []) ∷ []) ((1 ∷ []) ∷ []) ((1 ∷ []) ∷ [])
-      (λ r o. (defining 1 (Vector 1) (vectors 1 multiply) (x ∷ []) 2 (x-squared ∷ []) relations-two r o).vanishes.over)
+      (consequence-pivots 1 3 (Vector 1) (vectors 1 multiply) (x ∷ []) (x-squared ∷ []) ((3 ∷ []) ∷ [])
+      ((1 ∷ []) ∷ []) ((1 ∷ []) ∷ [])
+      (λ r o. (defining 1 (Vector 1) (vectors 1 multiply) (x ∷ []) 2
+      (x-squared ∷ []) relations-two r o).vanishes.over)
       (powers-of-x 2) multiples-three echelon-three (omega arith)),
   refl,
 )
@@ -240,7 +266,10 @@ relations-three = (
 preimage-one : IsPreimage 2 ((1 ∷ []) ∷ []) [] (1 ∷ []) (1 ∷ [])
 preimage-one = record {
   is_row = unit-matrix unit-rows 2 (omega arith) 0 (omega arith);
-  maps = record { each = λ j. congruent_eq (let e : 0 + 1 * entry (1 ∷ []) j ≡ entry (1 ∷ []) j = omega arith in e) };
+  maps = record {
+    each = λ j. congruent_eq
+        (let e : 0 + 1 * entry (1 ∷ []) j ≡ entry (1 ∷ []) j = omega arith in e);
+  };
   zero_at_pivots = λ i l. absurd (omega (arith, l));
 }
 
@@ -251,8 +280,10 @@ preimages-one = record { count = refl; each = each }
     each zero l = preimage-one
     each (suc i) l = absurd (omega (arith, l))
 
-pub normal-form-one : IsNormalForm 1 (vectors 1 multiply) (x ∷ []) 1 (vector 1 (1 ∷ [])) (record { scalar = 1; monomial = 1 ∷ [] } ∷ [])
-normal-form-one = normal-form-of 1 1 multiply (x ∷ []) ((1 ∷ []) ∷ []) ((1 ∷ []) ∷ []) [] (omega arith) (powers-of-x 0) values-one kernel-one
+pub normal-form-one : IsNormalForm 1 (vectors 1 multiply) (x ∷ []) 1 (vector 1 (1 ∷ []))
+    (record { scalar = 1; monomial = 1 ∷ [] } ∷ [])
+normal-form-one = normal-form-of 1 1 multiply (x ∷ []) ((1 ∷ []) ∷ []) ((1 ∷ []) ∷ []) [] (omega arith)
+    (powers-of-x 0) values-one kernel-one
     (1 ∷ []) (1 ∷ [])
     (preimage-of-combination (omega arith) unit-rows preimages-one kernel-one (1 ∷ [])
     (1 ∷ []) preimage-one.is_row preimage-one.is_row preimage-one.maps)

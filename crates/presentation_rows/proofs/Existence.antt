@@ -63,7 +63,8 @@ each-matrix p n rows h i l = All-from_recursion (IsRow p n) rows h i [] l
 -- the rows of the multiples of degree d of polynomials, over the monomials ms
 module _ (q : ℕ) (ds : List ℕ) (positive : Each (λ d. 0 < d) ds) (d : ℕ) (ms : List (List ℕ)) where
   abbrev multiples-of-one : (r : Polynomial) → (r.degree ≤ d) ⊎ (d < r.degree) → List (List ℕ)
-  multiples-of-one r (inl l) = map (λ m. row_of q ms (multiple q ds 1 m r.terms)) (all_monomials q ds (d - r.degree))
+  multiples-of-one r (inl l) = map (λ m. row_of q ms (multiple q ds 1 m r.terms))
+      (all_monomials q ds (d - r.degree))
   multiples-of-one r (inr l) = []
 
   pub cases : (a b : ℕ) → (a ≤ b) ⊎ (b < a)
@@ -80,12 +81,24 @@ module _ (q : ℕ) (ds : List ℕ) (positive : Each (λ d. 0 < d) ds) (d : ℕ) 
   abbrev IsOneMultiple : List Polynomial → List ℕ → Type 0
   IsOneMultiple rs x = (t : Multiple) × IsMultiple q ds rs d t × (x ≡ row_of q ms (terms_of q ds t))
 
-  later-multiple : (r : Polynomial) (rs : List Polynomial) (x : List ℕ) → IsOneMultiple rs x → IsOneMultiple (r ∷ rs) x
-  later-multiple r rs x h = (h.0, record { given = inr h.1.given; rest = h.1.rest; monomial = h.1.monomial; degree_is = h.1.degree_is }, h.2)
+  later-multiple : (r : Polynomial) (rs : List Polynomial) (x : List ℕ) → IsOneMultiple rs x
+      → IsOneMultiple (r ∷ rs) x
+  later-multiple r rs x h = (
+    h.0,
+    record {
+      given = inr h.1.given;
+      rest = h.1.rest;
+      monomial = h.1.monomial;
+      degree_is = h.1.degree_is;
+    },
+    h.2,
+  )
 
-  each-of-one : (r : Polynomial) (rs : List Polynomial) (c : (r.degree ≤ d) ⊎ (d < r.degree)) → Each (IsOneMultiple (r ∷ rs)) (multiples-of-one r c)
+  each-of-one : (r : Polynomial) (rs : List Polynomial) (c : (r.degree ≤ d) ⊎ (d < r.degree))
+      → Each (IsOneMultiple (r ∷ rs)) (multiples-of-one r c)
   each-of-one r rs (inr l) = tt
-  each-of-one r rs (inl l) = each-mapped (IsMonomial q ds (d - r.degree)) (IsOneMultiple (r ∷ rs)) (λ m. row_of q ms (multiple q ds 1 m r.terms))
+  each-of-one r rs (inl l) = each-mapped (IsMonomial q ds (d - r.degree)) (IsOneMultiple (r ∷ rs))
+      (λ m. row_of q ms (multiple q ds 1 m r.terms))
       (all_monomials q ds (d - r.degree))
       (λ m M. (
         record { scalar = 1; by = m; of = r },
@@ -96,22 +109,32 @@ module _ (q : ℕ) (ds : List ℕ) (positive : Each (λ d. 0 < d) ds) (d : ℕ) 
 
   each-multiple : (rs : List Polynomial) → Each (IsOneMultiple rs) (all-multiples rs)
   each-multiple [] = tt
-  each-multiple (r ∷ rs) = each-append (IsOneMultiple (r ∷ rs)) (multiples-of-one r (cases r.degree d)) (all-multiples rs)
+  each-multiple (r ∷ rs) = each-append (IsOneMultiple (r ∷ rs)) (multiples-of-one r (cases r.degree d))
+      (all-multiples rs)
       (each-of-one r rs (cases r.degree d))
-      (each-map (IsOneMultiple rs) (IsOneMultiple (r ∷ rs)) (all-multiples rs) (later-multiple r rs) (each-multiple rs))
+      (each-map (IsOneMultiple rs) (IsOneMultiple (r ∷ rs)) (all-multiples rs) (later-multiple r rs)
+      (each-multiple rs))
 
-  stands-of-one : (r : Polynomial) (c : (r.degree ≤ d) ⊎ (d < r.degree)) (m : List ℕ) (e : ℕ) → IsMonomial q ds e m → e + r.degree ≡ d
+  stands-of-one : (r : Polynomial) (c : (r.degree ≤ d) ⊎ (d < r.degree)) (m : List ℕ) (e : ℕ)
+      → IsMonomial q ds e m → e + r.degree ≡ d
       → Stands (row_of q ms (multiple q ds 1 m r.terms)) (multiples-of-one r c)
   stands-of-one r (inr l) m e M s = absurd (omega (arith, s, l))
-  stands-of-one r (inl l) m e M s = stands-map (λ m. row_of q ms (multiple q ds 1 m r.terms)) m (all_monomials q ds (d - r.degree))
-      (all-has q ds positive (d - r.degree) m (let z : e ≡ d - r.degree = omega arith in subst (λ e. IsMonomial q ds e m) z M))
+  stands-of-one r (inl l) m e M s = stands-map (λ m. row_of q ms (multiple q ds 1 m r.terms)) m
+      (all_monomials q ds (d - r.degree))
+      (all-has q ds positive (d - r.degree) m
+      (let z : e ≡ d - r.degree = omega arith in subst (λ e. IsMonomial q ds e m) z M))
 
-  stands-multiple : (rs : List Polynomial) (r : Polynomial) → IsOneOf r rs → (m : List ℕ) (e : ℕ) → IsMonomial q ds e m → e + r.degree ≡ d
+  stands-multiple : (rs : List Polynomial) (r : Polynomial) → IsOneOf r rs → (m : List ℕ) (e : ℕ)
+      → IsMonomial q ds e m → e + r.degree ≡ d
       → Stands (row_of q ms (multiple q ds 1 m r.terms)) (all-multiples rs)
   stands-multiple [] r h m e M s = absurd h
-  stands-multiple (x ∷ rs) r (inl h) m e M s = rw h (stands-left (row_of q ms (multiple q ds 1 m x.terms)) (multiples-of-one x (cases x.degree d)) (all-multiples rs)
+  stands-multiple (x ∷ rs) r (inl h) m e M s =
+      rw h (stands-left (row_of q ms (multiple q ds 1 m x.terms)) (multiples-of-one x (cases x.degree d))
+      (all-multiples rs)
       (stands-of-one x (cases x.degree d) m e M (rw h at s)))
-  stands-multiple (x ∷ rs) r (inr h) m e M s = stands-right (row_of q ms (multiple q ds 1 m r.terms)) (multiples-of-one x (cases x.degree d)) (all-multiples rs)
+  stands-multiple (x ∷ rs) r (inr h) m e M s =
+      stands-right (row_of q ms (multiple q ds 1 m r.terms)) (multiples-of-one x (cases x.degree d))
+      (all-multiples rs)
       (stands-multiple rs r h m e M s)
 
   pub multiples-exist : (rs : List Polynomial) → AreMultiples q ds rs d ms (all-multiples rs)
@@ -125,10 +148,12 @@ module _ (q : ℕ) (ds : List ℕ) (positive : Each (λ d. 0 < d) ds) (d : ℕ) 
 
   pub multiples-matrix : (rs : List Polynomial) → IsMatrix (suc q) (length ms) (all-multiples rs)
   multiples-matrix rs = each-matrix (suc q) (length ms) (all-multiples rs)
-      (each-map (IsOneMultiple rs) (IsRow (suc q) (length ms)) (all-multiples rs) (one-is-row rs) (each-multiple rs))
+      (each-map (IsOneMultiple rs) (IsRow (suc q) (length ms)) (all-multiples rs) (one-is-row rs)
+      (each-multiple rs))
 
 -- the values of monomials, by rows
-module _ (q : ℕ) (ranks : ℕ → ℕ) (mul : ℕ → ℕ → Vector q → Vector q → Vector q) (H : HasRanks q ranks mul) where
+module _ (q : ℕ) (ranks : ℕ → ℕ) (mul : ℕ → ℕ → Vector q → Vector q
+    → Vector q) (H : HasRanks q ranks mul) where
   abbrev A : Algebra (Vector q)
   A = vectors q mul
 
@@ -139,16 +164,20 @@ module _ (q : ℕ) (ranks : ℕ → ℕ) (mul : ℕ → ℕ → Vector q → Vec
   of-same : (d e : ℕ) (v : Vector q) → d ≡ e → IsOf d v → IsOf e v
   of-same d e v z h = subst (λ d. IsOf d v) z h
 
-  powers-of : (j : ℕ) (a : Vector q) (g : Generator (Vector q)) (e : ℕ) → IsOf j a → IsOf (j + g.degree * e) (powers A j a g e)
-  powers-of j a g zero h = of-same j (j + g.degree * zero) a (let z : j ≡ j + g.degree * 0 = omega arith in z) h
-  powers-of j a g (suc e) h = of-same (j + g.degree * e + g.degree) (j + g.degree * suc e) (powers A j a g (suc e)) (omega arith)
+  powers-of : (j : ℕ) (a : Vector q) (g : Generator (Vector q)) (e : ℕ) → IsOf j a
+      → IsOf (j + g.degree * e) (powers A j a g e)
+  powers-of j a g zero h = of-same j (j + g.degree * zero) a
+      (let z : j ≡ j + g.degree * 0 = omega arith in z) h
+  powers-of j a g (suc e) h = of-same (j + g.degree * e + g.degree) (j + g.degree * suc e)
+      (powers A j a g (suc e)) (omega arith)
       (H.products (j + g.degree * e) g.degree (powers A j a g e) g.class)
 
   evaluate-of : (j : ℕ) (a : Vector q) (gs : List (Generator (Vector q))) (m : List ℕ) → IsOf j a
       → IsOf (j + degree (degrees gs) m) (evaluate_from A j a gs m)
   evaluate-of j a [] m h = of-same j (j + 0) a (omega arith) h
   evaluate-of j a (g ∷ gs) [] h = of-same j (j + 0) a (omega arith) h
-  evaluate-of j a (g ∷ gs) (e ∷ m) h = of-same (j + g.degree * e + degree (degrees gs) m) (j + (g.degree * e + degree (degrees gs) m))
+  evaluate-of j a (g ∷ gs) (e ∷ m) h = of-same (j + g.degree * e + degree (degrees gs) m)
+      (j + (g.degree * e + degree (degrees gs) m))
       (evaluate_from A j a (g ∷ gs) (e ∷ m)) (omega arith)
       (evaluate-of (j + g.degree * e) (powers A j a g e) gs m (powers-of j a g e h))
 
@@ -156,12 +185,15 @@ module _ (q : ℕ) (ranks : ℕ → ℕ) (mul : ℕ → ℕ → Vector q → Vec
   one-of zero l = absurd (let o : ranks 0 ≡ 1 = H.one in omega (arith, o, l))
   one-of (suc i) l = go (eqb_tells (suc i) 0)
     where
-      go : ((eqb (suc i) 0 ≡ true) × (suc i ≡ 0)) ⊎ ((eqb (suc i) 0 ≡ false) × (suc i ≢ 0)) → unit q 0 (suc i) ≡ residue q 0
+      go : ((eqb (suc i) 0 ≡ true) × (suc i ≡ 0)) ⊎ ((eqb (suc i) 0 ≡ false) × (suc i ≢ 0))
+          → unit q 0 (suc i) ≡ residue q 0
       go (inl h) = absurd (omega (arith, h.1))
       go (inr h) = ap (λ b. residue q (cond b 1 0)) h.0
 
-  value-of : (gs : List (Generator (Vector q))) (d : ℕ) (m : List ℕ) → IsMonomial q (degrees gs) d m → IsOf d (evaluate A gs m)
-  value-of gs d m M = of-same (0 + degree (degrees gs) m) d (evaluate A gs m) (omega (arith, M.degree_is)) (evaluate-of 0 (unit q 0) gs m one-of)
+  value-of : (gs : List (Generator (Vector q))) (d : ℕ) (m : List ℕ) → IsMonomial q (degrees gs) d m
+      → IsOf d (evaluate A gs m)
+  value-of gs d m M = of-same (0 + degree (degrees gs) m) d (evaluate A gs m) (omega (arith, M.degree_is))
+      (evaluate-of 0 (unit q 0) gs m one-of)
 
   -- the row of a vector of degree d
   abbrev row-of-vector : ℕ → Vector q → List ℕ
@@ -178,21 +210,27 @@ module _ (q : ℕ) (ranks : ℕ → ℕ) (mul : ℕ → ℕ → Vector q → Vec
     where
       go : (i : ℕ) → (i < ranks d) ⊎ (ranks d ≤ i) → vector q (row-of-vector d v) i ≡ v i
       go i (inl l) = ap (residue q) (entry-table (ranks d) (λ i. (v i).0) i l) ∙ residue-self q (v i)
-      go i (inr l) = ap (residue q) (get_or_past (row-of-vector d v) i 0 (let z : length (row-of-vector d v) ≡ ranks d = length-table (ranks d) (λ i. (v i).0) in omega (arith, z, l)))
+      go i (inr l) = ap (residue q) (get_or_past (row-of-vector d v) i 0
+          (let z : length (row-of-vector d v) ≡ ranks d = length-table (ranks d) (λ i. (v i).0) in omega
+          (arith, z, l)))
           ∙ sym (h i l)
 
   abbrev values-at : List (Generator (Vector q)) → ℕ → List (List ℕ) → List (List ℕ)
   values-at gs d ms = map (λ m. row-of-vector d (evaluate A gs m)) ms
 
-  values-exist : (gs : List (Generator (Vector q))) (d : ℕ) (ms : List (List ℕ)) → IsMonomials q (degrees gs) d ms → AreValues q A gs ms (values-at gs d ms)
+  values-exist : (gs : List (Generator (Vector q))) (d : ℕ) (ms : List (List ℕ))
+      → IsMonomials q (degrees gs) d ms → AreValues q A gs ms (values-at gs d ms)
   values-exist gs d ms M = record {
     count = length-map ms (λ m. row-of-vector d (evaluate A gs m));
     each = λ i l. ap (vector q) (get_or-map (λ m. row-of-vector d (evaluate A gs m)) ms i [] [] l)
-        ∙ vector-back d (evaluate A gs (slice_index_or ms i [])) (value-of gs d (slice_index_or ms i []) (M.each i l));
+        ∙ vector-back d (evaluate A gs (slice_index_or ms i []))
+        (value-of gs d (slice_index_or ms i []) (M.each i l));
   }
 
-  values-matrix : (gs : List (Generator (Vector q))) (d : ℕ) (ms : List (List ℕ)) → IsMatrix (suc q) (ranks d) (values-at gs d ms)
-  values-matrix gs d ms i l = rw (get_or-map (λ m. row-of-vector d (evaluate A gs m)) ms i [] [] (rw length-map at l))
+  values-matrix : (gs : List (Generator (Vector q))) (d : ℕ) (ms : List (List ℕ))
+      → IsMatrix (suc q) (ranks d) (values-at gs d ms)
+  values-matrix gs d ms i l = rw (get_or-map (λ m. row-of-vector d (evaluate A gs m)) ms i [] []
+      (rw length-map at l))
       (vector-is-row d (evaluate A gs (slice_index_or ms i [])))
 
   abbrev basis : ℕ → List (Vector q)
@@ -228,7 +266,8 @@ module _ (q : ℕ) (ranks : ℕ → ℕ) (mul : ℕ → ℕ → Vector q → Vec
     span = echelon F (values-at P.generators (suc n) ms) (values-matrix P.generators (suc n) ms)
 
     positions : (xs : List ℕ) × IsGreedy (suc q) (rows_of rank (unit_row rank)) span.0 xs
-    positions = greedy_exists (rows_of rank (unit_row rank)) span.0 F (unit-matrix (units-exist rank) (suc q) F.above_one) span.1.matrix
+    positions = greedy_exists (rows_of rank (unit_row rank)) span.0 F
+        (unit-matrix (units-exist rank) (suc q) F.above_one) span.1.matrix
 
     abbrev new : List (Generator (Vector q))
     new = generators_of q A (suc n) (map (unit q) positions.0)
@@ -243,8 +282,10 @@ module _ (q : ℕ) (ranks : ℕ → ℕ) (mul : ℕ → ℕ → Vector q → Vec
       map (unit q) positions.0,
       P.generators_are,
       monomials-are,
-      chosen-units q rank mul P.generators ms (values-at P.generators (suc n) ms) span.0 (rows_of rank (unit_row rank))
-          (values-exist P.generators (suc n) ms monomials-are) span.1 (units-exist rank) positions.0 positions.1,
+      chosen-units q rank mul P.generators ms (values-at P.generators (suc n) ms) span.0
+          (rows_of rank (unit_row rank))
+          (values-exist P.generators (suc n) ms monomials-are) span.1
+          (units-exist rank) positions.0 positions.1,
       refl,
     )
 
@@ -252,7 +293,9 @@ module _ (q : ℕ) (ranks : ℕ → ℕ) (mul : ℕ → ℕ → Vector q → Vec
     above = degrees-of-new n (map (unit q) positions.0)
 
     gs-positive : Each (λ e. 0 < e) (degrees gs)
-    gs-positive = rw (degrees-append P.generators new) (each-append (λ e. 0 < e) (degrees P.generators) (degrees new) P.positive (weaken n (degrees new) above))
+    gs-positive = rw (degrees-append P.generators new)
+        (each-append (λ e. 0 < e) (degrees P.generators) (degrees new) P.positive
+        (weaken n (degrees new) above))
 
     old : IsRelations q A gs n P.relations
     old = relations-up q (Vector q) A P.generators new n above n (omega arith) P.relations P.relations_are
@@ -287,7 +330,8 @@ module _ (q : ℕ) (ranks : ℕ → ℕ) (mul : ℕ → ℕ → Vector q → Vec
         all,
         old,
         all-are,
-        relations-from q (suc n) mul gs P.relations all values kernel.0 leading.0 F.above_one all-are (values-exist gs (suc n) all all-are) kernel.1
+        relations-from q (suc n) mul gs P.relations all values kernel.0 leading.0 F.above_one all-are
+            (values-exist gs (suc n) all all-are) kernel.1
             (consequence-pivots q (suc n) (Vector q) A gs P.relations all rows leading.0
             (λ r o. (defining q (Vector q) A gs n P.relations old r o).vanishes.over) all-are
             (multiples-exist q (degrees gs) gs-positive (suc n) all P.relations) leading.1 F.above_one),
@@ -296,5 +340,11 @@ module _ (q : ℕ) (ranks : ℕ → ℕ) (mul : ℕ → ℕ → Vector q → Vec
     }
 
   pub presented : IsFieldModulo (suc q) → (n : ℕ) → Presented n
-  presented F zero = record { generators = []; relations = []; positive = tt; generators_are = refl; relations_are = refl }
+  presented F zero = record {
+    generators = [];
+    relations = [];
+    positive = tt;
+    generators_are = refl;
+    relations_are = refl;
+  }
   presented F (suc n) = next F n (presented F n)

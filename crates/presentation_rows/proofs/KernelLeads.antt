@@ -16,27 +16,38 @@ use Rattle.presentation_rows.proofs.RowTerms.{over-row, same-as-row, row-of-is-r
 use Rattle.presentation_rows.proofs.RowValues.{value-of-kernel, kernel-of-value}
 use Rattle.presentation_rows.proofs.Leads.{pivot-of-leading, leading-of-pivot}
 
-module _ (q d : ℕ) (mul : ℕ → ℕ → Vector q → Vector q → Vector q) (gs : List (Generator (Vector q))) (ms values kernel : List (List ℕ))
+module _ (q d : ℕ) (mul : ℕ → ℕ → Vector q → Vector q
+    → Vector q) (gs : List (Generator (Vector q))) (ms values kernel : List (List ℕ))
     (one : 1 < suc q) (M : IsMonomials q (degrees gs) d ms) (V : AreValues q (vectors q mul) gs ms values)
     (K : IsKernelOf (suc q) values kernel) where
-  pub row-relation : (i : ℕ) → i < length kernel → IsRelation q (vectors q mul) gs d (polynomial_of ms (row kernel i))
-  row-relation i l = record { over = over-row M (row kernel i); vanishes = value-of-kernel q mul gs ms values V (row kernel i) (K.in_kernel i l) }
+  pub row-relation : (i : ℕ) → i < length kernel
+      → IsRelation q (vectors q mul) gs d (polynomial_of ms (row kernel i))
+  row-relation i l = record {
+    over = over-row M (row kernel i);
+    vanishes = value-of-kernel q mul gs ms values V (row kernel i) (K.in_kernel i l);
+  }
 
-  relation-row : (f : List Term) → IsRelation q (vectors q mul) gs d f → IsInSpan (suc q) kernel (entry (row_of q ms f))
+  relation-row : (f : List Term) → IsRelation q (vectors q mul) gs d f
+      → IsInSpan (suc q) kernel (entry (row_of q ms f))
   relation-row f r = K.spans (row_of q ms f) is-row
       (kernel-of-value q mul gs ms values V (row_of q ms f)
-      (sym (linear-same q (Vector q) (vectors q mul) (vector-space q mul) (evaluate (vectors q mul) gs) f (polynomial_of ms (row_of q ms f))
+      (sym (linear-same q (Vector q) (vectors q mul) (vector-space q mul) (evaluate (vectors q mul) gs) f
+      (polynomial_of ms (row_of q ms f))
       (same-as-row M f r.over)) ∙ r.vanishes))
     where
       is-row : IsRow (suc q) (length values) (row_of q ms f)
       is-row = rw V.count (row-of-is-row q ms f)
 
   pub relation-pivots : (k : ℕ) → k < length ms
-      → IsLeading q (vectors q mul) (IsRelation q (vectors q mul) gs d) (slice_index_or ms k []) ↔ IsPivot kernel k
+      → IsLeading q (vectors q mul) (IsRelation q (vectors q mul) gs d)
+      (slice_index_or ms k []) ↔ IsPivot kernel k
   relation-pivots k l = (
-    pivot-of-leading one M (vectors q mul) (IsRelation q (vectors q mul) gs d) (λ f r. r.over) kernel K.echelon relation-row row-relation k l,
-    leading-of-pivot one M (vectors q mul) (IsRelation q (vectors q mul) gs d) (λ f r. r.over) kernel K.echelon relation-row row-relation k l,
+    pivot-of-leading one M (vectors q mul) (IsRelation q (vectors q mul) gs d)
+        (λ f r. r.over) kernel K.echelon relation-row row-relation k l,
+    leading-of-pivot one M (vectors q mul) (IsRelation q (vectors q mul) gs d)
+        (λ f r. r.over) kernel K.echelon relation-row row-relation k l,
   )
 
-  pub standard-pivots : (k : ℕ) → k < length ms → IsStandard q (vectors q mul) gs d (slice_index_or ms k []) ↔ (IsPivot kernel k → ⊥)
+  pub standard-pivots : (k : ℕ) → k < length ms
+      → IsStandard q (vectors q mul) gs d (slice_index_or ms k []) ↔ (IsPivot kernel k → ⊥)
   standard-pivots k l = ((λ s p. s ((relation-pivots k l).1 p)), (λ n h. n ((relation-pivots k l).0 h)))

@@ -17,13 +17,16 @@ use Rattle.graded_algebra.proofs.Places.{leading-at}
 use Rattle.presentation_rows.specs.RowPolynomials.{polynomial_of, row_of}
 use Rattle.presentation_rows.proofs.RowTerms.{monomials-apart, coefficient-at, entry-row-of}
 
-module _ {q d : ℕ} {ds : List ℕ} {ms : List (List ℕ)} (one : 1 < suc q) (M : IsMonomials q ds d ms) {V : Type 0} (A : Algebra V)
-    (S : List Term → Type 0) (over : (f : List Term) → S f → IsOver q ds d f) (E : List (List ℕ)) (e : IsEchelon E)
+module _ {q d : ℕ} {ds : List ℕ} {ms : List (List ℕ)} (one : 1 < suc q)
+    (M : IsMonomials q ds d ms) {V : Type 0} (A : Algebra V)
+    (S : List Term → Type 0) (over : (f : List Term) → S f
+    → IsOver q ds d f) (E : List (List ℕ)) (e : IsEchelon E)
     (inside : (f : List Term) → S f → IsInSpan (suc q) E (entry (row_of q ms f)))
     (member : (i : ℕ) → i < length E → S (polynomial_of ms (row E i))) where
   pub pivot-of-leading : (k : ℕ) → k < length ms → IsLeading q A S (slice_index_or ms k []) → IsPivot E k
   pivot-of-leading k l h =
-      first_place_is_pivot (suc q) (length E) s.0 (λ i j. entry (row E i) j) (λ i. pivot (row E i)) (entry (row_of q ms h.member))
+      first_place_is_pivot (suc q) (length E) s.0 (λ i j. entry (row E i) j) (λ i. pivot (row E i))
+      (entry (row_of q ms h.member))
       (HasPivots-from_echelon e) (Combines-from_combination s.1) k
       (λ j b. congruent_trans (at j (omega arith)) (h.above (slice_index_or ms j []) (M.descending j k b l)))
       (λ z. not-zero (congruent_trans (congruent_sym (at k l)) z) h.here)
@@ -31,16 +34,20 @@ module _ {q d : ℕ} {ds : List ℕ} {ms : List (List ℕ)} (one : 1 < suc q) (M
       s : IsInSpan (suc q) E (entry (row_of q ms h.member))
       s = inside h.member h.is_member
 
-      at : (j : ℕ) → j < length ms → IsCongruent (suc q) (entry (row_of q ms h.member) j) (coefficient h.member (slice_index_or ms j []))
-      at j b = congruent_trans (congruent_eq (entry-row-of q ms h.member j b)) (congruent_mod (coefficient h.member (slice_index_or ms j [])))
+      at : (j : ℕ) → j < length ms → IsCongruent (suc q) (entry (row_of q ms h.member) j)
+          (coefficient h.member (slice_index_or ms j []))
+      at j b = congruent_trans (congruent_eq (entry-row-of q ms h.member j b))
+          (congruent_mod (coefficient h.member (slice_index_or ms j [])))
 
   pub leading-of-pivot : (k : ℕ) → k < length ms → IsPivot E k → IsLeading q A S (slice_index_or ms k [])
   leading-of-pivot k l (i, b, p) = leading-at q ds d ms M A S over k l record {
     member = polynomial_of ms (row E i);
     is_member = member i b;
-    here = λ z. absurd (let o : 1 % suc q ≡ 1 = mod-eq_of_lt one in let y : 1 % suc q ≡ 0 = ap (λ x. x % suc q) (sym here) ∙ z in omega
+    here = λ z. absurd (let o : 1 % suc q ≡ 1 = mod-eq_of_lt one in let y : 1 % suc q ≡ 0 = ap
+        (λ x. x % suc q) (sym here) ∙ z in omega
         (arith, o, y));
-    before = λ j c. congruent_eq (coefficient-at ms (row E i) (monomials-apart M) j (omega arith) ∙ before_pivot (row E i) j (omega (arith, p)));
+    before = λ j c. congruent_eq (coefficient-at ms (row E i) (monomials-apart M) j (omega arith)
+        ∙ before_pivot (row E i) j (omega (arith, p)));
   }
     where
       here : coefficient (polynomial_of ms (row E i)) (slice_index_or ms k []) ≡ 1

@@ -18,18 +18,21 @@ use Rattle.presentation_rows.specs.Factors.{IsLastFactor}
 use Rattle.presentation_rows.proofs.LastFactor.{value-by-factor, from-nil}
 
 -- generators of higher degree are no factors
-none-above : (n : ℕ) (es m : List ℕ) → Each (λ e. n < e) es → IsWithin es m → IsTrimmed m → degree es m ≤ n → m ≡ []
+none-above : (n : ℕ) (es m : List ℕ) → Each (λ e. n < e) es → IsWithin es m → IsTrimmed m → degree es m ≤ n
+    → m ≡ []
 none-above n es [] h w t l = refl
 none-above n [] (x ∷ m) h w t l = absurd w
 none-above n (e ∷ es) (zero ∷ m) h w t l = absurd (t.0 (none-above n es m h.1 w t.1 (omega (arith, l))) refl)
 none-above n (e ∷ es) (suc x ∷ m) h w t l = absurd (omega (arith, l, h.0))
 
-within-lower : (n : ℕ) (ds es m : List ℕ) → Each (λ e. n < e) es → IsWithin (ds ++ es) m → IsTrimmed m → degree (ds ++ es) m ≤ n → IsWithin ds m
+within-lower : (n : ℕ) (ds es m : List ℕ) → Each (λ e. n < e) es → IsWithin (ds ++ es) m → IsTrimmed m
+    → degree (ds ++ es) m ≤ n → IsWithin ds m
 within-lower n [] es m h w t l = rw (none-above n es m h w t l) tt
 within-lower n (d ∷ ds) es [] h w t l = tt
 within-lower n (d ∷ ds) es (x ∷ m) h w t l = within-lower n ds es m h w t.1 (omega (arith, l))
 
-monomial-lower : (q d : ℕ) (ds es m : List ℕ) → Each (λ e. d < e) es → IsMonomial q (ds ++ es) d m → IsMonomial q ds d m
+monomial-lower : (q d : ℕ) (ds es m : List ℕ) → Each (λ e. d < e) es → IsMonomial q (ds ++ es) d m
+    → IsMonomial q ds d m
 monomial-lower q d ds es m h k = record {
   within = w;
   trimmed = k.trimmed;
@@ -40,18 +43,22 @@ monomial-lower q d ds es m h k = record {
     w : IsWithin ds m
     w = within-lower d ds es m h k.within k.trimmed (omega (arith, k.degree_is))
 
-pub monomials-stay : (q d : ℕ) (ds es : List ℕ) (ms : List (List ℕ)) → Each (λ e. d < e) es → IsMonomials q ds d ms → IsMonomials q (ds ++ es) d ms
+pub monomials-stay : (q d : ℕ) (ds es : List ℕ) (ms : List (List ℕ)) → Each (λ e. d < e) es
+    → IsMonomials q ds d ms → IsMonomials q (ds ++ es) d ms
 monomials-stay q d ds es ms h M = record {
   each = λ i l. monomial-more q ds es d (slice_index_or ms i []) (M.each i l);
   all = λ m k. M.all m (monomial-lower q d ds es m h k);
   descending = M.descending;
 }
 
-pub values-stay : (q d : ℕ) (mul : ℕ → ℕ → Vector q → Vector q → Vector q) (gs new : List (Generator (Vector q))) (ms values : List (List ℕ))
-    → IsMonomials q (degrees gs) d ms → AreValues q (vectors q mul) gs ms values → AreValues q (vectors q mul) (gs ++ new) ms values
+pub values-stay : (q d : ℕ) (mul : ℕ → ℕ → Vector q → Vector q
+    → Vector q) (gs new : List (Generator (Vector q))) (ms values : List (List ℕ))
+    → IsMonomials q (degrees gs) d ms → AreValues q (vectors q mul) gs ms values
+    → AreValues q (vectors q mul) (gs ++ new) ms values
 values-stay q d mul gs new ms values M V = record {
   count = V.count;
-  each = λ i l. V.each i l ∙ sym (from-more (vectors q mul) 0 (unit q 0) gs new (slice_index_or ms i []) (M.each i l).within);
+  each = λ i l. V.each i l ∙ sym (from-more (vectors q mul) 0 (unit q 0) gs new (slice_index_or ms i [])
+      (M.each i l).within);
 }
 
 -- the monomial of the generator behind the others
@@ -73,7 +80,8 @@ exponent-other (suc i) (suc j) h = exponent-other i j (λ e. h (ap suc e))
 greater-than-last : (ds m : List ℕ) → IsWithin ds m → 0 < degree ds m → IsGreater m (power (length ds) 1)
 greater-than-last ds [] w l = absurd (omega (arith, l, degree-nil ds))
 greater-than-last [] (x ∷ m) w l = absurd w
-greater-than-last (d ∷ ds) (suc x ∷ m) w l = record { at = 0; more = omega arith; before = λ i b. absurd (omega (arith, b)) }
+greater-than-last (d ∷ ds) (suc x ∷ m) w l =
+    record { at = 0; more = omega arith; before = λ i b. absurd (omega (arith, b)) }
 greater-than-last (d ∷ ds) (zero ∷ m) w l = deeper (greater-than-last ds m w (omega (arith, l)))
   where
     deeper : IsGreater m (power (length ds) 1) → IsGreater (0 ∷ m) (0 ∷ power (length ds) 1)
@@ -86,7 +94,8 @@ greater-than-last (d ∷ ds) (zero ∷ m) w l = deeper (greater-than-last ds m w
 monomial-last : (q d : ℕ) (ds : List ℕ) → IsMonomial q (ds ++ d ∷ []) d (power (length ds) 1)
 monomial-last q d ds = rw (← single-is-power ds) (monomial-single q ds d)
 
-pub monomials-with-last : (q d : ℕ) (ds : List ℕ) (ms : List (List ℕ)) → 0 < d → Each (λ a. 0 < a) ds → IsMonomials q ds d ms
+pub monomials-with-last : (q d : ℕ) (ds : List ℕ) (ms : List (List ℕ)) → 0 < d → Each (λ a. 0 < a) ds
+    → IsMonomials q ds d ms
     → IsMonomials q (ds ++ d ∷ []) d (ms ++ power (length ds) 1 ∷ [])
 monomials-with-last q d ds ms p pos M = record {
   each = λ i l. each i l (cases_lt i (length ms));
@@ -106,26 +115,35 @@ monomials-with-last q d ds ms p pos M = record {
         (monomial-more q ds (d ∷ []) d (slice_index_or ms i []) (M.each i b))
     each i l (inr b) = rw (is-last i l b, last) (monomial-last q d ds)
 
-    all : (m : List ℕ) → IsMonomial q ds d m ⊎ ((d ≡ d) × (m ≡ single ds)) → (i : ℕ) × (i < length (ms ++ power (length ds) 1 ∷ []))
+    all : (m : List ℕ) → IsMonomial q ds d m ⊎ ((d ≡ d) × (m ≡ single ds)) → (i : ℕ)
+        × (i < length (ms ++ power (length ds) 1 ∷ []))
         × (slice_index_or (ms ++ power (length ds) 1 ∷ []) i [] ≡ m)
     all m (inl k) = let i = M.all m k in (
       i.0,
       (let e = length-append ms (power (length ds) 1 ∷ []) in omega (arith, i.1, e)),
       get_or_append_left ms (power (length ds) 1 ∷ []) [] i.0 i.1 ∙ i.2,
     )
-    all m (inr k) = (length ms, (let e = length-append ms (power (length ds) 1 ∷ []) in omega (arith, e)), last ∙ sym (k.1 ∙ single-is-power ds))
+    all m (inr k) = (
+      length ms,
+      (let e = length-append ms (power (length ds) 1 ∷ []) in omega (arith, e)),
+      last ∙ sym (k.1 ∙ single-is-power ds),
+    )
 
-    descending : (i j : ℕ) → i < j → j < length (ms ++ power (length ds) 1 ∷ []) → (j < length ms) ⊎ (length ms ≤ j)
-        → IsGreater (slice_index_or (ms ++ power (length ds) 1 ∷ []) i []) (slice_index_or (ms ++ power (length ds) 1 ∷ []) j [])
+    descending : (i j : ℕ) → i < j → j < length (ms ++ power (length ds) 1 ∷ []) → (j < length ms)
+        ⊎ (length ms ≤ j)
+        → IsGreater (slice_index_or (ms ++ power (length ds) 1 ∷ []) i [])
+        (slice_index_or (ms ++ power (length ds) 1 ∷ []) j [])
     descending i j b l (inl c) = rw (
       get_or_append_left ms (power (length ds) 1 ∷ []) [] i (omega (arith, b, c)),
       get_or_append_left ms (power (length ds) 1 ∷ []) [] j c,
     ) (M.descending i j b c)
     descending i j b l (inr c) = let e = is-last j l c in let f : i < length ms = omega (arith, e, b) in
         rw (e, last, get_or_append_left ms (power (length ds) 1 ∷ []) [] i f)
-        (greater-than-last ds (slice_index_or ms i []) (M.each i f).within (let z = (M.each i f).degree_is in omega (arith, z, p)))
+        (greater-than-last ds (slice_index_or ms i []) (M.each i f).within
+        (let z = (M.each i f).degree_is in omega (arith, z, p)))
 
-place-of-last : {V : Type 0} (gs : List (Generator V)) (g : Generator V) → slice_index_or (gs ++ g ∷ []) (length (degrees gs)) g ≡ g
+place-of-last : {V : Type 0} (gs : List (Generator V)) (g : Generator V)
+    → slice_index_or (gs ++ g ∷ []) (length (degrees gs)) g ≡ g
 place-of-last [] g = refl
 place-of-last (h ∷ gs) g = place-of-last gs g
 
@@ -136,10 +154,14 @@ last-factor i = record {
   after = λ j l. (exponent-other i j (λ e. absurd (omega (arith, l, e))), refl);
 }
 
-module _ (q : ℕ) (mul : ℕ → ℕ → Vector q → Vector q → Vector q) (gs : List (Generator (Vector q))) (g : Generator (Vector q)) where
-  value-of-last : mul 0 g.degree (unit q 0) g.class ≡ g.class → evaluate (vectors q mul) (gs ++ g ∷ []) (power (length (degrees gs)) 1) ≡ g.class
-  value-of-last h = r.3 ∙ ap (λ e. mul e g.degree (evaluate (vectors q mul) (gs ++ g ∷ []) []) g.class) (omega (arith, r.1))
-      ∙ ap (λ (v : Vector q). mul 0 g.degree v g.class) (from-nil (vectors q mul) 0 (unit q 0) (gs ++ g ∷ [])) ∙ h
+module _ (q : ℕ) (mul : ℕ → ℕ → Vector q → Vector q
+    → Vector q) (gs : List (Generator (Vector q))) (g : Generator (Vector q)) where
+  value-of-last : mul 0 g.degree (unit q 0) g.class ≡ g.class
+      → evaluate (vectors q mul) (gs ++ g ∷ []) (power (length (degrees gs)) 1) ≡ g.class
+  value-of-last h = r.3 ∙ ap (λ e. mul e g.degree (evaluate (vectors q mul) (gs ++ g ∷ []) []) g.class)
+      (omega (arith, r.1))
+      ∙ ap (λ (v : Vector q). mul 0 g.degree v g.class) (from-nil (vectors q mul) 0 (unit q 0) (gs ++ g ∷ []))
+      ∙ h
     where
       M : IsMonomial q (degrees (gs ++ g ∷ [])) g.degree (power (length (degrees gs)) 1)
       M = rw (degrees-append gs (g ∷ [])) (monomial-last q g.degree (degrees gs))
@@ -147,14 +169,18 @@ module _ (q : ℕ) (mul : ℕ → ℕ → Vector q → Vector q → Vector q) (g
       r : (e : ℕ) × (e + g.degree ≡ g.degree) × IsMonomial q (degrees (gs ++ g ∷ [])) e []
           × (evaluate (vectors q mul) (gs ++ g ∷ []) (power (length (degrees gs)) 1)
           ≡ mul e g.degree (evaluate (vectors q mul) (gs ++ g ∷ []) []) g.class)
-      r = value-by-factor q g.degree (length (degrees gs)) (vectors q mul) (gs ++ g ∷ []) g (power (length (degrees gs)) 1) [] M tt
+      r = value-by-factor q g.degree (length (degrees gs)) (vectors q mul) (gs ++ g ∷ []) g
+          (power (length (degrees gs)) 1) [] M tt
           (last-factor (length (degrees gs))) (place-of-last gs g)
 
-  pub values-with-last : (ms values : List (List ℕ)) (w : List ℕ) → IsMonomials q (degrees gs) g.degree ms → AreValues q (vectors q mul) gs ms values
+  pub values-with-last : (ms values : List (List ℕ)) (w : List ℕ) → IsMonomials q (degrees gs) g.degree ms
+      → AreValues q (vectors q mul) gs ms values
       → vector q w ≡ g.class → mul 0 g.degree (unit q 0) g.class ≡ g.class
-      → AreValues q (vectors q mul) (gs ++ g ∷ []) (ms ++ power (length (degrees gs)) 1 ∷ []) (values ++ w ∷ [])
+      → AreValues q (vectors q mul) (gs ++ g ∷ []) (ms ++ power (length (degrees gs)) 1 ∷ [])
+      (values ++ w ∷ [])
   values-with-last ms values w M V e h = record {
-    count = length-append values (w ∷ []) ∙ ap (λ n. n + 1) V.count ∙ sym (length-append ms (power (length (degrees gs)) 1 ∷ []));
+    count = length-append values (w ∷ []) ∙ ap (λ n. n + 1) V.count
+        ∙ sym (length-append ms (power (length (degrees gs)) 1 ∷ []));
     each = λ i l. go i l (cases_lt i (length ms));
   }
     where
@@ -162,8 +188,14 @@ module _ (q : ℕ) (mul : ℕ → ℕ → Vector q → Vector q → Vector q) (g
       last = power (length (degrees gs)) 1
 
       go : (i : ℕ) → i < length (ms ++ last ∷ []) → (i < length ms) ⊎ (length ms ≤ i)
-          → vector q (row (values ++ w ∷ []) i) ≡ evaluate (vectors q mul) (gs ++ g ∷ []) (slice_index_or (ms ++ last ∷ []) i [])
-      go i l (inl b) = rw (row_before_push values w i (omega (arith, b, V.count)), get_or_append_left ms (last ∷ []) [] i b)
+          → vector q (row (values ++ w ∷ []) i) ≡ evaluate (vectors q mul) (gs ++ g ∷ [])
+          (slice_index_or (ms ++ last ∷ []) i [])
+      go i l (inl b) = rw (
+        row_before_push values w i (omega (arith, b, V.count)),
+        get_or_append_left ms (last ∷ []) [] i b,
+      )
           ((values-stay q g.degree mul gs (g ∷ []) ms values M V).each i b)
-      go i l (inr b) = let f : i ≡ length ms = (let z = length-append ms (last ∷ []) in omega (arith, l, b, z)) in
-          rw (f, get_or_push ms last [] (length ms) refl, ← V.count, row_push values w) (e ∙ sym (value-of-last h))
+      go i l (inr b) = let f : i ≡ length ms =
+          (let z = length-append ms (last ∷ []) in omega (arith, l, b, z)) in
+          rw (f, get_or_push ms last [] (length ms) refl, ← V.count, row_push values w) (e
+          ∙ sym (value-of-last h))

@@ -20,10 +20,13 @@ use Rattle.presentation_rows.proofs.KernelLeads.{row-relation, relation-pivots, 
 use Rattle.linear_algebra.proofs.PivotTests.{pivot-if-found}
 use Rattle.presentation_rows.proofs.PivotTests.{none-if-not-found}
 
-module _ (q d : ℕ) (mul : ℕ → ℕ → Vector q → Vector q → Vector q) (gs : List (Generator (Vector q))) (rs : List Polynomial)
+module _ (q d : ℕ) (mul : ℕ → ℕ → Vector q → Vector q
+    → Vector q) (gs : List (Generator (Vector q))) (rs : List Polynomial)
     (ms values kernel multiples : List (List ℕ))
-    (one : 1 < suc q) (M : IsMonomials q (degrees gs) d ms) (V : AreValues q (vectors q mul) gs ms values) (K : IsKernelOf (suc q) values kernel)
-    (consequences : (k : ℕ) → k < length ms → IsLeading q (vectors q mul) (IsConsequence q (vectors q mul) gs rs d)
+    (one : 1 < suc q) (M : IsMonomials q (degrees gs) d ms) (V : AreValues q (vectors q mul) gs ms values)
+    (K : IsKernelOf (suc q) values kernel)
+    (consequences : (k : ℕ) → k < length ms
+    → IsLeading q (vectors q mul) (IsConsequence q (vectors q mul) gs rs d)
     (slice_index_or ms k []) ↔ IsPivot multiples k) where
   kernel-row : (i : ℕ) → i < length kernel → IsRow (suc q) (length ms) (row kernel i)
   kernel-row i l = rw (← V.count) (K.matrix i l)
@@ -39,17 +42,25 @@ module _ (q d : ℕ) (mul : ℕ → ℕ → Vector q → Vector q → Vector q) 
     degree_is = refl;
     polynomial = polynomial-of-row M (row kernel i) (kernel-row i l);
     vanishes = (row-relation q d mul gs ms values kernel one M V K i l).vanishes;
-    one = coefficient-at ms (row kernel i) (monomials-apart M) (pivot (row kernel i)) (pivot-inside i l) ∙ K.echelon.monic i l;
-    others = λ n ne. go n ne (occurs q (degrees gs) d (polynomial_of ms (row kernel i)) (over-row M (row kernel i)) n);
+    one = coefficient-at ms (row kernel i) (monomials-apart M) (pivot (row kernel i)) (pivot-inside i l)
+        ∙ K.echelon.monic i l;
+    others = λ n ne. go n ne (occurs q (degrees gs) d (polynomial_of ms (row kernel i))
+        (over-row M (row kernel i)) n);
   }
     where
-      at : (k : ℕ) → k < length ms → k ≢ pivot (row kernel i) → (is_pivot kernel k ≡ true) ⊎ (is_pivot kernel k ≡ false)
+      at : (k : ℕ) → k < length ms → k ≢ pivot (row kernel i) → (is_pivot kernel k ≡ true)
+          ⊎ (is_pivot kernel k ≡ false)
           → (IsCongruent (suc q) (coefficient (polynomial_of ms (row kernel i)) (slice_index_or ms k [])) 0)
-          ⊎ (IsMonomial q (degrees gs) d (slice_index_or ms k []) × IsStandard q (vectors q mul) gs d (slice_index_or ms k []))
+          ⊎ (IsMonomial q (degrees gs) d (slice_index_or ms k [])
+          × IsStandard q (vectors q mul) gs d (slice_index_or ms k []))
       at k b ne (inl t) = let p = pivot-if-found kernel k t in
-          inl (congruent_eq (coefficient-at ms (row kernel i) (monomials-apart M) k b ∙ ap (entry (row kernel i)) (sym p.2)
+          inl (congruent_eq (coefficient-at ms (row kernel i) (monomials-apart M) k b
+          ∙ ap (entry (row kernel i)) (sym p.2)
           ∙ K.echelon.cleared p.0 i p.1 l (λ e. ne (sym p.2 ∙ ap (λ j. pivot (row kernel j)) e))))
-      at k b ne (inr f) = inr (M.each k b, (standard-pivots q d mul gs ms values kernel one M V K k b).1 (none-if-not-found kernel k f))
+      at k b ne (inr f) = inr (
+        M.each k b,
+        (standard-pivots q d mul gs ms values kernel one M V K k b).1 (none-if-not-found kernel k f),
+      )
 
       go : (n : List ℕ) → n ≢ slice_index_or ms (pivot (row kernel i)) [] → IsMonomial q (degrees gs) d n
           ⊎ (coefficient (polynomial_of ms (row kernel i)) n ≡ 0)
@@ -57,9 +68,11 @@ module _ (q d : ℕ) (mul : ℕ → ℕ → Vector q → Vector q → Vector q) 
           ⊎ (IsMonomial q (degrees gs) d n × IsStandard q (vectors q mul) gs d n)
       go n ne (inr z) = inl (congruent_eq z)
       go n ne (inl m) = let k = M.all n m in rw (← k.2)
-          (at k.0 k.1 (λ e. ne (sym k.2 ∙ ap (λ j. slice_index_or ms j []) e)) (cases_Bool (is_pivot kernel k.0)))
+          (at k.0 k.1 (λ e. ne (sym k.2 ∙ ap (λ j. slice_index_or ms j []) e))
+          (cases_Bool (is_pivot kernel k.0)))
 
-  -- the monomials from place k on, and the rows of the kernel from row i on: those whose pivot is not before k
+  -- the monomials from place k on, and the rows of the kernel from row i on: those whose pivot is not before
+  -- k
   record IsSplit (rest rows : List (List ℕ)) (k i : ℕ) : Type 0 where
     places : k + length rest ≡ length ms
     monomial : (j : ℕ) → j < length rest → slice_index_or rest j [] ≡ slice_index_or ms (k + j) []
@@ -68,37 +81,46 @@ module _ (q d : ℕ) (mul : ℕ → ℕ → Vector q → Vector q → Vector q) 
     before : (j : ℕ) → j < i → pivot (row kernel j) < k
     here : 0 < length rows → k ≤ pivot (row rows 0)
 
-  skip : {m : List ℕ} {rest rows : List (List ℕ)} {k i : ℕ} → IsSplit (m ∷ rest) rows k i → (0 < length rows → k < pivot (row rows 0))
+  skip : {m : List ℕ} {rest rows : List (List ℕ)} {k i : ℕ} → IsSplit (m ∷ rest) rows k i
+      → (0 < length rows → k < pivot (row rows 0))
       → IsSplit rest rows (suc k) i
   skip {k = k} s h = record {
     places = omega (arith, s.places);
-    monomial = λ j l. s.monomial (suc j) (omega (arith, l)) ∙ ap (λ x. slice_index_or ms x []) (let e : k + suc j ≡ suc k + j = omega arith in e);
+    monomial = λ j l. s.monomial (suc j) (omega (arith, l))
+        ∙ ap (λ x. slice_index_or ms x []) (let e : k + suc j ≡ suc k + j = omega arith in e);
     count = s.count;
     each = s.each;
     before = λ j l. omega (arith, s.before j l);
     here = h;
   }
 
-  step : {m u : List ℕ} {rest rows : List (List ℕ)} {k i : ℕ} → IsSplit (m ∷ rest) (u ∷ rows) k i → pivot u ≡ k → IsSplit rest rows (suc k) (suc i)
+  step : {m u : List ℕ} {rest rows : List (List ℕ)} {k i : ℕ} → IsSplit (m ∷ rest) (u ∷ rows) k i
+      → pivot u ≡ k → IsSplit rest rows (suc k) (suc i)
   step {u = u} {rows = rows} {k = k} {i = i} s p = record {
     places = omega (arith, s.places);
-    monomial = λ j l. s.monomial (suc j) (omega (arith, l)) ∙ ap (λ x. slice_index_or ms x []) (let e : k + suc j ≡ suc k + j = omega arith in e);
+    monomial = λ j l. s.monomial (suc j) (omega (arith, l))
+        ∙ ap (λ x. slice_index_or ms x []) (let e : k + suc j ≡ suc k + j = omega arith in e);
     count = omega (arith, s.count);
-    each = λ j l. s.each (suc j) (omega (arith, l)) ∙ ap (row kernel) (let e : i + suc j ≡ suc i + j = omega arith in e);
+    each = λ j l. s.each (suc j) (omega (arith, l))
+        ∙ ap (row kernel) (let e : i + suc j ≡ suc i + j = omega arith in e);
     before = λ j l. go j l (cases_lt j i);
-    here = λ l. let a : pivot (row kernel i) < pivot (row kernel (suc i)) = K.echelon.ascending i (suc i) (omega arith) (omega (arith, s.count, l)) in
-        let b : row rows 0 ≡ row kernel (suc i) = s.each 1 (omega (arith, l)) ∙ ap (row kernel) (let e : i + 1 ≡ suc i = omega arith in e) in
+    here = λ l. let a : pivot (row kernel i) < pivot (row kernel (suc i)) =
+        K.echelon.ascending i (suc i) (omega arith) (omega (arith, s.count, l)) in
+        let b : row rows 0 ≡ row kernel (suc i) = s.each 1 (omega (arith, l))
+        ∙ ap (row kernel) (let e : i + 1 ≡ suc i = omega arith in e) in
         rw b (omega (arith, a, own));
   }
     where
       own : pivot (row kernel i) ≡ k
-      own = ap pivot (sym (let e : u ≡ row kernel i = s.each 0 (omega arith) ∙ ap (row kernel) (let z : i + 0 ≡ i = omega arith in z) in e)) ∙ p
+      own = ap pivot (sym (let e : u ≡ row kernel i = s.each 0 (omega arith)
+          ∙ ap (row kernel) (let z : i + 0 ≡ i = omega arith in z) in e)) ∙ p
 
       go : (j : ℕ) → j < suc i → (j < i) ⊎ (i ≤ j) → pivot (row kernel j) < suc k
       go j l (inl b) = omega (arith, s.before j b)
       go j l (inr b) = let e : j ≡ i = omega arith in rw e (omega (arith, own))
 
-  no-pivot : {rest rows : List (List ℕ)} {k i : ℕ} → IsSplit rest rows k i → (0 < length rows → k < pivot (row rows 0)) → IsPivot kernel k → ⊥
+  no-pivot : {rest rows : List (List ℕ)} {k i : ℕ} → IsSplit rest rows k i
+      → (0 < length rows → k < pivot (row rows 0)) → IsPivot kernel k → ⊥
   no-pivot {rows = rows} {k = k} {i = i} s h p = go (cases_lt p.0 i)
     where
       go : (p.0 < i) ⊎ (i ≤ p.0) → ⊥
@@ -106,7 +128,8 @@ module _ (q d : ℕ) (mul : ℕ → ℕ → Vector q → Vector q → Vector q) 
       go (inr l) = absurd (after (cases_lt i p.0))
         where
           first : row rows 0 ≡ row kernel i
-          first = s.each 0 (omega (arith, s.count, p.1, l)) ∙ ap (row kernel) (let z : i + 0 ≡ i = omega arith in z)
+          first = s.each 0 (omega (arith, s.count, p.1, l))
+              ∙ ap (row kernel) (let z : i + 0 ≡ i = omega arith in z)
 
           above : k < pivot (row kernel i)
           above = let a = h (omega (arith, s.count, p.1, l)) in rw (← first) a
@@ -114,26 +137,33 @@ module _ (q d : ℕ) (mul : ℕ → ℕ → Vector q → Vector q → Vector q) 
           after : (i < p.0) ⊎ (p.0 ≤ i) → ⊥
           after (inl b) = absurd (omega (arith, K.echelon.ascending i p.0 b p.1, above, p.2))
           after (inr b) = let e : p.0 ≡ i = omega arith in absurd
-              (let z : pivot (row kernel i) ≡ k = ap (λ j. pivot (row kernel j)) (sym e) ∙ p.2 in omega (arith, z, above))
+              (let z : pivot (row kernel i) ≡ k = ap (λ j. pivot (row kernel j)) (sym e)
+              ∙ p.2 in omega (arith, z, above))
 
   From : List (List ℕ) → List (List ℕ) → Type 0
-  From rest rows = (k i : ℕ) → IsSplit rest rows k i → IsRelationsFrom q (vectors q mul) gs rs d rest (new_relations d ms multiples rows)
+  From rest rows = (k i : ℕ) → IsSplit rest rows k i
+      → IsRelationsFrom q (vectors q mul) gs rs d rest (new_relations d ms multiples rows)
 
   from-split : (rest rows : List (List ℕ)) (k i : ℕ) → IsSplit rest rows k i
       → IsRelationsFrom q (vectors q mul) gs rs d rest (new_relations d ms multiples rows)
   from-split [] [] k i s = refl
   from-split [] (u ∷ rows) k i s = absurd (let b : i < length kernel = omega (arith, s.count) in
-      let e : u ≡ row kernel i = s.each 0 (omega arith) ∙ ap (row kernel) (let z : i + 0 ≡ i = omega arith in z) in
-      let h : k ≤ pivot (row kernel i) = (rw e at (s.here (omega arith))) in omega (arith, h, pivot-inside i b, s.places))
+      let e : u ≡ row kernel i = s.each 0 (omega arith)
+      ∙ ap (row kernel) (let z : i + 0 ≡ i = omega arith in z) in
+      let h : k ≤ pivot (row kernel i) = (rw e at (s.here (omega arith))) in
+      omega (arith, h, pivot-inside i b, s.places))
   from-split (m ∷ rest) [] k i s =
       inl (standard, from-split rest [] (suc k) i (skip s (λ l. absurd (omega (arith, l)))))
     where
       standard : IsStandard q (vectors q mul) gs d m
       standard = let b : k < length ms = omega (arith, s.places) in
-          let e : m ≡ slice_index_or ms k [] = s.monomial 0 (omega arith) ∙ ap (λ x. slice_index_or ms x []) (let z : k + 0 ≡ k = omega arith in z) in
-          rw e ((standard-pivots q d mul gs ms values kernel one M V K k b).1 (no-pivot s (λ l. absurd (omega (arith, l)))))
+          let e : m ≡ slice_index_or ms k [] = s.monomial 0 (omega arith)
+          ∙ ap (λ x. slice_index_or ms x []) (let z : k + 0 ≡ k = omega arith in z) in
+          rw e ((standard-pivots q d mul gs ms values kernel one M V K k b).1
+          (no-pivot s (λ l. absurd (omega (arith, l)))))
   from-split (m ∷ rest) (u ∷ rows) k i s =
-      go (cases_order k (pivot u)) (λ x. from-split rest (u ∷ rows) (suc k) i x) (λ x. from-split rest rows (suc k) (suc i) x)
+      go (cases_order k (pivot u)) (λ x. from-split rest (u ∷ rows) (suc k) i x)
+      (λ x. from-split rest rows (suc k) (suc i) x)
     where
       b : k < length ms
       b = omega (arith, s.places)
@@ -150,10 +180,12 @@ module _ (q d : ℕ) (mul : ℕ → ℕ → Vector q → Vector q → Vector q) 
       Goal : List Polynomial → Type 0
       Goal new = IsRelationsFrom q (vectors q mul) gs rs d rest new
 
-      at-pivot : pivot u ≡ k → Goal (new_relations d ms multiples rows) → (is_pivot multiples (pivot u) ≡ true)
+      at-pivot : pivot u ≡ k → Goal (new_relations d ms multiples rows)
+          → (is_pivot multiples (pivot u) ≡ true)
           ⊎ (is_pivot multiples (pivot u) ≡ false)
           → IsRelationsFrom q (vectors q mul) gs rs d (m ∷ rest) (new_relations d ms multiples (u ∷ rows))
-      at-pivot p r (inl t) = rw t (inr (inl (rw e ((consequences k b).1 (rw p at (pivot-if-found multiples (pivot u) t))), r)))
+      at-pivot p r (inl t) = rw t (inr (inl
+          (rw e ((consequences k b).1 (rw p at (pivot-if-found multiples (pivot u) t))), r)))
       at-pivot p r (inr t) = rw t (inr (inr (
         record { degree = d; terms = polynomial_of ms u },
         new_relations d ms multiples rows,
@@ -164,7 +196,8 @@ module _ (q d : ℕ) (mul : ℕ → ℕ → Vector q → Vector q → Vector q) 
         r,
       )))
 
-      go : (k ≡ pivot u) ⊎ ((k < pivot u) ⊎ (pivot u < k)) → (IsSplit rest (u ∷ rows) (suc k) i → Goal (new_relations d ms multiples (u ∷ rows)))
+      go : (k ≡ pivot u) ⊎ ((k < pivot u) ⊎ (pivot u < k))
+          → (IsSplit rest (u ∷ rows) (suc k) i → Goal (new_relations d ms multiples (u ∷ rows)))
           → (IsSplit rest rows (suc k) (suc i) → Goal (new_relations d ms multiples rows))
           → IsRelationsFrom q (vectors q mul) gs rs d (m ∷ rest) (new_relations d ms multiples (u ∷ rows))
       go (inl p) more r = at-pivot (sym p) (r (step s (sym p))) (cases_Bool (is_pivot multiples (pivot u)))

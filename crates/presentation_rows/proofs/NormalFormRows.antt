@@ -21,7 +21,8 @@ use Rattle.presentation_rows.proofs.RowTerms.{each-term, polynomial-of-row}
 use Rattle.presentation_rows.proofs.RowValues.{value-of-combination}
 use Rattle.presentation_rows.proofs.KernelLeads.{standard-pivots}
 
-module _ (q d : ℕ) (mul : ℕ → ℕ → Vector q → Vector q → Vector q) (gs : List (Generator (Vector q))) (ms values kernel : List (List ℕ))
+module _ (q d : ℕ) (mul : ℕ → ℕ → Vector q → Vector q
+    → Vector q) (gs : List (Generator (Vector q))) (ms values kernel : List (List ℕ))
     (one : 1 < suc q) (M : IsMonomials q (degrees gs) d ms) (V : AreValues q (vectors q mul) gs ms values)
     (K : IsKernelOf (suc q) values kernel) where
   pub normal-form-of : (w u : List ℕ) → IsPreimage (suc q) values kernel w u
@@ -34,39 +35,49 @@ module _ (q d : ℕ) (mul : ℕ → ℕ → Vector q → Vector q → Vector q) 
   }
     where
       none : (k c : ℕ) → entry u k ≡ suc c → IsPivot kernel k → ⊥
-      none k c e p = absurd (let z : entry u k ≡ 0 = ap (entry u) (sym p.2) ∙ P.zero_at_pivots p.0 p.1 in omega (arith, z, e))
+      none k c e p = absurd (let z : entry u k ≡ 0 = ap (entry u) (sym p.2)
+          ∙ P.zero_at_pivots p.0 p.1 in omega (arith, z, e))
 
-module _ {p n : ℕ} {values kernel basis us : List (List ℕ)} (one : 1 < p) (U : AreUnitRows n basis) (P : ArePreimages p values kernel basis us)
+module _ {p n : ℕ} {values kernel basis us : List (List ℕ)} (one : 1 < p) (U : AreUnitRows n basis)
+    (P : ArePreimages p values kernel basis us)
     (K : IsKernelOf p values kernel) where
   -- the combination of the unit rows with the entries of a row is that row
-  units-combine : (w : List ℕ) → IsRow p n w → (j : ℕ) → IsCongruent p (sum_below n (λ i. entry w i * entry (row basis i) j)) (entry w j)
+  units-combine : (w : List ℕ) → IsRow p n w → (j : ℕ)
+      → IsCongruent p (sum_below n (λ i. entry w i * entry (row basis i) j)) (entry w j)
   units-combine w r j = go (cases_lt j n)
     where
       zero-at : (i : ℕ) → i < n → (j ≡ i → ⊥) → IsCongruent p (entry w i * entry (row basis i) j) 0
       zero-at i l ne = congruent_eq (rw (U.each i l, entry_unit_other n i j ne) (omega arith))
 
-      go : (j < n) ⊎ (n ≤ j) → IsCongruent p (sum_below n (λ i. entry w i * entry (row basis i) j)) (entry w j)
-      go (inl l) = congruent_trans (sum_below-one p n j (λ i. entry w i * entry (row basis i) j) l (λ i b ne. zero-at i b (λ e. ne (sym e))))
+      go : (j < n) ⊎ (n ≤ j) → IsCongruent p (sum_below n (λ i. entry w i * entry (row basis i) j))
+          (entry w j)
+      go (inl l) = congruent_trans (sum_below-one p n j (λ i. entry w i * entry (row basis i) j) l
+          (λ i b ne. zero-at i b (λ e. ne (sym e))))
           (congruent_eq (rw (U.each j l, entry_unit_same n j l) (omega arith)))
       go (inr l) = congruent_trans (sum_below-vanishes p n (λ i. entry w i * entry (row basis i) j)
           (λ i b. zero-at i b (λ e. absurd (omega (arith, e)))))
           (congruent_eq (sym (get_or_past w j 0 (omega (arith, r.length_is)))))
 
-  pub preimage-of-combination : (w u : List ℕ) → IsRow p n w → IsRow p (length values) u → IsCombination p (entry w) us (entry u)
+  pub preimage-of-combination : (w u : List ℕ) → IsRow p n w → IsRow p (length values) u
+      → IsCombination p (entry w) us (entry u)
       → IsPreimage p values kernel w u
   preimage-of-combination w u r s h = record {
     is_row = s;
     maps = record {
       each = λ j.
-          congruent_trans (same_coefficients values (entry u) (combination (entry w) us) (λ t b. congruent_sym (h.each t)) j)
-          (congruent_trans ((combine_combinations p (length us) (length values) (entry w) (λ i k. entry (row us i) k)
+          congruent_trans (same_coefficients values (entry u) (combination (entry w) us)
+          (λ t b. congruent_sym (h.each t)) j)
+          (congruent_trans ((combine_combinations p (length us) (length values) (entry w)
+          (λ i k. entry (row us i) k)
           (λ k j. entry (row values k) j) (λ i j. entry (row basis i) j)
           (λ i l. record { each = (P.each i (omega (arith, P.count, l))).maps.each })).each j)
-          (congruent_trans (congruent_eq (ap (λ m. sum_below m (λ i. entry w i * entry (row basis i) j)) (P.count ∙ U.count)))
+          (congruent_trans (congruent_eq
+          (ap (λ m. sum_below m (λ i. entry w i * entry (row basis i) j)) (P.count ∙ U.count)))
           (units-combine w r j)));
     };
     zero_at_pivots = λ i l. same_below (congruent_trans (congruent_sym (h.each (pivot (row kernel i))))
         (sum_below-vanishes p (length us) (λ k. entry w k * entry (row us k) (pivot (row kernel i)))
         (λ k b. congruent_eq (rw ((P.each k (omega (arith, P.count, b))).zero_at_pivots i l) (omega arith)))))
-        (s.below (pivot (row kernel i)) (omega (arith, K.echelon.not_zero i l, (K.matrix i l).length_is))) (omega arith);
+        (s.below (pivot (row kernel i)) (omega (arith, K.echelon.not_zero i l, (K.matrix i l).length_is)))
+        (omega arith);
   }

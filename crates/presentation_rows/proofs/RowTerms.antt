@@ -25,20 +25,27 @@ monomials-apart {ms = ms} M j k b l e = greater-self (slice_index_or ms k []) (r
 
 -- what holds of the terms of the places that are not 0
 pub each-term : (P : Term → Type 0) (ms : List (List ℕ)) (u : List ℕ)
-    → ((k c : ℕ) → k < length ms → entry u k ≡ suc c → P (record { scalar = suc c; monomial = slice_index_or ms k [] })) → Each P (polynomial_of ms u)
+    → ((k c : ℕ) → k < length ms → entry u k ≡ suc c
+    → P (record { scalar = suc c; monomial = slice_index_or ms k [] })) → Each P (polynomial_of ms u)
 each-term P [] u h = tt
 each-term P (m ∷ ms) [] h = tt
 each-term P (m ∷ ms) (zero ∷ u) h = each-term P ms u (λ k c l e. h (suc k) c (omega arith) e)
-each-term P (m ∷ ms) (suc c ∷ u) h = (h 0 c (omega arith) refl, each-term P ms u (λ k c l e. h (suc k) c (omega arith) e))
+each-term P (m ∷ ms) (suc c ∷ u) h = (
+  h 0 c (omega arith) refl,
+  each-term P ms u (λ k c l e. h (suc k) c (omega arith) e),
+)
 
-coefficient-absent : (ms : List (List ℕ)) (u : List ℕ) (m : List ℕ) → ((k : ℕ) → k < length ms → slice_index_or ms k [] ≢ m)
+coefficient-absent : (ms : List (List ℕ)) (u : List ℕ) (m : List ℕ)
+    → ((k : ℕ) → k < length ms → slice_index_or ms k [] ≢ m)
     → coefficient (polynomial_of ms u) m ≡ 0
 coefficient-absent [] u m h = refl
 coefficient-absent (n ∷ ms) [] m h = refl
 coefficient-absent (n ∷ ms) (zero ∷ u) m h = coefficient-absent ms u m (λ k l. h (suc k) (omega arith))
-coefficient-absent (n ∷ ms) (suc c ∷ u) m h = go (cases-same n m) (coefficient-absent ms u m (λ k l. h (suc k) (omega arith)))
+coefficient-absent (n ∷ ms) (suc c ∷ u) m h =
+    go (cases-same n m) (coefficient-absent ms u m (λ k l. h (suc k) (omega arith)))
   where
-    go : ((same n m ≡ true) × (n ≡ m)) ⊎ ((same n m ≡ false) × (n ≢ m)) → coefficient (polynomial_of ms u) m ≡ 0
+    go : ((same n m ≡ true) × (n ≡ m)) ⊎ ((same n m ≡ false) × (n ≢ m))
+        → coefficient (polynomial_of ms u) m ≡ 0
         → cond (same n m) (suc c) 0 + coefficient (polynomial_of ms u) m ≡ 0
     go (inl e) z = absurd (h 0 (omega arith) e.1)
     go (inr e) z = rw e.0 (omega (arith, z))
@@ -47,17 +54,25 @@ pub coefficient-at : (ms : List (List ℕ)) (u : List ℕ) → AreApart ms → (
     → coefficient (polynomial_of ms u) (slice_index_or ms k []) ≡ entry u k
 coefficient-at [] u a k l = absurd (omega arith)
 coefficient-at (n ∷ ms) [] a k l = refl
-coefficient-at (n ∷ ms) (zero ∷ u) a zero l = coefficient-absent ms u n (λ k b e. a 0 (suc k) (omega arith) (omega arith) (sym e))
-coefficient-at (n ∷ ms) (zero ∷ u) a (suc k) l = coefficient-at ms u (λ i j b c. a (suc i) (suc j) (omega arith) (omega arith)) k (omega arith)
+coefficient-at (n ∷ ms) (zero ∷ u) a zero l =
+    coefficient-absent ms u n (λ k b e. a 0 (suc k) (omega arith) (omega arith) (sym e))
+coefficient-at (n ∷ ms) (zero ∷ u) a (suc k) l =
+    coefficient-at ms u (λ i j b c. a (suc i) (suc j) (omega arith) (omega arith)) k (omega arith)
 coefficient-at (n ∷ ms) (suc c ∷ u) a zero l =
-    rw (same-self n) (omega (arith, coefficient-absent ms u n (λ k b e. a 0 (suc k) (omega arith) (omega arith) (sym e))))
+    rw (same-self n) (omega (
+      arith,
+      coefficient-absent ms u n
+          (λ k b e. a 0 (suc k) (omega arith) (omega arith) (sym e)),
+    ))
 coefficient-at (n ∷ ms) (suc c ∷ u) a (suc k) l =
-    go (cases-same n (slice_index_or ms k [])) (coefficient-at ms u (λ i j b c. a (suc i) (suc j) (omega arith) (omega arith)) k (omega arith))
+    go (cases-same n (slice_index_or ms k []))
+    (coefficient-at ms u (λ i j b c. a (suc i) (suc j) (omega arith) (omega arith)) k (omega arith))
   where
     go : ((same n (slice_index_or ms k []) ≡ true) × (n ≡ slice_index_or ms k []))
         ⊎ ((same n (slice_index_or ms k []) ≡ false) × (n ≢ slice_index_or ms k []))
         → coefficient (polynomial_of ms u) (slice_index_or ms k []) ≡ entry u k
-        → cond (same n (slice_index_or ms k [])) (suc c) 0 + coefficient (polynomial_of ms u) (slice_index_or ms k []) ≡ entry u k
+        → cond (same n (slice_index_or ms k [])) (suc c) 0 + coefficient (polynomial_of ms u)
+        (slice_index_or ms k []) ≡ entry u k
     go (inl e) ih = absurd (a 0 (suc k) (omega arith) l e.1)
     go (inr e) ih = rw e.0 (omega (arith, ih))
 
@@ -67,18 +82,22 @@ descending-terms : (ms : List (List ℕ)) (u : List ℕ)
     → AllPairs (λ (s t : Term). IsGreater s.monomial t.monomial) (polynomial_of ms u)
 descending-terms [] u h = λ i j d b l. absurd (omega (arith, l))
 descending-terms (m ∷ ms) [] h = λ i j d b l. absurd (omega (arith, l))
-descending-terms (m ∷ ms) (zero ∷ u) h = descending-terms ms u (λ i j b l. h (suc i) (suc j) (omega arith) (omega arith))
+descending-terms (m ∷ ms) (zero ∷ u) h =
+    descending-terms ms u (λ i j b l. h (suc i) (suc j) (omega arith) (omega arith))
 descending-terms (m ∷ ms) (suc c ∷ u) h =
-    AllPairs-cons (λ (s t : Term). IsGreater s.monomial t.monomial) (record { scalar = suc c; monomial = m }) (polynomial_of ms u)
+    AllPairs-cons (λ (s t : Term). IsGreater s.monomial t.monomial) (record { scalar = suc c; monomial = m })
+    (polynomial_of ms u)
     (All-from_recursion (λ (t : Term). IsGreater m t.monomial) (polynomial_of ms u)
     (each-term (λ t. IsGreater m t.monomial) ms u (λ k c l e. h 0 (suc k) (omega arith) (omega arith))))
     (descending-terms ms u (λ i j b l. h (suc i) (suc j) (omega arith) (omega arith)))
 
 module _ {q d : ℕ} {ds : List ℕ} {ms : List (List ℕ)} (M : IsMonomials q ds d ms) where
-  pub polynomial-of-row : (u : List ℕ) → IsRow (suc q) (length ms) u → IsPolynomial q ds d (polynomial_of ms u)
+  pub polynomial-of-row : (u : List ℕ) → IsRow (suc q) (length ms) u
+      → IsPolynomial q ds d (polynomial_of ms u)
   polynomial-of-row u r = record {
     over = each-term (λ t. IsMonomial q ds d t.monomial) ms u (λ k c l e. M.each k l);
-    coefficients = each-term (λ t. (0 < t.scalar) × (t.scalar ≤ q)) ms u (λ k c l e. (omega arith, let b = r.below k l in omega (arith, b, e)));
+    coefficients = each-term (λ t. (0 < t.scalar)
+        × (t.scalar ≤ q)) ms u (λ k c l e. (omega arith, let b = r.below k l in omega (arith, b, e)));
     descending = descending-terms ms u M.descending;
   }
 
@@ -87,26 +106,31 @@ pub entry-row-of : (q : ℕ) (ms : List (List ℕ)) (f : List Term) (k : ℕ) �
     → entry (row_of q ms f) k ≡ coefficient f (slice_index_or ms k []) % suc q
 entry-row-of q ms f k l = get_or-map (λ m. coefficient f m % suc q) ms k [] 0 l
 
-pub entry-row-past : (q : ℕ) (ms : List (List ℕ)) (f : List Term) (k : ℕ) → length ms ≤ k → entry (row_of q ms f) k ≡ 0
+pub entry-row-past : (q : ℕ) (ms : List (List ℕ)) (f : List Term) (k : ℕ) → length ms ≤ k
+    → entry (row_of q ms f) k ≡ 0
 entry-row-past q ms f k l = get_or_past (row_of q ms f) k 0 (rw length-map l)
 
 pub row-of-is-row : (q : ℕ) (ms : List (List ℕ)) (f : List Term) → IsRow (suc q) (length ms) (row_of q ms f)
 row-of-is-row q ms f = record {
   length_is = length-map ms (λ m. coefficient f m % suc q);
-  below = λ j l. rw (entry-row-of q ms f j l) (mod-lt (coefficient f (slice_index_or ms j [])) (zero-lt-suc q));
+  below = λ j l. rw (entry-row-of q ms f j l)
+      (mod-lt (coefficient f (slice_index_or ms j [])) (zero-lt-suc q));
 }
 
 module _ {q d : ℕ} {ds : List ℕ} {ms : List (List ℕ)} (M : IsMonomials q ds d ms) where
   -- two sums of terms of the degree are the same where their coefficients at the places are
   pub same-at-places : (f g : List Term) → IsOver q ds d f → IsOver q ds d g
-      → ((k : ℕ) → k < length ms → IsCongruent (suc q) (coefficient f (slice_index_or ms k [])) (coefficient g (slice_index_or ms k [])))
+      → ((k : ℕ) → k < length ms → IsCongruent (suc q) (coefficient f (slice_index_or ms k []))
+      (coefficient g (slice_index_or ms k [])))
       → IsSame q f g
   same-at-places f g o p h = record { at = λ m. go m (occurs q ds d f o m) (occurs q ds d g p m) }
     where
-      at-monomial : (m : List ℕ) → IsMonomial q ds d m → IsCongruent (suc q) (coefficient f m) (coefficient g m)
+      at-monomial : (m : List ℕ) → IsMonomial q ds d m
+          → IsCongruent (suc q) (coefficient f m) (coefficient g m)
       at-monomial m x = let i = M.all m x in rw (← i.2) (h i.0 i.1)
 
-      go : (m : List ℕ) → IsMonomial q ds d m ⊎ (coefficient f m ≡ 0) → IsMonomial q ds d m ⊎ (coefficient g m ≡ 0)
+      go : (m : List ℕ) → IsMonomial q ds d m ⊎ (coefficient f m ≡ 0) → IsMonomial q ds d m
+          ⊎ (coefficient g m ≡ 0)
           → IsCongruent (suc q) (coefficient f m) (coefficient g m)
       go m (inl x) o = at-monomial m x
       go m (inr e) (inl x) = at-monomial m x
@@ -118,4 +142,5 @@ module _ {q d : ℕ} {ds : List ℕ} {ms : List (List ℕ)} (M : IsMonomials q d
   pub same-as-row : (f : List Term) → IsOver q ds d f → IsSame q f (polynomial_of ms (row_of q ms f))
   same-as-row f o = same-at-places f (polynomial_of ms (row_of q ms f)) o (over-row (row_of q ms f))
       (λ k l. congruent_trans (congruent_sym (congruent_mod (coefficient f (slice_index_or ms k []))))
-      (congruent_eq (sym (entry-row-of q ms f k l) ∙ sym (coefficient-at ms (row_of q ms f) (monomials-apart M) k l))))
+      (congruent_eq (sym (entry-row-of q ms f k l)
+      ∙ sym (coefficient-at ms (row_of q ms f) (monomials-apart M) k l))))

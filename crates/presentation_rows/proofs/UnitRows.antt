@@ -19,7 +19,8 @@ unit-vector q n i l = fun_ext (λ j. go j (cases_eq j i))
     go j (inr ne) = rw (entry_unit_other n i j ne, eqb-false j i ne) refl
 
 unit-pivot : (n i : ℕ) → i < n → pivot (unit_row n i) ≡ i
-unit-pivot n i l = pivot_is (unit_row n i) i (λ j b. entry_unit_other n i j (omega arith)) (λ z. absurd (omega (arith, z, entry_unit_same n i l)))
+unit-pivot n i l = pivot_is (unit_row n i) i (λ j b. entry_unit_other n i j (omega arith))
+    (λ z. absurd (omega (arith, z, entry_unit_same n i l)))
 
 module _ {n : ℕ} {rows : List (List ℕ)} (U : AreUnitRows n rows) where
   pub unit-matrix : (p : ℕ) → 1 < p → IsMatrix p n rows
@@ -37,12 +38,16 @@ module _ {n : ℕ} {rows : List (List ℕ)} (U : AreUnitRows n rows) where
 
   pub unit-echelon : IsEchelon rows
   unit-echelon = record {
-    not_zero = λ i l. let b : i < n = omega (arith, U.count, l) in rw (pivot-at i l, U.each i b, length-unit_row n i) b;
+    not_zero = λ i l. let b : i < n = omega (arith, U.count, l) in
+        rw (pivot-at i l, U.each i b, length-unit_row n i) b;
     ascending = λ i k b l. rw (pivot-at i (omega arith), pivot-at k l) b;
-    monic = λ i l. let b : i < n = omega (arith, U.count, l) in rw (pivot-at i l, U.each i b) (entry_unit_same n i b);
-    cleared = λ i k l m ne. let b : k < n = omega (arith, U.count, m) in rw (pivot-at i l, U.each k b) (entry_unit_other n k i ne);
+    monic = λ i l. let b : i < n = omega (arith, U.count, l) in
+        rw (pivot-at i l, U.each i b) (entry_unit_same n i b);
+    cleared = λ i k l m ne. let b : k < n = omega (arith, U.count, m) in
+        rw (pivot-at i l, U.each k b) (entry_unit_other n k i ne);
   }
 
   -- their reduced echelon list are the unit rows
   pub echelon-of-units : (p : ℕ) (E : List (List ℕ)) → 1 < p → IsEchelonOf p n rows E → E ≡ rows
-  echelon-of-units p E one e = same_echelon one E rows e.matrix (unit-matrix p one) e.echelon unit-echelon e.spans e.spanned
+  echelon-of-units p E one e = same_echelon one E rows e.matrix
+      (unit-matrix p one) e.echelon unit-echelon e.spans e.spanned

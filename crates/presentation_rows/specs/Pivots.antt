@@ -4,7 +4,8 @@ use Rattle.linear_algebra.specs.Rows.{pivot, is_pivot}
 use Rattle.graded_polynomials.specs.Polynomials.{Polynomial}
 use Rattle.presentation_rows.specs.RowPolynomials.{polynomial_of}
 
--- the rows of the kernel whose pivot is none of those of the multiples, as polynomials of degree d over the monomials ms
+-- the rows of the kernel whose pivot is none of those of the multiples, as polynomials of degree d over the
+-- monomials ms
 abbrev pub new_relations : ℕ → List (List ℕ) → List (List ℕ) → List (List ℕ) → List Polynomial
 new_relations d ms multiples [] = []
 new_relations d ms multiples (u ∷ kernel) =

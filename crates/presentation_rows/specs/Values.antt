@@ -6,7 +6,8 @@ use Rattle.graded_algebra.specs.Algebras.{Algebra, Generator, evaluate}
 pub use Rattle.linear_algebra.specs.Residues.{Vector, vector}
 
 -- row i is the value of monomial i in the generators gs
-pub record AreValues (q : ℕ) (A : Algebra (Vector q)) (gs : List (Generator (Vector q))) (ms values : List (List ℕ)) : Type 0 where
+pub record AreValues (q : ℕ) (A : Algebra (Vector q)) (gs : List (Generator (Vector q)))
+    (ms values : List (List ℕ)) : Type 0 where
   pub count : length values ≡ length ms
   pub each : (i : ℕ) → i < length ms → vector q (row values i) ≡ evaluate A gs (slice_index_or ms i [])
 

@@ -18,16 +18,21 @@ use Rattle.ring_present.proofs.Nexts.{monomials-of-gens}
 
 -- what a count of the monomials of degree d says
 abbrev pub IsCount : Generators → ℕ → ℕ → Type 0
-IsCount gens d count = (ms : List (List ℕ)) → IsMonomials (greatest gens) gens.degrees d ms → count ≡ min (length ms) GREATEST_COUNT
+IsCount gens d count = (ms : List (List ℕ)) → IsMonomials (greatest gens) gens.degrees d ms
+    → count ≡ min (length ms) GREATEST_COUNT
 
-pub too-many : (G : PGroup) (n m d cap count : ℕ) (lifts : List LiftValue) (gens : Generators) → d ≡ suc n → IsSpanGenerators (largest_residue G) (cohomology G) (dual_basis G) n (classes G lifts)
-    → All (IsLiftBelow G m) lifts → gens ≡ record { prime = G.table.p; degrees = degrees_of lifts } → IsCount gens d count → cap < count → IsTooMany G (suc n) cap count
+pub too-many : (G : PGroup) (n m d cap count : ℕ) (lifts : List LiftValue) (gens : Generators) → d ≡ suc n
+    → IsSpanGenerators (largest_residue G) (cohomology G) (dual_basis G) n (classes G lifts)
+    → All (IsLiftBelow G m) lifts → gens ≡ record { prime = G.table.p; degrees = degrees_of lifts }
+    → IsCount gens d count → cap < count → IsTooMany G (suc n) cap count
 too-many G n m d cap count lifts gens ed S b e C l = record {
   generators = classes G lifts;
   monomials = ms;
-  generators_are = subst (λ k. IsSpanGenerators (largest_residue G) (cohomology G) (dual_basis G) k (classes G lifts)) (let z : n ≡ suc n - 1 = omega arith in z) S;
+  generators_are = subst (λ k. IsSpanGenerators (largest_residue G) (cohomology G) (dual_basis G) k
+      (classes G lifts)) (let z : n ≡ suc n - 1 = omega arith in z) S;
   monomials_are = are;
-  count_is = C ms (subst (λ k. IsMonomials (greatest gens) gens.degrees k ms) (sym ed) (monomials-of-gens G lifts gens (suc n) ms e are));
+  count_is = C ms (subst (λ k. IsMonomials (greatest gens) gens.degrees k ms) (sym ed)
+      (monomials-of-gens G lifts gens (suc n) ms e are));
   above = l;
 }
   where

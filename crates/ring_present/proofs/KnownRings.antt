@@ -53,25 +53,25 @@ known-ring R group gens lifts rs Ds S e = subst IsKnown e (known-store group gen
 over-store : (group : Option PGroup) (gens : Generators) (lifts : List LiftValue) (rs : List Polynomial)
     (Ds : List Degree) → IsRingStore group gens lifts rs Ds
     → (i : ℕ) (f : Polynomial) → i < length rs → f ≡ slice_index_or rs i f
-        → IsOverGenerators (record { prime = gens.prime; degrees = map (λ g. g.degree) (lifted lifts) }) f
+    → IsOverGenerators (record { prime = gens.prime; degrees = map (λ g. g.degree) (lifted lifts) }) f
 over-store None gens lifts rs Ds S i f l e = absurd
     (let n = ap (λ (rs : List Polynomial). length rs) S.through.no_relations in omega (arith, n, l))
 over-store (Some G) gens lifts rs Ds S i f l e =
     all-at (IsOverGenerators
-        (record { prime = gens.prime; degrees = map (λ g. g.degree) (lifted lifts) })) rs i f
+    (record { prime = gens.prime; degrees = map (λ g. g.degree) (lifted lifts) })) rs i f
     (relations-over G (length Ds) gens.prime (lifted lifts) rs S.through.prime S.through.presentation) l e
 
 -- a relation is a polynomial over the generators
 pub relation-over : (R : RingValue) (group : Option PGroup) (gens : Generators) (lifts : List LiftValue)
     (rs : List Polynomial) (Ds : List Degree) → IsRingStore group gens lifts rs Ds
     → seen group gens lifts rs Ds ≡ R → (i : ℕ) (f : Polynomial) → i < length R.relations
-        → f ≡ slice_index_or rs i f
+    → f ≡ slice_index_or rs i f
     → IsOverGenerators (record { prime = R.prime; degrees = map (λ g. g.degree) R.generators }) f
 relation-over R group gens lifts rs Ds S e i f l at =
     subst (λ (R : RingValue). IsOverGenerators
-        (record { prime = R.prime; degrees = map (λ g. g.degree) R.generators }) f) e
+    (record { prime = R.prime; degrees = map (λ g. g.degree) R.generators }) f) e
     (over-store group gens lifts rs Ds S i f
-        (let n = ap (λ (R : RingValue). length R.relations) e in omega (arith, n, l)) at)
+    (let n = ap (λ (R : RingValue). length R.relations) e in omega (arith, n, l)) at)
 
 lifted-at : (lifts : List LiftValue) (i : ℕ) (L : LiftValue) (g : GeneratorValue) → i < length lifts
     → L ≡ slice_index_or lifts i L
@@ -83,15 +83,15 @@ lifted-at lifts i L g l e = ap (λ (l : LiftValue). record { degree = l.degree; 
 pub class-length : (R : RingValue) (group : Option PGroup) (gens : Generators) (lifts : List LiftValue)
     (rs : List Polynomial) (Ds : List Degree) → IsRingStore group gens lifts rs Ds
     → seen group gens lifts rs Ds ≡ R → (i : ℕ) (L : LiftValue) (n : ℕ) → i < length R.generators
-        → L ≡ slice_index_or lifts i L → n ≡ rank_of L.group L.degree
+    → L ≡ slice_index_or lifts i L → n ≡ rank_of L.group L.degree
     → (G : PGroup) → R.group ≡ Some G → (g : GeneratorValue)
-        → n ≡ rank_of G (slice_index_or R.generators i g).degree
+    → n ≡ rank_of G (slice_index_or R.generators i g).degree
 class-length R group gens lifts rs Ds S e i L n l at r G known g =
     let inside : i < length lifts =
-        (let a = ap (λ (R : RingValue). length R.generators) e in let b : length
-            (lifted lifts) ≡ length lifts = length-map lifts _ in omega (arith, a, b, l)) in
+    (let a = ap (λ (R : RingValue). length R.generators) e in let b : length
+    (lifted lifts) ≡ length lifts = length-map lifts _ in omega (arith, a, b, l)) in
     let ring = ring-at group gens lifts rs Ds G S (ap (λ (R : RingValue). R.group) e ∙ known) in
     r ∙ ap (λ (H : PGroup). rank_of H L.degree)
-        (all-at (IsLiftBelow G (length Ds)) lifts i L ring.lower.lifts_are inside at).group_is
+    (all-at (IsLiftBelow G (length Ds)) lifts i L ring.lower.lifts_are inside at).group_is
     ∙ ap (λ (g : GeneratorValue). rank_of G g.degree) (lifted-at lifts i L g inside at
-        ∙ ap (λ (R : RingValue). slice_index_or R.generators i g) e)
+    ∙ ap (λ (R : RingValue). slice_index_or R.generators i g) e)

@@ -19,9 +19,9 @@ greedy-length p s t (suc n) places (inr h) =
 
 pub generators-few : (lifts new : List LiftValue) (f : ℕ
     → LiftValue) (places : List ℕ) (g : Generators) (p i degrees : ℕ) → length lifts ≤ degrees * 2 ^ 27
-        → degrees < GREATEST_DEGREE
+    → degrees < GREATEST_DEGREE
     → i < length places → length places ≤ 2 ^ 27 → new ≡ map f (take i places)
-        → g ≡ record { prime = p; degrees = degrees_of (lifts ++ new) } → length g.degrees < 4294967295
+    → g ≡ record { prime = p; degrees = degrees_of (lifts ++ new) } → length g.degrees < 4294967295
 generators-few lifts new f places g p i degrees few high here count e eg =
     let a = ap (λ (g : Generators). length g.degrees) eg in
     let b = length-map (lifts ++ new) (λ (l : LiftValue). l.degree) in

@@ -25,18 +25,24 @@ module _ (G : PGroup) where
   q = largest_residue G
 
   -- the row of a product
-  pub product-vector : (d e : ℕ) (a c : List ℕ) → vector q (product_row G d e a c) ≡ multiply G d e (vector q a) (vector q c)
-  product-vector d e a c = (vector-claims q (rank_of G (d + e))).of_vector (multiply G d e (vector q a) (vector q c))
+  pub product-vector : (d e : ℕ) (a c : List ℕ)
+      → vector q (product_row G d e a c) ≡ multiply G d e (vector q a) (vector q c)
+  product-vector d e a c = (vector-claims q (rank_of G (d + e))).of_vector
+      (multiply G d e (vector q a) (vector q c))
       (product-claims q (group G) (layer_coordinates G) (stage_rows G) d e (vector q a) (vector q c)).past
 
   pub length-product : (d e : ℕ) (a c : List ℕ) → length (product_row G d e a c) ≡ rank_of G (d + e)
   length-product d e a c = length-entries (rank_of G (d + e)) (multiply G d e (vector q a) (vector q c))
 
-  one-at : (e : ℕ) (w : Vector q) (i : Below (rank_of G e)) → product q (group G) (layer_coordinates G) (stage_rows G) e (λ k. w k.0) 0 (λ k. unit q 0 k.0) i ≡ w i.0
+  one-at : (e : ℕ) (w : Vector q) (i : Below (rank_of G e))
+      → product q (group G) (layer_coordinates G) (stage_rows G) e (λ k. w k.0) 0
+      (λ k. unit q 0 k.0) i ≡ w i.0
   one-at e w i =
       pair-sums q (group G) 1 (λ k. unit q 0 k.0) v
-      ∙ total-only (Fp q (monoid (group G))) 1 f (field.residue 0 0) (λ y ne. absurd (ne (let l : y.0 < 1 = y.1 in omega (arith, l))))
-      ∙ ap (λ (b : Below (suc q)). times (plus q) (residue q 0) b.0 (residue q 1)) (sum-multiple q (group G) (w i.0))
+      ∙ total-only (Fp q (monoid (group G))) 1 f (field.residue 0 0)
+      (λ y ne. absurd (ne (let l : y.0 < 1 = y.1 in omega (arith, l))))
+      ∙ ap (λ (b : Below (suc q)). times (plus q) (residue q 0) b.0 (residue q 1))
+      (sum-multiple q (group G) (w i.0))
       ∙ times-residue q (w i.0).0 (residue q 1)
       ∙ ap (residue q) (ap (λ x. (w i.0).0 * x) (mod-eq_of_lt (prime-field G).above_one) ∙ omega arith)
       ∙ residue-self q (w i.0)
@@ -48,7 +54,8 @@ module _ (G : PGroup) where
       f k = times (plus q) (residue q 0) (block-sum q (group G) 1 v k).0 (unit q 0 k.0)
 
   -- 1 times a class
-  pub one-times : (e : ℕ) (w : Vector q) → ((k : ℕ) → rank_of G e ≤ k → w k ≡ residue q 0) → multiply G 0 e (unit q 0) w ≡ w
+  pub one-times : (e : ℕ) (w : Vector q) → ((k : ℕ) → rank_of G e ≤ k → w k ≡ residue q 0)
+      → multiply G 0 e (unit q 0) w ≡ w
   one-times e w z = fun_ext (λ k. go k (cases_lt k (rank_of G e)))
     where
       u : Below (rank_of G e) → Below (suc q)

@@ -33,7 +33,7 @@ module _ (G : PGroup) where
   no-generators : (d : ℕ) → ((v : (free G d).of) → K G d v → (free G d).zero ≡ v) → rank_of G (suc d) ≡ 0
   no-generators d h =
       let l = (exact-minimal G d).fewest 0 (λ i. absurd (omega (arith, i.1)))
-          (λ i. absurd (omega (arith, i.1)))
+      (λ i. absurd (omega (arith, i.1)))
       (λ v k. ((λ i. absurd (omega (arith, i.1))), h v k)) in
       omega (arith, l)
 

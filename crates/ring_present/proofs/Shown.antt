@@ -27,38 +27,54 @@ use Rattle.ring_present.specs.declared.degree.Degree.{Degree}
 use Rattle.ring_present.proofs.Factors.{all-at, degrees-are}
 use Rattle.ring_present.proofs.StandardMonomials.{standard-left, values-left}
 
-pub ring-at : (group : Option PGroup) (gens : Generators) (lifts : List LiftValue) (rs : List Polynomial) (Ds : List Degree) (G : PGroup) → IsRingStore group gens lifts rs Ds
+pub ring-at : (group : Option PGroup) (gens : Generators) (lifts : List LiftValue) (rs : List Polynomial)
+    (Ds : List Degree) (G : PGroup) → IsRingStore group gens lifts rs Ds
     → group ≡ Some G → IsRingOf G gens lifts rs Ds
 ring-at None gens lifts rs Ds G S e = absurd cc
-ring-at (Some K) gens lifts rs Ds G S e = let k : K ≡ G = cc in subst (λ g. IsRingOf g gens lifts rs Ds) k S.through
+ring-at (Some K) gens lifts rs Ds G S e = let k : K ≡ G = cc in
+    subst (λ g. IsRingOf g gens lifts rs Ds) k S.through
 
 -- from the first degree on the group is known
-pub some-group : (group : Option PGroup) (gens : Generators) (lifts : List LiftValue) (rs : List Polynomial) (Ds : List Degree) → IsRingStore group gens lifts rs Ds
+pub some-group : (group : Option PGroup) (gens : Generators) (lifts : List LiftValue) (rs : List Polynomial)
+    (Ds : List Degree) → IsRingStore group gens lifts rs Ds
     → 0 < length Ds → (G : PGroup) × (group ≡ Some G)
-some-group None gens lifts rs Ds S l = absurd (let e = ap (λ (x : List Degree). length x) S.through.no_degrees in omega (arith, e, l))
+some-group None gens lifts rs Ds S l = absurd
+    (let e = ap (λ (x : List Degree). length x) S.through.no_degrees in omega (arith, e, l))
 some-group (Some G) gens lifts rs Ds S l = (G, refl)
 
 -- the lifts are over the prime of the generators
-pub lift-prime : (group : Option PGroup) (gens : Generators) (lifts : List LiftValue) (rs : List Polynomial) (Ds : List Degree) → IsRingStore group gens lifts rs Ds
+pub lift-prime : (group : Option PGroup) (gens : Generators) (lifts : List LiftValue) (rs : List Polynomial)
+    (Ds : List Degree) → IsRingStore group gens lifts rs Ds
     → (i : ℕ) (L : LiftValue) → i < length lifts → L ≡ slice_index_or lifts i L → L.group.table.p ≡ gens.prime
-lift-prime None gens lifts rs Ds S i L l e = absurd (let n = ap (λ (x : List LiftValue). length x) S.through.no_generators in omega (arith, n, l))
+lift-prime None gens lifts rs Ds S i L l e =
+    absurd (let n = ap (λ (x : List LiftValue). length x) S.through.no_generators in omega (arith, n, l))
 lift-prime (Some G) gens lifts rs Ds S i L l e =
-    ap (λ (g : PGroup). g.table.p) (all-at (IsLiftBelow G (length Ds)) lifts i L S.through.lower.lifts_are l e).group_is ∙ sym S.through.prime
+    ap (λ (g : PGroup). g.table.p) (all-at
+    (IsLiftBelow G (length Ds)) lifts i L S.through.lower.lifts_are l e).group_is ∙ sym S.through.prime
 
 pub degrees-lifted : (lifts : List LiftValue) → degrees_of lifts ≡ map (λ g. g.degree) (lifted lifts)
 degrees-lifted [] = refl
 degrees-lifted (l ∷ lifts) = ap (λ ds. l.degree ∷ ds) (degrees-lifted lifts)
 
 -- R is seen of a ring that keeps these
-pub record IsSeen (R : RingValue) (group : Option PGroup) (gens : Generators) (lifts : List LiftValue) (rs : List Polynomial) (Ds : List Degree) : Type 0 where
+pub record IsSeen (R : RingValue) (group : Option PGroup) (gens : Generators) (lifts : List LiftValue)
+    (rs : List Polynomial) (Ds : List Degree) : Type 0 where
   pub prime_is : R.prime ≡ gens.prime
   pub group_is : R.group ≡ group
   pub degree_is : R.degree ≡ length Ds
   pub generators_are : R.generators ≡ lifted lifts
   pub standard_are : R.standard ≡ map (λ d. d.standard.monomials) Ds
 
-pub seen-of : (R : RingValue) (group : Option PGroup) (gens : Generators) (lifts : List LiftValue) (rs : List Polynomial) (Ds : List Degree)
-    → record { prime = gens.prime; group = group; degree = length Ds; generators = lifted lifts; relations = rs; standard = map (λ d. d.standard.monomials) Ds } ≡ R → IsSeen R group gens lifts rs Ds
+pub seen-of : (R : RingValue) (group : Option PGroup) (gens : Generators) (lifts : List LiftValue)
+    (rs : List Polynomial) (Ds : List Degree)
+    → record {
+      prime = gens.prime;
+      group = group;
+      degree = length Ds;
+      generators = lifted lifts;
+      relations = rs;
+      standard = map (λ d. d.standard.monomials) Ds;
+    } ≡ R → IsSeen R group gens lifts rs Ds
 seen-of R group gens lifts rs Ds e = record {
   prime_is = ap (λ (x : RingValue). x.prime) (sym e);
   group_is = ap (λ (x : RingValue). x.group) (sym e);
@@ -67,13 +83,16 @@ seen-of R group gens lifts rs Ds e = record {
   standard_are = ap (λ (x : RingValue). x.standard) (sym e);
 }
 
-standard-mapped : (Ds : List Degree) (e : ℕ) (D : Degree) → e < length Ds → slice_index_or (map (λ d. d.standard.monomials) Ds) e [] ≡ (slice_index_or Ds e D).standard.monomials
+standard-mapped : (Ds : List Degree) (e : ℕ) (D : Degree) → e < length Ds
+    → slice_index_or (map (λ d. d.standard.monomials) Ds) e [] ≡ (slice_index_or Ds e D).standard.monomials
 standard-mapped [] e D l = absurd (omega (arith, l))
 standard-mapped (E ∷ Ds) zero D l = refl
 standard-mapped (E ∷ Ds) (suc e) D l = standard-mapped Ds e D (omega (arith, l))
 
-module _ (R : RingValue) (group : Option PGroup) (gens : Generators) (lifts : List LiftValue) (rs : List Polynomial) (Ds : List Degree)
-    (seen : IsSeen R group gens lifts rs Ds) (S : IsRingStore group gens lifts rs Ds) (d : ℕ) (at : Degree) (here : at ≡ slice_index_or Ds (d - 1) at) (low : 1 ≤ d) (high : d ≤ R.degree) where
+module _ (R : RingValue) (group : Option PGroup) (gens : Generators) (lifts : List LiftValue)
+    (rs : List Polynomial) (Ds : List Degree)
+    (seen : IsSeen R group gens lifts rs Ds) (S : IsRingStore group gens lifts rs Ds) (d : ℕ) (at : Degree)
+    (here : at ≡ slice_index_or Ds (d - 1) at) (low : 1 ≤ d) (high : d ≤ R.degree) where
   step : d ≡ suc (d - 1)
   step = omega (arith, low)
 
@@ -82,7 +101,8 @@ module _ (R : RingValue) (group : Option PGroup) (gens : Generators) (lifts : Li
 
   pub standard-is : at.standard.monomials ≡ standard_of R d
   standard-is = ap (λ (E : Degree). E.standard.monomials) here
-      ∙ sym (ap (standard_of R) step ∙ ap (λ xs. slice_index_or xs (d - 1) []) seen.standard_are ∙ standard-mapped Ds (d - 1) at inside)
+      ∙ sym (ap (standard_of R) step ∙ ap (λ xs. slice_index_or xs (d - 1) []) seen.standard_are
+      ∙ standard-mapped Ds (d - 1) at inside)
 
   module _ (G : PGroup) (known : R.group ≡ Some G) where
     ring : IsRingOf G gens lifts rs Ds
@@ -100,16 +120,25 @@ module _ (R : RingValue) (group : Option PGroup) (gens : Generators) (lifts : Li
     pub standard-seen : AreStandard q (cohomology G) (generators_of q R.generators) d at.standard.monomials
     standard-seen =
         subst (λ ms. AreStandard q (cohomology G) (generators_of q R.generators) d ms) (sym degree.standard)
-        (subst (λ k. AreStandard q (cohomology G) (generators_of q R.generators) k (without_pivots degree.kernel 0 at.all.monomials)) (sym step)
-        (subst (λ gs. AreStandard q (cohomology G) gs (suc (d - 1)) (without_pivots degree.kernel 0 at.all.monomials)) classes-are
-        (standard-left q (suc (d - 1)) (multiply G) (classes G lifts) at.all.monomials at.all.values.rows degree.kernel (field G).above_one degree.all.monomials degree.all.values degree.kernel_is)))
+        (subst (λ k. AreStandard q (cohomology G) (generators_of q R.generators) k
+        (without_pivots degree.kernel 0 at.all.monomials)) (sym step)
+        (subst (λ gs. AreStandard q (cohomology G) gs (suc (d - 1))
+        (without_pivots degree.kernel 0 at.all.monomials)) classes-are
+        (standard-left q (suc (d - 1)) (multiply G)
+        (classes G lifts) at.all.monomials at.all.values.rows degree.kernel
+        (field G).above_one degree.all.monomials degree.all.values degree.kernel_is)))
 
-    values : AreValues q (cohomology G) (generators_of q R.generators) at.standard.monomials at.standard.values.rows
+    values : AreValues q (cohomology G) (generators_of q R.generators) at.standard.monomials
+        at.standard.values.rows
     values =
-        subst (λ ms. AreValues q (cohomology G) (generators_of q R.generators) ms at.standard.values.rows) (sym degree.standard)
-        (subst (λ vs. AreValues q (cohomology G) (generators_of q R.generators) (without_pivots degree.kernel 0 at.all.monomials) vs) (sym degree.standard_values)
-        (subst (λ gs. AreValues q (cohomology G) gs (without_pivots degree.kernel 0 at.all.monomials) (without_pivots degree.kernel 0 at.all.values.rows)) classes-are
-        (values-left q (multiply G) (classes G lifts) at.all.monomials at.all.values.rows degree.kernel degree.all.values)))
+        subst (λ ms. AreValues q (cohomology G) (generators_of q R.generators) ms at.standard.values.rows)
+        (sym degree.standard)
+        (subst (λ vs. AreValues q (cohomology G) (generators_of q R.generators)
+        (without_pivots degree.kernel 0 at.all.monomials) vs) (sym degree.standard_values)
+        (subst (λ gs. AreValues q (cohomology G) gs (without_pivots degree.kernel 0 at.all.monomials)
+        (without_pivots degree.kernel 0 at.all.values.rows)) classes-are
+        (values-left q (multiply G) (classes G lifts) at.all.monomials at.all.values.rows degree.kernel
+        degree.all.values)))
 
     pub count-seen : length at.standard.values.rows ≡ length (standard_of R d)
     count-seen = values.count ∙ ap (λ (x : List (List ℕ)). length x) standard-is
@@ -121,9 +150,12 @@ module _ (R : RingValue) (group : Option PGroup) (gens : Generators) (lifts : Li
     modulus-seen = degree.standard_prime ∙ residues G ∙ sym (seen.prime_is ∙ ring.prime)
 
     pub value-seen : (i : ℕ) (r : List ℕ) → i < length (standard_of R d) → r ≡ row at.standard.values.rows i
-        → vector q r ≡ evaluate (cohomology G) (generators_of q R.generators) (slice_index_or (standard_of R d) i [])
-    value-seen i r l e = ap (vector q) e ∙ values.each i (let c = count-seen in let v = values.count in omega (arith, l, c, v))
-        ∙ ap (λ ms. evaluate (cohomology G) (generators_of q R.generators) (slice_index_or ms i [])) standard-is
+        → vector q r ≡ evaluate (cohomology G) (generators_of q R.generators)
+        (slice_index_or (standard_of R d) i [])
+    value-seen i r l e = ap (vector q) e
+        ∙ values.each i (let c = count-seen in let v = values.count in omega (arith, l, c, v))
+        ∙ ap (λ ms. evaluate (cohomology G) (generators_of q R.generators)
+        (slice_index_or ms i [])) standard-is
 
     -- normal forms
     pub prime-seen : at.preimages.p ≡ R.prime
@@ -135,7 +167,8 @@ module _ (R : RingValue) (group : Option PGroup) (gens : Generators) (lifts : Li
     forms-matrix : IsMatrix at.preimages.p at.preimages.width at.preimages.rows
     forms-matrix i l =
         subst (λ p. IsRow p at.preimages.width (row at.preimages.rows i)) (sym degree.preimages_prime)
-        (subst (λ n. IsRow (suc q) n (row at.preimages.rows i)) (degree.all.values.count ∙ sym degree.preimages_width)
+        (subst (λ n. IsRow (suc q) n (row at.preimages.rows i)) (degree.all.values.count
+        ∙ sym degree.preimages_width)
         (degree.preimages.each i (let n = degree.preimages.count in omega (arith, n, l))).is_row)
 
     some-prime : 0 < at.preimages.p
@@ -146,7 +179,8 @@ module _ (R : RingValue) (group : Option PGroup) (gens : Generators) (lifts : Li
     combined w = combination_row at.preimages.p at.preimages.width (entry w) at.preimages.rows
 
     combined-row : (w : List ℕ) → IsRow at.preimages.p at.preimages.width (combined w)
-    combined-row w = combination_row-is_row at.preimages.p at.preimages.width some-prime (entry w) at.preimages.rows forms-matrix
+    combined-row w = combination_row-is_row at.preimages.p at.preimages.width some-prime
+        (entry w) at.preimages.rows forms-matrix
 
     pub width-of-forms : (w u : List ℕ) → u ≡ combined w → length u ≡ length at.all.monomials
     width-of-forms w u e = ap length e ∙ (combined-row w).length_is ∙ degree.preimages_width
@@ -155,18 +189,33 @@ module _ (R : RingValue) (group : Option PGroup) (gens : Generators) (lifts : Li
     monomials-seen =
         subst (λ m. IsMonomials m gens.degrees d at.all.monomials) (sym (ap (λ p. p - 1) ring.prime))
         (subst (λ ds. IsMonomials q ds d at.all.monomials) (degrees-are G lifts ∙ sym S.degrees_of_gens)
-        (subst (λ k. IsMonomials q (degrees (classes G lifts)) k at.all.monomials) (sym step) degree.all.monomials))
+        (subst (λ k. IsMonomials q (degrees (classes G lifts)) k at.all.monomials)
+        (sym step) degree.all.monomials))
 
     pub form-seen : (w u : List ℕ) → IsRow at.preimages.p (rank_of G d) w → u ≡ combined w
-        → IsNormalForm q (cohomology G) (generators_of q R.generators) d (vector q w) (polynomial_of at.all.monomials u)
+        → IsNormalForm q (cohomology G) (generators_of q R.generators) d (vector q w)
+        (polynomial_of at.all.monomials u)
     form-seen w u W e =
-        let U : IsRow at.preimages.p at.preimages.width u = subst (IsRow at.preimages.p at.preimages.width) (sym e) (combined-row w) in
-        let C : IsCombination at.preimages.p (entry w) at.preimages.rows (entry u) = subst (λ u. IsCombination at.preimages.p (entry w) at.preimages.rows (entry u)) (sym e)
-        (record { each = λ j. congruent_sym (combination_row-each at.preimages.p at.preimages.width some-prime (entry w) at.preimages.rows forms-matrix j) }) in
-        subst (λ k. IsNormalForm q (cohomology G) (generators_of q R.generators) k (vector q w) (polynomial_of at.all.monomials u)) (sym step)
-        (subst (λ gs. IsNormalForm q (cohomology G) gs (suc (d - 1)) (vector q w) (polynomial_of at.all.monomials u)) classes-are
-        (normal-form-of q (suc (d - 1)) (multiply G) (classes G lifts) at.all.monomials at.all.values.rows degree.kernel (field G).above_one degree.all.monomials degree.all.values degree.kernel_is w u
+        let U : IsRow at.preimages.p at.preimages.width u =
+        subst (IsRow at.preimages.p at.preimages.width) (sym e) (combined-row w) in
+        let C : IsCombination at.preimages.p (entry w) at.preimages.rows (entry u) =
+        subst (λ u. IsCombination at.preimages.p (entry w) at.preimages.rows (entry u)) (sym e)
+        (record {
+          each = λ j. congruent_sym
+              (combination_row-each at.preimages.p at.preimages.width some-prime
+              (entry w) at.preimages.rows forms-matrix j);
+        }) in
+        subst (λ k. IsNormalForm q (cohomology G) (generators_of q R.generators) k (vector q w)
+        (polynomial_of at.all.monomials u)) (sym step)
+        (subst (λ gs. IsNormalForm q (cohomology G) gs (suc (d - 1)) (vector q w)
+        (polynomial_of at.all.monomials u)) classes-are
+        (normal-form-of q (suc (d - 1)) (multiply G)
+        (classes G lifts) at.all.monomials at.all.values.rows degree.kernel
+        (field G).above_one degree.all.monomials degree.all.values degree.kernel_is w u
         (preimage-of-combination (field G).above_one degree.basis_is degree.preimages degree.kernel_is w u
-        (subst (λ n. IsRow (suc q) n w) (ap (rank_of G) step) (subst (λ p. IsRow p (rank_of G d) w) degree.preimages_prime W))
-        (subst (λ n. IsRow (suc q) n u) (degree.preimages_width ∙ sym degree.all.values.count) (subst (λ p. IsRow p at.preimages.width u) degree.preimages_prime U))
+        (subst (λ n. IsRow (suc q) n w) (ap (rank_of G) step)
+        (subst (λ p. IsRow p (rank_of G d) w) degree.preimages_prime W))
+        (subst (λ n. IsRow (suc q) n u) (degree.preimages_width
+        ∙ sym degree.all.values.count)
+        (subst (λ p. IsRow p at.preimages.width u) degree.preimages_prime U))
         (subst (λ p. IsCombination p (entry w) at.preimages.rows (entry u)) degree.preimages_prime C))))

@@ -48,7 +48,8 @@ module _ (G : PGroup) where
     pub monomials : IsMonomials (largest_residue G) (degrees (classes lifts)) d v.monomials
     pub values : AreValues (largest_residue G) (cohomology G) (classes lifts) v.monomials v.values.rows
 
-  -- what is kept of degree d: the kernel of the values tells the standard monomials, and the preimages of the dual basis are 0 at its pivots
+  -- what is kept of degree d: the kernel of the values tells the standard monomials, and the preimages of the
+  -- dual basis are 0 at its pivots
   pub record IsDegree (d : ℕ) (lifts : List LiftValue) (D : Degree) : Type 0 where
     pub all : AreAll d lifts D.all
     pub kernel : List (List ℕ)
@@ -68,7 +69,8 @@ module _ (G : PGroup) where
     pub count : length Ds ≡ n
     pub each : (e : ℕ) (D : Degree) → e < n → IsDegree (suc e) lifts (slice_index_or Ds e D)
 
--- the lifts of the generators of degrees 1 to n, and these degrees, where n is their number; a degree has at most 2^27 generators
+-- the lifts of the generators of degrees 1 to n, and these degrees, where n is their number; a degree has at
+-- most 2^27 generators
 pub record IsLower (G : PGroup) (lifts : List LiftValue) (Ds : List Degree) : Type 0 where
   pub few : length lifts ≤ length Ds * 2 ^ 27
   pub lifts_are : All (IsLiftBelow G (length Ds)) lifts

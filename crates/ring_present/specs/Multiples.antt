@@ -17,10 +17,14 @@ pub record IsRelationBelow (g : Generators) (d : ℕ) (r : Polynomial) : Type 0 
 
 -- each degree from 1 on has all its monomials
 abbrev pub HaveMonomials : Generators → List Degree → Type 0
-HaveMonomials g Ds = (e : ℕ) (D : Degree) → e < length Ds → IsMonomials (greatest g) g.degrees (suc e) (slice_index_or Ds e D).all.monomials
+HaveMonomials g Ds = (e : ℕ) (D : Degree) → e < length Ds
+    → IsMonomials (greatest g) g.degrees (suc e) (slice_index_or Ds e D).all.monomials
 
--- rs are the relations of degree d that the kernel gives: those of its rows whose pivots are none of the multiples of the relations before
-abbrev pub AreNewRelations : Generators → List Polynomial → ℕ → List (List ℕ) → List (List ℕ) → List Polynomial → Type 0
+-- rs are the relations of degree d that the kernel gives: those of its rows whose pivots are none of the
+-- multiples of the relations before
+abbrev pub AreNewRelations : Generators → List Polynomial → ℕ → List (List ℕ) → List (List ℕ)
+    → List Polynomial → Type 0
 AreNewRelations g before d ms kernel rs =
-    (rows : List (List ℕ)) × (multiples : List (List ℕ)) × AreMultiples (greatest g) g.degrees before d ms rows
+    (rows : List (List ℕ)) × (multiples : List (List ℕ))
+    × AreMultiples (greatest g) g.degrees before d ms rows
     × IsEchelonOf g.prime (length ms) rows multiples × (rs ≡ new_relations d ms multiples kernel)

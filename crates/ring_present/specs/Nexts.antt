@@ -13,9 +13,11 @@ pub record IsLiftOf (G : PGroup) (d : ℕ) (l : LiftValue) : Type 0 where
   pub degree_is : l.degree ≡ d
 
 -- the new generators and relations with the old ones are those through degree n + 1
-pub record IsNext (G : PGroup) (lifts : List LiftValue) (relations : List Polynomial) (n : ℕ) (x : Next) : Type 0 where
+pub record IsNext (G : PGroup) (lifts : List LiftValue) (relations : List Polynomial) (n : ℕ)
+    (x : Next) : Type 0 where
   pub gens_are : x.gens ≡ record { prime = prime_of G; degrees = degrees_of (lifts ++ x.lifts.items) }
   pub lifts_are : All (IsLiftOf G (suc n)) x.lifts.items
   pub few : length x.lifts.items ≤ 2 ^ 27
-  pub presentation : IsPresentation G (suc n) (classes G (lifts ++ x.lifts.items)) (relations ++ x.relations.items)
+  pub presentation : IsPresentation G (suc n) (classes G (lifts ++ x.lifts.items))
+      (relations ++ x.relations.items)
   pub degree_is : IsDegree G (suc n) (lifts ++ x.lifts.items) x.degree

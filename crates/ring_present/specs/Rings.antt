@@ -1,5 +1,7 @@
--- Generators and relations of the cohomology ring of a p-group through a degree (Carlson, Townsley, Valeri-Elizondo and Zhang, "Cohomology Rings of
--- Finite Groups"). Classes are vectors over the dual bases of the minimal resolution, and products are those by chain lifts.
+-- Generators and relations of the cohomology ring of a p-group through a degree (Carlson, Townsley,
+-- Valeri-Elizondo and Zhang, "Cohomology Rings of
+-- Finite Groups"). Classes are vectors over the dual bases of the minimal resolution, and products are those
+-- by chain lifts.
 use Rattle.std.specs.Prelude.{◌≡◌, ℕ, ◌-◌, ◌<◌, min, List, length}
 use Rattle.limits.specs.declared.TheConstants.{GREATEST_COUNT}
 use Rattle.p_groups.specs.PGroups.{PGroup, largest_residue}
@@ -21,11 +23,13 @@ module _ (G : PGroup) where
   dual_basis d = units (largest_residue G) 0 (rank_of G d)
 
   -- gs and rs are the generators and the relations of degrees 1 to n
-  pub record IsPresentation (n : ℕ) (gs : List (Generator (Vector (largest_residue G)))) (rs : List Polynomial) : Type 0 where
+  pub record IsPresentation (n : ℕ) (gs : List (Generator (Vector (largest_residue G))))
+      (rs : List Polynomial) : Type 0 where
     pub generators_are : IsSpanGenerators (largest_residue G) cohomology dual_basis n gs
     pub relations_are : IsRelations (largest_residue G) cohomology gs n rs
 
-  -- count is the number of monomials of degree d in the generators of lower degree, or the greatest count where there are more, and it is above cap
+  -- count is the number of monomials of degree d in the generators of lower degree, or the greatest count
+  -- where there are more, and it is above cap
   pub record IsTooMany (d cap count : ℕ) : Type 0 where
     pub generators : List (Generator (Vector (largest_residue G)))
     pub monomials : List (List ℕ)

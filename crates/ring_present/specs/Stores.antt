@@ -10,7 +10,8 @@ use Rattle.ring_present.specs.Degrees.{IsLower, classes, degrees_of}
 use Rattle.ring_present.specs.declared.degree.Degree.{Degree}
 
 -- generators, relations and degrees of the ring of G
-pub record IsRingOf (G : PGroup) (gens : Generators) (lifts : List LiftValue) (relations : List Polynomial) (Ds : List Degree) : Type 0 where
+pub record IsRingOf (G : PGroup) (gens : Generators) (lifts : List LiftValue) (relations : List Polynomial)
+    (Ds : List Degree) : Type 0 where
   pub high : length Ds ≤ GREATEST_DEGREE
   pub prime : gens.prime ≡ prime_of G
   pub presentation : IsPresentation G (length Ds) (classes G lifts) relations
@@ -22,6 +23,7 @@ pub record IsEmpty (lifts : List LiftValue) (relations : List Polynomial) (Ds : 
   pub no_relations : relations ≡ []
   pub no_degrees : Ds ≡ []
 
-pub record IsRingStore (group : Option PGroup) (gens : Generators) (lifts : List LiftValue) (relations : List Polynomial) (Ds : List Degree) : Type 0 where
+pub record IsRingStore (group : Option PGroup) (gens : Generators) (lifts : List LiftValue)
+    (relations : List Polynomial) (Ds : List Degree) : Type 0 where
   pub degrees_of_gens : gens.degrees ≡ degrees_of lifts
   pub through : MatchOption group (IsEmpty lifts relations Ds) (λ G. IsRingOf G gens lifts relations Ds)

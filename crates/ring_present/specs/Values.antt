@@ -27,25 +27,36 @@ pub record RingValue : Type 0 where
 -- how these are stored
 abbrev coded_generator : Coded GeneratorValue
 coded_generator =
-    code_by (ℕ × List ℕ) (coded× coded_ℕ (coded_list coded_ℕ)) (λ g. (g.degree, g.class)) (λ t. record { degree = t.0; class = t.1 }) (λ _. refl)
+    code_by (ℕ × List ℕ) (coded× coded_ℕ (coded_list coded_ℕ)) (λ g. (g.degree, g.class))
+    (λ t. record { degree = t.0; class = t.1 }) (λ _. refl)
 
 abbrev coded_term : Coded Term
 coded_term =
-    code_by (ℕ × List ℕ) (coded× coded_ℕ (coded_list coded_ℕ)) (λ x. (x.scalar, x.monomial)) (λ t. record { scalar = t.0; monomial = t.1 })
+    code_by (ℕ × List ℕ) (coded× coded_ℕ (coded_list coded_ℕ)) (λ x. (x.scalar, x.monomial))
+    (λ t. record { scalar = t.0; monomial = t.1 })
     (λ _. refl)
 
 abbrev coded_polynomial : Coded Polynomial
 coded_polynomial =
-    code_by (ℕ × List Term) (coded× coded_ℕ (coded_list coded_term)) (λ f. (f.degree, f.terms)) (λ t. record { degree = t.0; terms = t.1 })
+    code_by (ℕ × List Term) (coded× coded_ℕ (coded_list coded_term)) (λ f. (f.degree, f.terms))
+    (λ t. record { degree = t.0; terms = t.1 })
     (λ _. refl)
 
 abbrev pub coded_ring : Coded RingValue
 coded_ring =
     code_by (((ℕ × Option PGroup) × (ℕ × List GeneratorValue)) × (List Polynomial × List (List (List ℕ))))
-    (coded× (coded× (coded× coded_ℕ (coded_option coded_p_group)) (coded× coded_ℕ (coded_list coded_generator)))
+    (coded× (coded× (coded× coded_ℕ (coded_option coded_p_group))
+    (coded× coded_ℕ (coded_list coded_generator)))
     (coded× (coded_list coded_polynomial) (coded_list (coded_list (coded_list coded_ℕ)))))
     (λ r. (((r.prime, r.group), (r.degree, r.generators)), (r.relations, r.standard)))
-    (λ t. record { prime = t.0.0.0; group = t.0.0.1; degree = t.0.1.0; generators = t.0.1.1; relations = t.1.0; standard = t.1.1 }) (λ _. refl)
+    (λ t. record {
+      prime = t.0.0.0;
+      group = t.0.0.1;
+      degree = t.0.1.0;
+      generators = t.0.1.1;
+      relations = t.1.0;
+      standard = t.1.1;
+    }) (λ _. refl)
 
 -- the generators with their classes as vectors
 abbrev pub generators_of : (q : ℕ) → List GeneratorValue → List (Generator (Vector q))

@@ -10,7 +10,8 @@ pub(crate) struct Valued {
     pub(crate) values: Matrix,
 }
 
-/// All monomials of a degree, the standard ones among them, and for each class of the dual basis the row over all monomials of its normal form.
+/// All monomials of a degree, the standard ones among them, and for each class of the dual basis the row over
+/// all monomials of its normal form.
 #[derive(Drop)]
 pub(crate) struct Degree {
     pub(crate) all: Valued,

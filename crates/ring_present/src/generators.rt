@@ -74,7 +74,8 @@ pub(crate) fn dual_basis(alloc: Global, p: Prime, rank: usize) -> Result<Echelon
     Ok(basis)
 }
 
-/// The places in the dual basis of the new generators: no class is taken that is in the span of the values and of those taken before.
+/// The places in the dual basis of the new generators: no class is taken that is in the span of the values
+/// and of those taken before.
 pub(crate) fn new_places(
     alloc: Global,
     basis: &Echelon,
@@ -83,7 +84,8 @@ pub(crate) fn new_places(
     requires same_prime { basis.now.p ≡ values.now.p }
     requires same_width { basis.now.width ≡ values.now.width }
     requires few { length basis.now.rows ≤ 2 ^ 27 }
-    ensures greedy { IfOk result (λ places. (span : List (List ℕ)) × IsEchelonOf values.now.p values.now.width values.now.rows span
+    ensures greedy { IfOk result (λ places. (span : List (List ℕ))
+        × IsEchelonOf values.now.p values.now.width values.now.rows span
         × IsGreedy values.now.p basis.now.rows span places) }
     ensures inside { IfOk result (λ places. All (λ k. k < length basis.now.rows) places) }
     ensures few { IfOk result (λ places. length places ≤ length basis.now.rows) }
@@ -131,10 +133,13 @@ fn add_generator(
     requires values_prime { all.old.values.p ≡ prime_of res.now.group }
     requires values_width { all.old.values.width ≡ length (entries_of class) }
     requires greater { All (λ m. IsGreater m (power (length gens.old.degrees) 1)) all.old.monomials }
-    ensures lifts { OnOk result (lifts.new.items ≡ lifts.old.items ++ new_lift res.now.group d (entries_of class.entry) ∷ []) }
+    ensures lifts { OnOk result (lifts.new.items ≡ lifts.old.items ++ new_lift res.now.group d
+        (entries_of class.entry) ∷ []) }
     ensures gens { OnOk result (gens.new ≡ record gens.old { degrees = gens.old.degrees ++ d ∷ [] }) }
-    ensures monomials { OnOk result (all.new.monomials ≡ all.old.monomials ++ power (length gens.old.degrees) 1 ∷ []) }
-    ensures values { OnOk result (all.new.values ≡ record all.old.values { rows = all.old.values.rows ++ entries_of class.entry ∷ [] }) }
+    ensures monomials { OnOk result (all.new.monomials ≡ all.old.monomials ++ power
+        (length gens.old.degrees) 1 ∷ []) }
+    ensures values { OnOk result (all.new.values
+        ≡ record all.old.values { rows = all.old.values.rows ++ entries_of class.entry ∷ [] }) }
 {
     let lift = Lift::new(alloc, res, d, class)?;
     all.monomials.push(generator_monomial(alloc, gens.len())?)?;
@@ -145,7 +150,8 @@ fn add_generator(
 }
 
 impl<'a> Lower<'a> {
-    /// Adds the generators of degree d, the next one, with the classes at these places of the dual basis, and their monomials to all of
+    /// Adds the generators of degree d, the next one, with the classes at these places of the dual basis, and
+    /// their monomials to all of
     /// degree d.
     pub(crate) fn new_generators(
         &self,
@@ -161,18 +167,28 @@ impl<'a> Lower<'a> {
         requires within { suc (length self.now.degrees.now) ≤ res.now.last }
         requires high { length self.now.degrees.now < GREATEST_DEGREE }
         requires basis_prime { basis.now.p ≡ prime_of res.now.group }
-        requires basis { AreUnitRows (rank_of res.now.group (suc (length self.now.degrees.now))) basis.now.rows }
+        requires basis { AreUnitRows (rank_of res.now.group
+            (suc (length self.now.degrees.now))) basis.now.rows }
         requires basis_width { basis.now.width ≡ rank_of res.now.group (suc (length self.now.degrees.now)) }
         requires places { All (λ k. k < length basis.now.rows) places.now }
         requires few { length places.now ≤ 2 ^ 27 }
-        requires gens { gens.old ≡ record { prime = prime_of res.now.group; degrees = degrees_of self.now.lifts.now } }
+        requires gens { gens.old ≡ record {
+          prime = prime_of res.now.group;
+          degrees = degrees_of self.now.lifts.now;
+        } }
         requires all { AreAll res.now.group (suc (length self.now.degrees.now)) self.now.lifts.now all.old }
         ensures lifts { IfOk result (λ lifts. lifts.items
-            ≡ map (λ k. new_lift res.now.group (suc (length self.now.degrees.now)) (row basis.now.rows k)) places.now) }
+            ≡ map (λ k. new_lift res.now.group (suc (length self.now.degrees.now))
+            (row basis.now.rows k)) places.now) }
         ensures gens { IfOk result (λ lifts. gens.new
-            ≡ record { prime = prime_of res.now.group; degrees = degrees_of (self.now.lifts.now ++ lifts.items) }) }
-        ensures all { IfOk result (λ lifts. AreAll res.now.group (suc (length self.now.degrees.now)) (self.now.lifts.now ++ lifts.items) all.new) }
-        ensures rows { IfOk result (λ lifts. all.new.values.rows ≡ all.old.values.rows ++ rows_at basis.now.rows places.now) }
+            ≡ record {
+              prime = prime_of res.now.group;
+              degrees = degrees_of (self.now.lifts.now ++ lifts.items);
+            }) }
+        ensures all { IfOk result (λ lifts. AreAll res.now.group (suc (length self.now.degrees.now))
+            (self.now.lifts.now ++ lifts.items) all.new) }
+        ensures rows { IfOk result (λ lifts. all.new.values.rows
+            ≡ all.old.values.rows ++ rows_at basis.now.rows places.now) }
     {
         let d = self.degrees.len() as u32 + 1;
         let mut lifts = Vec::new(alloc);

@@ -1,4 +1,5 @@
-//! Generators and relations of the cohomology ring of a p-group, degree by degree, with standard monomials and normal forms.
+//! Generators and relations of the cohomology ring of a p-group, degree by degree, with standard monomials
+//! and normal forms.
 #![tactic(auto)]
 
 mod degree;

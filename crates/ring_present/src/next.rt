@@ -45,7 +45,8 @@ fn rank(res: &Resolution, d: u32) -> usize
     res.stage_at(d).rank()
 }
 
-// What is kept of a degree: its standard monomials by the kernel of its values, and the preimages of its dual basis.
+// What is kept of a degree: its standard monomials by the kernel of its values, and the preimages of its dual
+// basis.
 fn finished(alloc: Global, all: Valued, kernel: &Echelon, basis: &Echelon) -> Result<Degree, Memory>
     requires count { length all.values.rows ≡ length all.monomials }
     requires prime { basis.now.p ≡ all.values.p }
@@ -53,11 +54,14 @@ fn finished(alloc: Global, all: Valued, kernel: &Echelon, basis: &Echelon) -> Re
     requires spans { AreInSpan all.values.p all.values.rows basis.now.rows }
     requires kernel { IsKernelOf all.values.p all.values.rows kernel.now.rows }
     ensures all { IfOk result (λ d. d.all ≡ all) }
-    ensures monomials { IfOk result (λ d. d.standard.monomials ≡ without_pivots kernel.now.rows 0 all.monomials) }
-    ensures values { IfOk result (λ d. d.standard.values ≡ record all.values { rows = without_pivots kernel.now.rows 0 all.values.rows }) }
+    ensures monomials { IfOk result (λ d. d.standard.monomials
+        ≡ without_pivots kernel.now.rows 0 all.monomials) }
+    ensures values { IfOk result (λ d. d.standard.values
+        ≡ record all.values { rows = without_pivots kernel.now.rows 0 all.values.rows }) }
     ensures prime { IfOk result (λ d. d.preimages.p ≡ all.values.p) }
     ensures width { IfOk result (λ d. d.preimages.width ≡ length all.values.rows) }
-    ensures preimages { IfOk result (λ d. ArePreimages all.values.p all.values.rows kernel.now.rows basis.now.rows d.preimages.rows) }
+    ensures preimages { IfOk result (λ d. ArePreimages all.values.p all.values.rows kernel.now.rows
+        basis.now.rows d.preimages.rows) }
 {
     let standard = standard(alloc, &all, kernel)?;
     let preimages = preimages(alloc, &all.values, basis, kernel)?;
@@ -73,11 +77,16 @@ impl<'a> Lower<'a> {
     fn listed(&self, alloc: Global, res: &Resolution, gens: &Gens) -> Result<Valued, Memory>
         requires group { self.now.group.now ≡ res.now.group }
         requires lower { IsLower self.now.group.now self.now.lifts.now self.now.degrees.now }
-        requires heights { All (λ l. suc (length self.now.degrees.now) ≤ l.degree + l.height) self.now.lifts.now }
+        requires heights { All (λ l. suc
+            (length self.now.degrees.now) ≤ l.degree + l.height) self.now.lifts.now }
         requires within { suc (length self.now.degrees.now) ≤ res.now.last }
         requires high { length self.now.degrees.now < GREATEST_DEGREE }
-        requires gens { gens.now ≡ record { prime = prime_of res.now.group; degrees = degrees_of self.now.lifts.now } }
-        ensures { IfOk result (λ all. AreAll res.now.group (suc (length self.now.degrees.now)) self.now.lifts.now all) }
+        requires gens { gens.now ≡ record {
+          prime = prime_of res.now.group;
+          degrees = degrees_of self.now.lifts.now;
+        } }
+        ensures { IfOk result (λ all. AreAll res.now.group
+            (suc (length self.now.degrees.now)) self.now.lifts.now all) }
     {
         let d = self.degrees.len() as u32 + 1;
         let monomials = monomials(alloc, gens, d)?;
@@ -85,7 +94,8 @@ impl<'a> Lower<'a> {
         Ok(Valued { monomials, values })
     }
 
-    // Adds the generators of degree d, the next one, with their monomials to all of the degree: then the classes of the degree are in the
+    // Adds the generators of degree d, the next one, with their monomials to all of the degree: then the
+    // classes of the degree are in the
     // span of the values.
     fn choose(
         &self,
@@ -97,22 +107,34 @@ impl<'a> Lower<'a> {
     ) -> Result<Vec<Lift>, Memory>
         requires group { self.now.group.now ≡ res.now.group }
         requires lower { IsLower self.now.group.now self.now.lifts.now self.now.degrees.now }
-        requires presentation { IsSpanGenerators (largest_residue res.now.group) (cohomology res.now.group) (dual_basis res.now.group)
+        requires presentation { IsSpanGenerators (largest_residue res.now.group) (cohomology res.now.group)
+            (dual_basis res.now.group)
             (length self.now.degrees.now) (classes res.now.group self.now.lifts.now) }
         requires within { suc (length self.now.degrees.now) ≤ res.now.last }
         requires high { length self.now.degrees.now < GREATEST_DEGREE }
         requires basis_prime { basis.now.p ≡ prime_of res.now.group }
-        requires basis { AreUnitRows (rank_of res.now.group (suc (length self.now.degrees.now))) basis.now.rows }
+        requires basis { AreUnitRows (rank_of res.now.group
+            (suc (length self.now.degrees.now))) basis.now.rows }
         requires basis_width { basis.now.width ≡ rank_of res.now.group (suc (length self.now.degrees.now)) }
         requires few { length basis.now.rows ≤ 2 ^ 27 }
-        requires gens { gens.old ≡ record { prime = prime_of res.now.group; degrees = degrees_of self.now.lifts.now } }
+        requires gens { gens.old ≡ record {
+          prime = prime_of res.now.group;
+          degrees = degrees_of self.now.lifts.now;
+        } }
         requires all { AreAll res.now.group (suc (length self.now.degrees.now)) self.now.lifts.now all.old }
-        ensures lifts { IfOk result (λ lifts. All (IsLiftOf res.now.group (suc (length self.now.degrees.now))) lifts.items) }
+        ensures lifts { IfOk result (λ lifts. All
+            (IsLiftOf res.now.group (suc (length self.now.degrees.now))) lifts.items) }
         ensures few { IfOk result (λ lifts. length lifts.items ≤ 2 ^ 27) }
         ensures gens { IfOk result (λ lifts. gens.new
-            ≡ record { prime = prime_of res.now.group; degrees = degrees_of (self.now.lifts.now ++ lifts.items) }) }
-        ensures all { IfOk result (λ lifts. AreAll res.now.group (suc (length self.now.degrees.now)) (self.now.lifts.now ++ lifts.items) all.new) }
-        ensures generators { IfOk result (λ lifts. IsSpanGenerators (largest_residue res.now.group) (cohomology res.now.group) (dual_basis res.now.group)
+            ≡ record {
+              prime = prime_of res.now.group;
+              degrees = degrees_of (self.now.lifts.now ++ lifts.items);
+            }) }
+        ensures all { IfOk result (λ lifts. AreAll res.now.group (suc (length self.now.degrees.now))
+            (self.now.lifts.now ++ lifts.items) all.new) }
+        ensures generators { IfOk result
+            (λ lifts. IsSpanGenerators (largest_residue res.now.group) (cohomology res.now.group)
+            (dual_basis res.now.group)
             (suc (length self.now.degrees.now)) (classes res.now.group (self.now.lifts.now ++ lifts.items))) }
         ensures spans { IfOk result (λ lifts. AreInSpan all.new.values.p all.new.values.rows basis.now.rows) }
     {
@@ -131,12 +153,18 @@ impl<'a> Lower<'a> {
     ) -> Result<Next, Memory>
         requires group { self.now.group.now ≡ res.now.group }
         requires lower { IsLower self.now.group.now self.now.lifts.now self.now.degrees.now }
-        requires presentation { IsPresentation res.now.group (length self.now.degrees.now) (classes res.now.group self.now.lifts.now) relations.now }
-        requires heights { All (λ l. suc (length self.now.degrees.now) ≤ l.degree + l.height) self.now.lifts.now }
+        requires presentation { IsPresentation res.now.group (length self.now.degrees.now)
+            (classes res.now.group self.now.lifts.now) relations.now }
+        requires heights { All (λ l. suc
+            (length self.now.degrees.now) ≤ l.degree + l.height) self.now.lifts.now }
         requires within { suc (length self.now.degrees.now) ≤ res.now.last }
         requires high { length self.now.degrees.now < GREATEST_DEGREE }
-        requires gens { gens ≡ record { prime = prime_of res.now.group; degrees = degrees_of self.now.lifts.now } }
-        ensures { IfOk result (IsNext res.now.group self.now.lifts.now relations.now (length self.now.degrees.now)) }
+        requires gens { gens ≡ record {
+          prime = prime_of res.now.group;
+          degrees = degrees_of self.now.lifts.now;
+        } }
+        ensures { IfOk result (IsNext res.now.group self.now.lifts.now relations.now
+            (length self.now.degrees.now)) }
     {
         let d = self.degrees.len() as u32 + 1;
         let mut all = self.listed(alloc, res, &gens)?;

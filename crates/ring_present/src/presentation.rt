@@ -38,7 +38,8 @@ impl Presentation {
         ensures group { OnOk result (self.new.group ≡ Some group) }
         ensures gens { OnOk result (self.new.gens ≡ next.gens) }
         ensures lifts { OnOk result (self.new.lifts.items ≡ self.old.lifts.items ++ next.lifts.items) }
-        ensures relations { OnOk result (self.new.relations.items ≡ self.old.relations.items ++ next.relations.items) }
+        ensures relations { OnOk result (self.new.relations.items
+            ≡ self.old.relations.items ++ next.relations.items) }
         ensures degrees { OnOk result (self.new.degrees.items ≡ self.old.degrees.items ++ next.degree ∷ []) }
         ensures group_kept { OnErr result (self.new.group ≡ self.old.group) }
         ensures gens_kept { OnErr result (self.new.gens ≡ self.old.gens) }
@@ -64,21 +65,26 @@ impl Presentation {
         res: &Resolution,
         cap: u64,
     ) -> Result<(), RingFault>
-        requires store { IsRingStore self.old.group self.old.gens self.old.lifts.items self.old.relations.items self.old.degrees.items }
+        requires store { IsRingStore self.old.group self.old.gens self.old.lifts.items
+            self.old.relations.items self.old.degrees.items }
         requires within { suc (length self.old.degrees.items) ≤ res.now.last }
         requires high { length self.old.degrees.items < GREATEST_DEGREE }
         requires same_group { IfSome self.old.group (λ G. G ≡ res.now.group) }
         ensures group { OnOk result (self.new.group ≡ Some res.now.group) }
         ensures degrees_of_gens { OnOk result (self.new.gens.degrees ≡ degrees_of self.new.lifts.items) }
-        ensures ring { OnOk result (IsRingOf res.now.group self.new.gens self.new.lifts.items self.new.relations.items self.new.degrees.items) }
+        ensures ring { OnOk result (IsRingOf res.now.group self.new.gens self.new.lifts.items
+            self.new.relations.items self.new.degrees.items) }
         ensures degree { OnOk result (length self.new.degrees.items ≡ suc (length self.old.degrees.items)) }
-        ensures lifts_grown { OnOk result (IsPrefix (lifted self.old.lifts.items) (lifted self.new.lifts.items)) }
+        ensures lifts_grown { OnOk result
+            (IsPrefix (lifted self.old.lifts.items) (lifted self.new.lifts.items)) }
         ensures relations_grown { OnOk result (IsPrefix self.old.relations.items self.new.relations.items) }
         ensures degrees_grown { OnOk result (IsPrefix self.old.degrees.items self.new.degrees.items) }
         ensures counted { OnOk result ((ms : List (List ℕ))
-            → IsMonomials ((prime_of res.now.group) - 1) self.old.gens.degrees (suc (length self.old.degrees.items)) ms
+            → IsMonomials ((prime_of res.now.group) - 1) self.old.gens.degrees
+            (suc (length self.old.degrees.items)) ms
             → min (length ms) GREATEST_COUNT ≤ cap) }
-        ensures refused { IfErr result (λ e. IsRefusal res.now.group (suc (length self.old.degrees.items)) cap e) }
+        ensures refused { IfErr result (λ e. IsRefusal res.now.group
+            (suc (length self.old.degrees.items)) cap e) }
         ensures group_kept { OnErr result (self.new.group ≡ self.old.group) }
         ensures gens_kept { OnErr result (self.new.gens ≡ self.old.gens) }
         ensures lifts_kept { OnErr result (map kept self.new.lifts.items ≡ map kept self.old.lifts.items) }

@@ -24,7 +24,8 @@ fn row_over(alloc: Global, gens: &Gens, monomials: &Monos, f: &Poly) -> Result<R
     requires over { IsOverGenerators gens.now f.now }
     requires monomials { IsMonomials (greatest gens.now) gens.now.degrees f.now.degree monomials.now }
     ensures prime { IfOk result (λ r. r.p ≡ gens.now.prime) }
-    ensures entries { IfOk result (λ r. r.entries ≡ row_polynomials.row_of (greatest gens.now) monomials.now f.now.terms) }
+    ensures entries { IfOk result (λ r. r.entries ≡ row_polynomials.row_of
+        (greatest gens.now) monomials.now f.now.terms) }
 {
     let mut row = Row::zero(alloc, gens.prime(), monomials.len())?;
     for i in 0..f.terms() {
@@ -48,7 +49,8 @@ fn polynomial(alloc: Global, gens: &Gens, d: u32, m: &Mono) -> Result<Poly, Memo
     Ok(f)
 }
 
-// Adds the row, over the monomials of degree d, of the multiple of a relation by a monomial of the degree that is left.
+// Adds the row, over the monomials of degree d, of the multiple of a relation by a monomial of the degree
+// that is left.
 fn push_multiple(
     alloc: Global,
     gens: &Gens,
@@ -77,7 +79,8 @@ fn push_multiple(
     Ok(())
 }
 
-// Adds the rows, over the monomials of degree d, of the multiples of a relation by these monomials of the degree that is left.
+// Adds the rows, over the monomials of degree d, of the multiples of a relation by these monomials of the
+// degree that is left.
 fn push_multiples(
     alloc: Global,
     gens: &Gens,
@@ -90,7 +93,8 @@ fn push_multiples(
     requires relation { IsOverGenerators gens.now relation.now }
     requires within { relation.now.degree ≤ d }
     requires small { d ≤ GREATEST_DEGREE }
-    requires factors { IsMonomials (greatest gens.now) gens.now.degrees (d - relation.now.degree) factors.now }
+    requires factors { IsMonomials (greatest gens.now) gens.now.degrees
+        (d - relation.now.degree) factors.now }
     requires monomials { IsMonomials (greatest gens.now) gens.now.degrees d monomials.now }
     requires prime { rows.old.p ≡ gens.now.prime }
     requires width { rows.old.width ≡ length monomials.now }
@@ -105,7 +109,8 @@ fn push_multiples(
     Ok(())
 }
 
-// The reduced echelon list of the rows, over the monomials of degree d, of all multiples of the relations of lower degree.
+// The reduced echelon list of the rows, over the monomials of degree d, of all multiples of the relations of
+// lower degree.
 fn multiples(
     alloc: Global,
     gens: &Gens,
@@ -121,7 +126,8 @@ fn multiples(
     requires monomials { IsMonomials (greatest gens.now) gens.now.degrees d monomials.now }
     ensures prime { IfOk result (λ e. e.p ≡ gens.now.prime) }
     ensures width { IfOk result (λ e. e.width ≡ length monomials.now) }
-    ensures rows { IfOk result (λ e. (list : List (List ℕ)) × AreMultiples (greatest gens.now) gens.now.degrees relations.now d monomials.now list
+    ensures rows { IfOk result (λ e. (list : List (List ℕ))
+        × AreMultiples (greatest gens.now) gens.now.degrees relations.now d monomials.now list
         × IsEchelonOf gens.now.prime (length monomials.now) list e.rows) }
 {
     let mut rows = Matrix::new(alloc, gens.prime(), monomials.len());
@@ -144,7 +150,10 @@ pub(crate) fn polynomial_of(
     requires monomials { IsMonomials (greatest gens.now) gens.now.degrees d monomials.now }
     requires prime { modulus_of row ≡ gens.now.prime }
     requires length { length (entries_of row) ≡ length monomials.now }
-    ensures { IfOk result (λ f. f ≡ record { degree = d; terms = row_polynomials.polynomial_of monomials.now (entries_of row.entry) }) }
+    ensures { IfOk result (λ f. f ≡ record {
+      degree = d;
+      terms = row_polynomials.polynomial_of monomials.now (entries_of row.entry);
+    }) }
 {
     let mut f = Poly::zero(alloc, d);
     for i in 0..monomials.len() {
@@ -153,7 +162,8 @@ pub(crate) fn polynomial_of(
     Ok(f)
 }
 
-// The relations of degree d: those of the rows of the kernel whose pivot is none of the multiples of earlier relations.
+// The relations of degree d: those of the rows of the kernel whose pivot is none of the multiples of earlier
+// relations.
 fn new_relations(
     alloc: Global,
     gens: &Gens,
@@ -165,7 +175,8 @@ fn new_relations(
     requires monomials { IsMonomials (greatest gens.now) gens.now.degrees d monomials.now }
     requires prime { kernel.now.p ≡ gens.now.prime }
     requires width { kernel.now.width ≡ length monomials.now }
-    ensures { IfOk result (λ rs. rs.items ≡ pivots.new_relations d monomials.now multiples.now.rows kernel.now.rows) }
+    ensures { IfOk result (λ rs. rs.items
+        ≡ pivots.new_relations d monomials.now multiples.now.rows kernel.now.rows) }
 {
     let mut relations = Vec::new(alloc);
     for i in 0..kernel.rows() {
@@ -176,7 +187,8 @@ fn new_relations(
     Ok(relations)
 }
 
-/// The relations of degree d, the next one after these degrees, where the kernel is that of the values of its monomials.
+/// The relations of degree d, the next one after these degrees, where the kernel is that of the values of its
+/// monomials.
 pub(crate) fn relations_of(
     alloc: Global,
     gens: &Gens,
@@ -193,7 +205,8 @@ pub(crate) fn relations_of(
     requires monomials { IsMonomials (greatest gens.now) gens.now.degrees d monomials.now }
     requires prime { kernel.now.p ≡ gens.now.prime }
     requires width { kernel.now.width ≡ length monomials.now }
-    ensures { IfOk result (λ rs. AreNewRelations gens.now relations.now d monomials.now kernel.now.rows rs.items) }
+    ensures { IfOk result (λ rs. AreNewRelations gens.now relations.now d monomials.now kernel.now.rows
+        rs.items) }
 {
     let leading = multiples(alloc, gens, relations, degrees, d, monomials)?;
     let new = new_relations(alloc, gens, d, monomials, kernel, &leading)?;

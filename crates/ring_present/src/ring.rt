@@ -30,11 +30,15 @@ use min_res::Resolution;
 use std::alloc::Global;
 use std::marker::Model;
 
-/// Generators and relations of the cohomology ring of a p-group through a degree, with its standard monomials.
+/// Generators and relations of the cohomology ring of a p-group through a degree, with its standard
+/// monomials.
 ///
-/// In each degree those classes of the dual basis are generators, in order, that are not in the span of the monomials in generators of lower
-/// degree and of the generators before; and there is one relation for each monomial that is the greatest of a polynomial of value 0 and not of
-/// a combination of multiples of relations of lower degree: the monomial minus the combination of standard monomials with the same value
+/// In each degree those classes of the dual basis are generators, in order, that are not in the span of the
+/// monomials in generators of lower
+/// degree and of the generators before; and there is one relation for each monomial that is the greatest of a
+/// polynomial of value 0 and not of
+/// a combination of multiples of relations of lower degree: the monomial minus the combination of standard
+/// monomials with the same value
 /// (Carlson, Townsley, Valeri-Elizondo and Zhang, "Cohomology Rings of Finite Groups").
 ///
 /// It keeps the lifts of its generators, and by them the stages that it used, and borrows no resolution.
@@ -64,13 +68,21 @@ impl Model for Ring {
       standard = map (λ d. d.standard.monomials) r.known.degrees.items;
     } };
 
-    ghost invariant = { λ r. IsRingStore r.known.group r.known.gens r.known.lifts.items r.known.relations.items r.known.degrees.items };
+    ghost invariant = { λ r. IsRingStore r.known.group r.known.gens r.known.lifts.items
+        r.known.relations.items r.known.degrees.items };
 }
 
 impl Ring {
     /// The ring through degree 0.
     pub fn start(alloc: Global, p: Prime) -> Ring
-        ensures { result ≡ record { prime = prime_value p; group = None; degree = 0; generators = []; relations = []; standard = [] } }
+        ensures { result ≡ record {
+          prime = prime_value p;
+          group = None;
+          degree = 0;
+          generators = [];
+          relations = [];
+          standard = [];
+        } }
     {
         Ring {
             alloc,
@@ -84,7 +96,8 @@ impl Ring {
         }
     }
 
-    /// Adds the next degree, from a resolution of the same group. `TooManyMonomials` comes exactly where that degree has more than `cap`
+    /// Adds the next degree, from a resolution of the same group. `TooManyMonomials` comes exactly where that
+    /// degree has more than `cap`
     /// monomials in the generators of lower degree. After an error the ring is as before.
     pub fn add_degree(&mut self, res: &Resolution, cap: u64) -> Result<(), RingFault>
         requires within { suc self.old.degree ≤ res.now.last }
@@ -99,7 +112,8 @@ impl Ring {
         ensures relations_kept { OnOk result (IsPrefix self.old.relations self.new.relations) }
         ensures standard_kept { OnOk result (IsPrefix self.old.standard self.new.standard) }
         ensures counted { OnOk result ((ms : List (List ℕ))
-            → IsMonomials (largest_residue res.now.group) (map (λ g. g.degree) self.old.generators) (suc self.old.degree) ms
+            → IsMonomials (largest_residue res.now.group) (map (λ g. g.degree) self.old.generators)
+            (suc self.old.degree) ms
             → min (length ms) GREATEST_COUNT ≤ cap) }
         ensures refused { IfErr result (λ e. IsRefusal res.now.group (suc self.old.degree) cap e) }
         ensures kept { OnErr result (self.new ≡ self.old) }
@@ -107,7 +121,8 @@ impl Ring {
         self.known.add_degree(self.alloc, res, cap)
     }
 
-    /// The degree through which the ring is known: 0 for that of no group, and else it has the generators and relations of its group through
+    /// The degree through which the ring is known: 0 for that of no group, and else it has the generators and
+    /// relations of its group through
     /// this degree.
     pub fn degree(&self) -> u32
         ensures value { result ≡ self.now.degree }
@@ -118,7 +133,10 @@ impl Ring {
 
     /// The generators by their degrees.
     pub fn gens(&self) -> &Gens
-        ensures { result.now ≡ record { prime = self.now.prime; degrees = map (λ g. g.degree) self.now.generators } }
+        ensures { result.now ≡ record {
+          prime = self.now.prime;
+          degrees = map (λ g. g.degree) self.now.generators;
+        } }
     {
         &self.known.gens
     }
@@ -126,7 +144,8 @@ impl Ring {
     /// The class of generator i, counted from 0, as a row over the dual basis of its degree.
     pub fn class_of(&self, i: usize) -> RowRef<'_>
         requires { i < length self.now.generators }
-        ensures entries { (g : GeneratorValue) → entries_of result ≡ (slice_index_or self.now.generators i g).class }
+        ensures entries { (g : GeneratorValue)
+            → entries_of result ≡ (slice_index_or self.now.generators i g).class }
         ensures length { (G : PGroup) → self.now.group ≡ Some G → (g : GeneratorValue)
             → length (entries_of result) ≡ rank_of G (slice_index_or self.now.generators i g).degree }
         ensures modulus { modulus_of result ≡ self.now.prime }
@@ -145,18 +164,23 @@ impl Ring {
     pub fn relation(&self, i: usize) -> &Poly
         requires { i < length self.now.relations }
         ensures value { slice_get self.now.relations i ≡ Some result.now }
-        ensures over { IsOverGenerators (record { prime = self.now.prime; degrees = map (λ g. g.degree) self.now.generators }) result.now }
+        ensures over { IsOverGenerators (record {
+          prime = self.now.prime;
+          degrees = map (λ g. g.degree) self.now.generators;
+        }) result.now }
     {
         &self.known.relations[i]
     }
 
-    /// The standard monomials of degree d, in descending order: those that are the greatest of no polynomial of value 0.
+    /// The standard monomials of degree d, in descending order: those that are the greatest of no polynomial
+    /// of value 0.
     pub fn standard(&self, d: u32) -> &Monos
         requires from { 1 ≤ d }
         requires to { d ≤ self.now.degree }
         ensures list { result.now ≡ standard_of self.now d }
         ensures standard { (G : PGroup) → self.now.group ≡ Some G
-            → AreStandard (largest_residue G) (cohomology G) (generators_of (largest_residue G) self.now.generators) d result.now }
+            → AreStandard (largest_residue G) (cohomology G)
+            (generators_of (largest_residue G) self.now.generators) d result.now }
     {
         &self.known.degrees[d as usize - 1].standard.monomials
     }
@@ -168,8 +192,10 @@ impl Ring {
         requires within { i < length (standard_of self.now d) }
         ensures modulus { modulus_of result ≡ self.now.prime }
         ensures length { (G : PGroup) → self.now.group ≡ Some G → length (entries_of result) ≡ rank_of G d }
-        ensures value { (G : PGroup) → self.now.group ≡ Some G → vector (largest_residue G) (entries_of result)
-            ≡ evaluate (cohomology G) (generators_of (largest_residue G) self.now.generators) (slice_index_or (standard_of self.now d) i []) }
+        ensures value { (G : PGroup) → self.now.group ≡ Some G
+            → vector (largest_residue G) (entries_of result)
+            ≡ evaluate (cohomology G) (generators_of (largest_residue G) self.now.generators)
+            (slice_index_or (standard_of self.now d) i []) }
     {
         self.known.degrees[d as usize - 1].standard.values.row(i)
     }
@@ -182,7 +208,8 @@ impl Ring {
         requires length { (G : PGroup) → self.now.group ≡ Some G → length (entries_of class) ≡ rank_of G d }
         ensures degree { IfOk result (λ f. f.degree ≡ d) }
         ensures form { IfOk result (λ f. (G : PGroup) → self.now.group ≡ Some G
-            → IsNormalForm (largest_residue G) (cohomology G) (generators_of (largest_residue G) self.now.generators) d
+            → IsNormalForm (largest_residue G) (cohomology G)
+            (generators_of (largest_residue G) self.now.generators) d
             (vector (largest_residue G) (entries_of class.entry)) f.terms) }
     {
         let degree = &self.known.degrees[d as usize - 1];

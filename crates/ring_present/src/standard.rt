@@ -13,7 +13,8 @@ use std::alloc::Global;
 pub(crate) fn standard(alloc: Global, all: &Valued, kernel: &Echelon) -> Result<Valued, Memory>
     requires { length all.now.values.rows ≡ length all.now.monomials }
     ensures monomials { IfOk result (λ v. v.monomials ≡ without_pivots kernel.now.rows 0 all.now.monomials) }
-    ensures values { IfOk result (λ v. v.values ≡ record all.now.values { rows = without_pivots kernel.now.rows 0 all.now.values.rows }) }
+    ensures values { IfOk result (λ v. v.values
+        ≡ record all.now.values { rows = without_pivots kernel.now.rows 0 all.now.values.rows }) }
 {
     let mut monomials = Monos::new(alloc);
     let mut values = Matrix::new(alloc, all.values.prime(), all.values.width());

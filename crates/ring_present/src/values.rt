@@ -47,7 +47,8 @@ fn quotient(alloc: Global, m: &Mono) -> Result<Mono, Memory>
 
 // The row of a monomial of the list.
 fn row_of<'a>(all: &'a Valued, m: &Mono) -> RowRef<'a>
-    requires listed { (i : ℕ) × (i < length all.now.monomials) × (slice_index_or all.now.monomials i [] ≡ m.now) }
+    requires listed { (i : ℕ) × (i < length all.now.monomials)
+        × (slice_index_or all.now.monomials i [] ≡ m.now) }
     requires rows { length all.now.values.rows ≡ length all.now.monomials }
     ensures value { (i : ℕ) × (i < length all.now.monomials) × (slice_index_or all.now.monomials i [] ≡ m.now)
         × (entries_of result ≡ row all.now.values.rows i) }
@@ -75,7 +76,8 @@ impl<'a> Lower<'a> {
         requires one { (one.now.p ≡ prime_of self.now.group.now) × (one.now.entries ≡ 1 ∷ []) }
         requires lower { IsLower self.now.group.now self.now.lifts.now self.now.degrees.now }
         requires within { d ≤ length self.now.degrees.now }
-        requires monomial { IsMonomial (largest_residue self.now.group.now) (degrees (classes self.now.group.now self.now.lifts.now)) d m.now }
+        requires monomial { IsMonomial (largest_residue self.now.group.now)
+            (degrees (classes self.now.group.now self.now.lifts.now)) d m.now }
         ensures modulus { modulus_of result ≡ prime_of self.now.group.now }
         ensures length { length (entries_of result) ≡ rank_of self.now.group.now d }
         ensures value { vector (largest_residue self.now.group.now) (entries_of result)
@@ -88,7 +90,8 @@ impl<'a> Lower<'a> {
         }
     }
 
-    // Writes the class of a monomial of degree d, the next one: that of the monomial without its last factor, times that of the factor.
+    // Writes the class of a monomial of degree d, the next one: that of the monomial without its last factor,
+    // times that of the factor.
     fn write_value(
         &self,
         alloc: Global,
@@ -101,13 +104,15 @@ impl<'a> Lower<'a> {
         requires lower { IsLower self.now.group.now self.now.lifts.now self.now.degrees.now }
         requires heights { All (λ l. d ≤ l.degree + l.height) self.now.lifts.now }
         requires degree { d ≡ suc (length self.now.degrees.now) }
-        requires monomial { IsMonomial (largest_residue self.now.group.now) (degrees (classes self.now.group.now self.now.lifts.now)) d m.now }
+        requires monomial { IsMonomial (largest_residue self.now.group.now)
+            (degrees (classes self.now.group.now self.now.lifts.now)) d m.now }
         requires out_prime { out.old.p ≡ prime_of self.now.group.now }
         requires out_length { length out.old.entries ≡ rank_of self.now.group.now d }
         ensures prime { out.new.p ≡ out.old.p }
         ensures length { length out.new.entries ≡ length out.old.entries }
         ensures value { OnOk result (vector (largest_residue self.now.group.now) out.new.entries
-            ≡ evaluate (cohomology self.now.group.now) (classes self.now.group.now self.now.lifts.now) m.now) }
+            ≡ evaluate (cohomology self.now.group.now)
+            (classes self.now.group.now self.now.lifts.now) m.now) }
     {
         let rest = quotient(alloc, m)?;
         let lift = last_lift(self.lifts, m);
@@ -128,10 +133,12 @@ impl<'a> Lower<'a> {
         requires heights { All (λ l. d ≤ l.degree + l.height) self.now.lifts.now }
         requires degree { d ≡ suc (length self.now.degrees.now) }
         requires rank { rank ≡ rank_of self.now.group.now d }
-        requires monomials { IsMonomials (largest_residue self.now.group.now) (degrees (classes self.now.group.now self.now.lifts.now)) d monomials.now }
+        requires monomials { IsMonomials (largest_residue self.now.group.now)
+            (degrees (classes self.now.group.now self.now.lifts.now)) d monomials.now }
         ensures prime { IfOk result (λ m. m.p ≡ prime_of self.now.group.now) }
         ensures width { IfOk result (λ m. m.width ≡ rank) }
-        ensures values { IfOk result (λ m. AreValues (largest_residue self.now.group.now) (cohomology self.now.group.now) (classes self.now.group.now self.now.lifts.now)
+        ensures values { IfOk result (λ m. AreValues (largest_residue self.now.group.now)
+            (cohomology self.now.group.now) (classes self.now.group.now self.now.lifts.now)
             monomials.now m.rows) }
     {
         let p = self.group.prime();

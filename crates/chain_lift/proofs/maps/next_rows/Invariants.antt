@@ -15,5 +15,6 @@ invariant-loop-i l = record {
   rows_width : l.rows.width ≡ l.target.kernel.width;
   count : length l.rows.rows ≡ l.i;
   each : (i : ℕ) → i < l.i
-      → row l.rows.rows i ≡ section_of l.target (map_row l.algebra l.rank l.before.rows (image_row l.source i));
+      → row l.rows.rows i ≡ section_of l.target
+      (map_row l.algebra l.rank l.before.rows (image_row l.source i));
 }

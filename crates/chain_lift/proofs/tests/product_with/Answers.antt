@@ -11,5 +11,7 @@ product-requires-clause-length g c =
 
 pub product-requires-clause-out_length : goal.product-requires-clause-out_length
 product-requires-clause-out_length g c =
-    let P : PGroup → Type 0 = λ G. length c.in_ok-out.out.entries ≡ rank_of G (c.args.j + c.degree-2.result) in
-    subst P c.requires c.in_ok-out.ensures.length ∙ ap (λ k. rank_of c.args.lift.now.group (c.args.j + k)) c.degree-2.ensures
+    let P : PGroup → Type 0 = λ G. length c.in_ok-out.out.entries ≡ rank_of G
+    (c.args.j + c.degree-2.result) in
+    subst P c.requires c.in_ok-out.ensures.length
+    ∙ ap (λ k. rank_of c.args.lift.now.group (c.args.j + k)) c.degree-2.ensures

@@ -6,5 +6,7 @@ use Rattle.coho_main.proofs.reading.read_more.Goals as goal
 
 pub returns-in-Ok-extend_from_slice-clause-more : goal.returns-in-Ok-extend_from_slice-clause-more
 returns-in-Ok-extend_from_slice-clause-more g c = λ told is.
-    reads_more (file told c.args.path.now) c.args.text.now.items c.read_at.new.buf c.extend_from_slice.new.self.items c.in-Ok.count c.len-2.result (grind (arith, common_steps, c.read_at.auto.buf)) (omega arith)
+    reads_more (file told c.args.path.now) c.args.text.now.items c.read_at.new.buf
+    c.extend_from_slice.new.self.items c.in-Ok.count c.len-2.result
+    (grind (arith, common_steps, c.read_at.auto.buf)) (omega arith)
     (told_value _ _ told is c.in-Ok.ensures.bytes) (grind (arith, common_steps))

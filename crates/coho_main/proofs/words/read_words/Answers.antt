@@ -13,11 +13,13 @@ returns-in_err-one_operand-in-len1-up-clause-step c =
     let words = texts c.args.words.now in
     let first = named c.args.words.now c.name-item.result c.in-len1-up.len_at_least c.name-item.is in
     let name = string_bytes c.name-item.result in
-    let is_named : bytes_eq name (codes "group") ≡ true = ap (λ t. bytes_eq t (codes "group")) (sym c.as_str.ensures.value) ∙ sym c.eq.ensures ∙ c.if-eq.true in
+    let is_named : bytes_eq name (codes "group") ≡ true =
+    ap (λ t. bytes_eq t (codes "group")) (sym c.as_str.ensures.value) ∙ sym c.eq.ensures ∙ c.if-eq.true in
     let plain = sym c.all_plain.ensures ∙ c.if-not-all_plain.false in
     let p = err_from_is_err_and c.from_residual.result c.from_residual.ensures.1 in
     let k = kind_of c.in_err-one_operand-in-len1-up.field-0.0 in
-    rw (p.1, p.2) (unread words k (group_none words (drop 1 words) plain name first k is_named c.in_err-one_operand-in-len1-up.ensures.refused))
+    rw (p.1, p.2) (unread words k (group_none words
+    (drop 1 words) plain name first k is_named c.in_err-one_operand-in-len1-up.ensures.refused))
 
 pub returns-in_ok-one_operand-in-len1-up-clause-command :
     goal.returns-in_ok-one_operand-in-len1-up-clause-command
@@ -25,9 +27,11 @@ returns-in_ok-one_operand-in-len1-up-clause-command c =
     let words = texts c.args.words.now in
     let first = named c.args.words.now c.name-item.result c.in-len1-up.len_at_least c.name-item.is in
     let name = string_bytes c.name-item.result in
-    let is_named : bytes_eq name (codes "group") ≡ true = ap (λ t. bytes_eq t (codes "group")) (sym c.as_str.ensures.value) ∙ sym c.eq.ensures ∙ c.if-eq.true in
+    let is_named : bytes_eq name (codes "group") ≡ true =
+    ap (λ t. bytes_eq t (codes "group")) (sym c.as_str.ensures.value) ∙ sym c.eq.ensures ∙ c.if-eq.true in
     let plain = sym c.all_plain.ensures ∙ c.if-not-all_plain.false in
-    group_found words (drop 1 words) plain name first is_named c.in_ok-one_operand-in-len1-up.field-0.now c.in_ok-one_operand-in-len1-up.ensures.found
+    group_found words (drop 1 words) plain name first is_named c.in_ok-one_operand-in-len1-up.field-0.now
+    c.in_ok-one_operand-in-len1-up.ensures.found
 
 pub returns-in_ok-one_operand-in-len1-up-clause-step :
     goal.returns-in_ok-one_operand-in-len1-up-clause-step
@@ -35,9 +39,12 @@ returns-in_ok-one_operand-in-len1-up-clause-step c =
     let words = texts c.args.words.now in
     let first = named c.args.words.now c.name-item.result c.in-len1-up.len_at_least c.name-item.is in
     let name = string_bytes c.name-item.result in
-    let is_named : bytes_eq name (codes "group") ≡ true = ap (λ t. bytes_eq t (codes "group")) (sym c.as_str.ensures.value) ∙ sym c.eq.ensures ∙ c.if-eq.true in
+    let is_named : bytes_eq name (codes "group") ≡ true =
+    ap (λ t. bytes_eq t (codes "group")) (sym c.as_str.ensures.value) ∙ sym c.eq.ensures ∙ c.if-eq.true in
     let plain = sym c.all_plain.ensures ∙ c.if-not-all_plain.false in
-    reads words (given.Group c.in_ok-one_operand-in-len1-up.field-0) (group_found words (drop 1 words) plain name first is_named c.in_ok-one_operand-in-len1-up.field-0.now c.in_ok-one_operand-in-len1-up.ensures.found)
+    reads words (given.Group c.in_ok-one_operand-in-len1-up.field-0)
+    (group_found words (drop 1 words) plain name first is_named c.in_ok-one_operand-in-len1-up.field-0.now
+    c.in_ok-one_operand-in-len1-up.ensures.found)
 
 pub returns-in_err-path-in-len1-up-2-clause-step :
     goal.returns-in_err-path-in-len1-up-2-clause-step
@@ -45,11 +52,14 @@ returns-in_err-path-in-len1-up-2-clause-step c =
     let words = texts c.args.words.now in
     let first = named c.args.words.now c.name-item-2.result c.in-len1-up.len_at_least c.name-item-2.is in
     let name = string_bytes c.name-item-2.result in
-    let is_named : bytes_eq name (codes "resolve") ≡ true = ap (λ t. bytes_eq t (codes "resolve")) (sym c.as_str-2.ensures.value) ∙ sym c.eq-2.ensures ∙ c.if-eq-2.true in
+    let is_named : bytes_eq name (codes "resolve") ≡ true =
+    ap (λ t. bytes_eq t (codes "resolve")) (sym c.as_str-2.ensures.value) ∙ sym c.eq-2.ensures
+    ∙ c.if-eq-2.true in
     let plain = sym c.all_plain.ensures ∙ c.if-not-all_plain.false in
     let r = c.from_residual-in_err-path-in-len1-up-2 in
     let p = err_from_is_err_and r.result r.ensures.1 in
-    rw (p.1, p.2) (stopped words (file_and_degree words ≡ None) c.in_err-path-in-len1-up-2.field-0.0 c.in_err-path-in-len1-up-2.ensures.refused
+    rw (p.1, p.2) (stopped words (file_and_degree words
+    ≡ None) c.in_err-path-in-len1-up-2.field-0.0 c.in_err-path-in-len1-up-2.ensures.refused
     (λ none. at_resolve words (drop 1 words) plain name first is_named ∙ ap (of_degree Resolve) none))
 
 pub returns-in_ok-path-in-len1-up-2-clause-command :
@@ -58,18 +68,25 @@ returns-in_ok-path-in-len1-up-2-clause-command c =
     let words = texts c.args.words.now in
     let first = named c.args.words.now c.name-item-2.result c.in-len1-up.len_at_least c.name-item-2.is in
     let name = string_bytes c.name-item-2.result in
-    let is_named : bytes_eq name (codes "resolve") ≡ true = ap (λ t. bytes_eq t (codes "resolve")) (sym c.as_str-2.ensures.value) ∙ sym c.eq-2.ensures ∙ c.if-eq-2.true in
+    let is_named : bytes_eq name (codes "resolve") ≡ true =
+    ap (λ t. bytes_eq t (codes "resolve")) (sym c.as_str-2.ensures.value) ∙ sym c.eq-2.ensures
+    ∙ c.if-eq-2.true in
     let plain = sym c.all_plain.ensures ∙ c.if-not-all_plain.false in
-    at_resolve words (drop 1 words) plain name first is_named ∙ ap (of_degree Resolve) c.in_ok-path-in-len1-up-2.ensures.found
+    at_resolve words (drop 1 words) plain name first is_named
+    ∙ ap (of_degree Resolve) c.in_ok-path-in-len1-up-2.ensures.found
 
 pub returns-in_ok-path-in-len1-up-2-clause-step : goal.returns-in_ok-path-in-len1-up-2-clause-step
 returns-in_ok-path-in-len1-up-2-clause-step c =
     let words = texts c.args.words.now in
     let first = named c.args.words.now c.name-item-2.result c.in-len1-up.len_at_least c.name-item-2.is in
     let name = string_bytes c.name-item-2.result in
-    let is_named : bytes_eq name (codes "resolve") ≡ true = ap (λ t. bytes_eq t (codes "resolve")) (sym c.as_str-2.ensures.value) ∙ sym c.eq-2.ensures ∙ c.if-eq-2.true in
+    let is_named : bytes_eq name (codes "resolve") ≡ true =
+    ap (λ t. bytes_eq t (codes "resolve")) (sym c.as_str-2.ensures.value) ∙ sym c.eq-2.ensures
+    ∙ c.if-eq-2.true in
     let plain = sym c.all_plain.ensures ∙ c.if-not-all_plain.false in
-    reads words (given.Resolve c.in_ok-path-in-len1-up-2.path c.in_ok-path-in-len1-up-2.degree) (at_resolve words (drop 1 words) plain name first is_named ∙ ap (of_degree Resolve) c.in_ok-path-in-len1-up-2.ensures.found)
+    reads words (given.Resolve c.in_ok-path-in-len1-up-2.path c.in_ok-path-in-len1-up-2.degree)
+    (at_resolve words (drop 1 words) plain name first is_named
+    ∙ ap (of_degree Resolve) c.in_ok-path-in-len1-up-2.ensures.found)
 
 pub returns-in_err-path-in-len1-up-3-clause-step :
     goal.returns-in_err-path-in-len1-up-3-clause-step
@@ -77,11 +94,14 @@ returns-in_err-path-in-len1-up-3-clause-step c =
     let words = texts c.args.words.now in
     let first = named c.args.words.now c.name-item-3.result c.in-len1-up.len_at_least c.name-item-3.is in
     let name = string_bytes c.name-item-3.result in
-    let is_named : bytes_eq name (codes "ring") ≡ true = ap (λ t. bytes_eq t (codes "ring")) (sym c.as_str-3.ensures.value) ∙ sym c.eq-3.ensures ∙ c.if-eq-3.true in
+    let is_named : bytes_eq name (codes "ring") ≡ true =
+    ap (λ t. bytes_eq t (codes "ring")) (sym c.as_str-3.ensures.value) ∙ sym c.eq-3.ensures
+    ∙ c.if-eq-3.true in
     let plain = sym c.all_plain.ensures ∙ c.if-not-all_plain.false in
     let r = c.from_residual-in_err-path-in-len1-up-3 in
     let p = err_from_is_err_and r.result r.ensures.1 in
-    rw (p.1, p.2) (stopped words (file_and_degree words ≡ None) c.in_err-path-in-len1-up-3.field-0.0 c.in_err-path-in-len1-up-3.ensures.refused
+    rw (p.1, p.2) (stopped words (file_and_degree words
+    ≡ None) c.in_err-path-in-len1-up-3.field-0.0 c.in_err-path-in-len1-up-3.ensures.refused
     (λ none. at_ring words (drop 1 words) plain name first is_named ∙ ap (of_degree Ring) none))
 
 pub returns-in_ok-path-in-len1-up-3-clause-command :
@@ -90,15 +110,22 @@ returns-in_ok-path-in-len1-up-3-clause-command c =
     let words = texts c.args.words.now in
     let first = named c.args.words.now c.name-item-3.result c.in-len1-up.len_at_least c.name-item-3.is in
     let name = string_bytes c.name-item-3.result in
-    let is_named : bytes_eq name (codes "ring") ≡ true = ap (λ t. bytes_eq t (codes "ring")) (sym c.as_str-3.ensures.value) ∙ sym c.eq-3.ensures ∙ c.if-eq-3.true in
+    let is_named : bytes_eq name (codes "ring") ≡ true =
+    ap (λ t. bytes_eq t (codes "ring")) (sym c.as_str-3.ensures.value) ∙ sym c.eq-3.ensures
+    ∙ c.if-eq-3.true in
     let plain = sym c.all_plain.ensures ∙ c.if-not-all_plain.false in
-    at_ring words (drop 1 words) plain name first is_named ∙ ap (of_degree Ring) c.in_ok-path-in-len1-up-3.ensures.found
+    at_ring words (drop 1 words) plain name first is_named
+    ∙ ap (of_degree Ring) c.in_ok-path-in-len1-up-3.ensures.found
 
 pub returns-in_ok-path-in-len1-up-3-clause-step : goal.returns-in_ok-path-in-len1-up-3-clause-step
 returns-in_ok-path-in-len1-up-3-clause-step c =
     let words = texts c.args.words.now in
     let first = named c.args.words.now c.name-item-3.result c.in-len1-up.len_at_least c.name-item-3.is in
     let name = string_bytes c.name-item-3.result in
-    let is_named : bytes_eq name (codes "ring") ≡ true = ap (λ t. bytes_eq t (codes "ring")) (sym c.as_str-3.ensures.value) ∙ sym c.eq-3.ensures ∙ c.if-eq-3.true in
+    let is_named : bytes_eq name (codes "ring") ≡ true =
+    ap (λ t. bytes_eq t (codes "ring")) (sym c.as_str-3.ensures.value) ∙ sym c.eq-3.ensures
+    ∙ c.if-eq-3.true in
     let plain = sym c.all_plain.ensures ∙ c.if-not-all_plain.false in
-    reads words (given.Ring c.in_ok-path-in-len1-up-3.path c.in_ok-path-in-len1-up-3.degree) (at_ring words (drop 1 words) plain name first is_named ∙ ap (of_degree Ring) c.in_ok-path-in-len1-up-3.ensures.found)
+    reads words (given.Ring c.in_ok-path-in-len1-up-3.path c.in_ok-path-in-len1-up-3.degree)
+    (at_ring words (drop 1 words) plain name first is_named
+    ∙ ap (of_degree Ring) c.in_ok-path-in-len1-up-3.ensures.found)

@@ -20,7 +20,8 @@ returns-clause-report c =
     let next : c.args.n + 1 ≡ suc c.args.n = omega arith in
     record {
       prime = c.in_ok-ring.ensures.prime;
-      order_is = c.order-order.ensures.value ∙ ap (λ (G : PGroup). order G.table) (c.group.ensures ∙ c.algebra.ensures);
+      order_is = c.order-order.ensures.value
+          ∙ ap (λ (G : PGroup). order G.table) (c.group.ensures ∙ c.algebra.ensures);
       degree = c.in_ok-ring.ensures.degree;
       ranks = c.in_ok-ranks.ensures ∙ ap (ranks_below G) next;
       generators = generators_of q ring.generators;

@@ -20,7 +20,8 @@ returns-in_err-add_degree-clause-refused c =
     let below : k < c.args.n = omega arith in
     rw p.1 (subst (λ e. IsRefusal G c.args.n cap (passed_up e)) (sym p.2)
     (refused G k c.args.n cap c.in_err-add_degree.field-0.0 below c.loop-d.invariant.few
-    (subst (λ d. ring.IsRefusal G (suc d) cap c.in_err-add_degree.field-0.0) c.loop-d.invariant.degree c.in_err-add_degree.ensures.refused)))
+    (subst (λ d. ring.IsRefusal G (suc d) cap c.in_err-add_degree.field-0.0) c.loop-d.invariant.degree
+    c.in_err-add_degree.ensures.refused)))
 
 pub returns-clause-few : goal.returns-clause-few
 returns-clause-few c =
@@ -42,7 +43,10 @@ loop-d-preserved c =
       prime = added.prime;
       group = subst (λ o. IfSome o (λ H. H ≡ G)) (sym added.group) refl;
       degree = degree;
-      presentation = subst (λ n. IsPresentation G n (generators_of (largest_residue G) new.generators) new.relations) degree added.presentation;
+      presentation = subst (λ n. IsPresentation G n
+          (generators_of (largest_residue G) new.generators) new.relations) degree added.presentation;
       few = few_next G k c.args.cap old.generators old.relations before.presentation before.few
-          (λ ms M. added.counted ms (subst (λ d. IsMonomials (largest_residue G) (map (λ g. g.degree) old.generators) (suc d) ms) (sym e) M));
+          (λ ms M. added.counted ms (subst
+          (λ d. IsMonomials (largest_residue G) (map (λ g. g.degree) old.generators) (suc d) ms)
+          (sym e) M));
     }

@@ -11,6 +11,7 @@ invariant-loop-d l = record {
   prime : l.ring.prime ≡ l.res.group.table.p;
   group : IfSome l.ring.group (λ G. G ≡ l.res.group);
   degree : l.ring.degree ≡ l._d;
-  presentation : IsPresentation l.res.group l._d (generators_of (largest_residue l.res.group) l.ring.generators) l.ring.relations;
+  presentation : IsPresentation l.res.group l._d
+      (generators_of (largest_residue l.res.group) l.ring.generators) l.ring.relations;
   few : HasFewMonomials l.res.group l._d l.cap;
 }

@@ -14,12 +14,21 @@ returns c =
     let ds = map (λ g. g.degree) c.report.inside.ring.generators in
     let rs = c.report.inside.ring.relations in
     subst (λ (r : ReportValue). map bytes c.append-2.new.self.items ≡ report_lines r) same
-    (two_parts bytes c.in_ok-lines.lines.items c.push.new.self.items c.append.new.self.items c.push-2.new.self.items c.append-2.new.self.items
-    c.in_ok-generator_lines.field-0.items c.in_ok-relation_lines.field-0.items c.into_bytes.result c.into_bytes-2.result
-    _ (generator_lines ds) (relation_lines ds rs) (numbered (codes "generators ") (length ds)) (numbered (codes "relations ") (length rs))
-    c.in_ok-push.ensures.items c.in_ok-append.ensures.items c.in_ok-push-2.ensures.items c.in_ok-append-2.ensures.items
-    (subst (λ (r : ReportValue). map bytes c.in_ok-lines.lines.items ≡ head_lines r) (sym same) c.in_ok-lines.ensures)
-    (ap bytes c.into_bytes.ensures.value ∙ c.in_ok-format.ensures.ok ∙ ap (numbered (codes "generators ")) (c.generators-generators.ensures ∙ ap (λ (r : ReportValue). length r.generators) (sym same)))
+    (two_parts bytes c.in_ok-lines.lines.items c.push.new.self.items c.append.new.self.items
+    c.push-2.new.self.items c.append-2.new.self.items
+    c.in_ok-generator_lines.field-0.items c.in_ok-relation_lines.field-0.items c.into_bytes.result
+    c.into_bytes-2.result
+    _ (generator_lines ds) (relation_lines ds rs) (numbered (codes "generators ") (length ds))
+    (numbered (codes "relations ") (length rs))
+    c.in_ok-push.ensures.items c.in_ok-append.ensures.items c.in_ok-push-2.ensures.items
+    c.in_ok-append-2.ensures.items
+    (subst (λ (r : ReportValue). map bytes c.in_ok-lines.lines.items ≡ head_lines r)
+    (sym same) c.in_ok-lines.ensures)
+    (ap bytes c.into_bytes.ensures.value ∙ c.in_ok-format.ensures.ok
+    ∙ ap (numbered (codes "generators ")) (c.generators-generators.ensures
+    ∙ ap (λ (r : ReportValue). length r.generators) (sym same)))
     (c.in_ok-generator_lines.ensures ∙ ap (λ (g : Generators). generator_lines g.degrees) c.gens.ensures)
-    (ap bytes c.into_bytes-2.ensures.value ∙ c.in_ok-format-2.ensures.ok ∙ ap (numbered (codes "relations ")) (c.relations-relations.ensures ∙ ap (λ (r : ReportValue). length r.relations) (sym same)))
+    (ap bytes c.into_bytes-2.ensures.value ∙ c.in_ok-format-2.ensures.ok
+    ∙ ap (numbered (codes "relations ")) (c.relations-relations.ensures
+    ∙ ap (λ (r : ReportValue). length r.relations) (sym same)))
     c.in_ok-relation_lines.ensures)

@@ -5,4 +5,5 @@ use Rattle.gc_poly.proofs.enumeration.count_monomials.Given as goal
 
 -- the counts of the monomials in the generators from i on
 abbrev pub invariant-loop-i : goal.invariant-loop-i
-invariant-loop-i l = (j : ℕ) → j < 25 → get_or l.counts j 0 ≡ min (length (all_monomials (greatest l.gens) (drop l.i l.gens.degrees) j)) (2 ^ 64 - 1)
+invariant-loop-i l = (j : ℕ) → j < 25 → get_or l.counts j 0 ≡ min
+    (length (all_monomials (greatest l.gens) (drop l.i l.gens.degrees) j)) (2 ^ 64 - 1)

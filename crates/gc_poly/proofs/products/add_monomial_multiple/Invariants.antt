@@ -6,4 +6,5 @@ use Rattle.gc_poly.proofs.products.add_monomial_multiple.Given as goal
 
 -- the first terms are multiplied and added
 abbrev pub invariant-loop-i : goal.invariant-loop-i
-invariant-loop-i l = IsSumOf l.gens l.initial.out.degree (l.initial.out.terms ++ multiple (greatest l.gens) l.gens.degrees l.c l.m (take l.i l.f.terms)) l.out
+invariant-loop-i l = IsSumOf l.gens l.initial.out.degree
+    (l.initial.out.terms ++ multiple (greatest l.gens) l.gens.degrees l.c l.m (take l.i l.f.terms)) l.out

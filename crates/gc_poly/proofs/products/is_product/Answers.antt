@@ -11,10 +11,16 @@ returns-then-modulus-eq2 c = let m = joined c.args.a.now c.args.b.now in
 
 pub returns-then-exponent-gt1 : goal.returns-then-exponent-gt1
 returns-then-exponent-gt1 c =
-    sym (fits-not (c.args.gens.now.prime - 1) c.args.gens.now.degrees (joined c.args.a.now c.args.b.now) c.loop-i.i (λ e. c.if-modulus-eq2.false (omega (arith, e))) (omega arith)
+    sym (fits-not (c.args.gens.now.prime - 1) c.args.gens.now.degrees
+    (joined c.args.a.now c.args.b.now) c.loop-i.i (λ e. c.if-modulus-eq2.false (omega (arith, e)))
+    (omega arith)
     (omega arith) (omega (arith, exponent-joined c.args.a.now c.args.b.now c.loop-i.i)))
 
 pub returns : goal.returns
 returns c =
     sym (fits-all (c.args.gens.now.prime - 1) c.args.gens.now.degrees (joined c.args.a.now c.args.b.now)
-    (λ k l o. omega (arith, exponent-joined c.args.a.now c.args.b.now k, c.loop-i.invariant k (omega arith) o)))
+    (λ k l o. omega (
+      arith,
+      exponent-joined c.args.a.now c.args.b.now k,
+      c.loop-i.invariant k (omega arith) o,
+    )))

@@ -6,4 +6,5 @@ use Rattle.gc_poly.proofs.products.mul.Given as goal
 
 -- the products with the first terms are added
 abbrev pub invariant-loop-i : goal.invariant-loop-i
-invariant-loop-i l = IsSumOf l.gens (l.a.degree + l.b.degree) (product (greatest l.gens) l.gens.degrees (take l.i l.a.terms) l.b.terms) l.out
+invariant-loop-i l = IsSumOf l.gens (l.a.degree + l.b.degree)
+    (product (greatest l.gens) l.gens.degrees (take l.i l.a.terms) l.b.terms) l.out

@@ -7,4 +7,5 @@ use Rattle.gc_poly.specs.Substitution.{polynomials, standing}
 use Rattle.gc_poly.proofs.substitution.image_of.Given as goal
 
 abbrev pub invariant-loop-i : goal.invariant-loop-i
-invariant-loop-i l = IsSumOf l.to (degree (map (λ f. f.degree) l.images) (take l.i l.m)) (evaluate (polynomials (greatest l.to) l.to.degrees) (standing l.images) (take l.i l.m)) l.out
+invariant-loop-i l = IsSumOf l.to (degree (map (λ f. f.degree) l.images) (take l.i l.m))
+    (evaluate (polynomials (greatest l.to) l.to.degrees) (standing l.images) (take l.i l.m)) l.out

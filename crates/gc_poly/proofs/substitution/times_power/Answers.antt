@@ -9,4 +9,5 @@ mul-requires-clause-degrees c =
     omega (arith, mul-le-mul_left c.args.g.now.degree l, c.loop-k.invariant.degree_is)
 
 pub loop-k-preserved : goal.loop-k-preserved
-loop-k-preserved c = power-step c.args.gens.now c.args.f.degree 0 c.loop-k._k c.args.f.terms c.args.g.now c.loop-k.out c.in_ok-out.out c.loop-k.invariant c.in_ok-out.ensures
+loop-k-preserved c = power-step c.args.gens.now c.args.f.degree 0 c.loop-k._k c.args.f.terms c.args.g.now
+    c.loop-k.out c.in_ok-out.out c.loop-k.invariant c.in_ok-out.ensures

@@ -14,19 +14,27 @@ pub loop-j-preserved : goal.loop-j-preserved
 loop-j-preserved c =
     let dimension : ℕ = c.order.result * c.rows.result in
     let unit : c.set_unit.new.self.entries ≡ unit_row dimension c.loop-j.j =
-    ap (λ (x : RowValue). x.entries) c.set_unit.ensures ∙ ap (λ n. unit_row n c.loop-j.j) c.loop-j.invariant.unit_length in
-    let value : c.apply.new.out.entries ≡ map_row c.args.algebra.now c.args.target c.args.rows.now.rows (unit_row dimension c.loop-j.j) =
-    c.apply.ensures.value ∙ ap (map_row c.args.algebra.now c.args.target c.args.rows.now.rows) (c.view.ensures.entries ∙ unit) in
-    let pushed : c.push.new.self.rows ≡ c.loop-j.matrix.rows ++ _ ∷ [] = ap (λ (x : MatrixValue). x.rows) c.in_ok-push.ensures.pushed in
+    ap (λ (x : RowValue). x.entries) c.set_unit.ensures
+    ∙ ap (λ n. unit_row n c.loop-j.j) c.loop-j.invariant.unit_length in
+    let value : c.apply.new.out.entries ≡ map_row c.args.algebra.now c.args.target c.args.rows.now.rows
+    (unit_row dimension c.loop-j.j) =
+    c.apply.ensures.value ∙ ap (map_row c.args.algebra.now c.args.target c.args.rows.now.rows)
+    (c.view.ensures.entries ∙ unit) in
+    let pushed : c.push.new.self.rows ≡ c.loop-j.matrix.rows ++ _ ∷ [] =
+    ap (λ (x : MatrixValue). x.rows) c.in_ok-push.ensures.pushed in
     record {
       unit_prime = ap (λ (x : RowValue). x.p) c.set_unit.ensures ∙ c.loop-j.invariant.unit_prime;
       unit_length = ap (λ (x : List ℕ). length x) unit ∙ length-set _ _ _ ∙ length-replicate dimension 0;
       value_prime = c.apply.ensures.prime ∙ c.loop-j.invariant.value_prime;
       value_length = ap (λ (x : List ℕ). length x) value
-          ∙ ((layer_coordinates c.args.algebra.now c.args.target).row-is _).length_is ∙ sym c.requires.rows_width;
-      matrix_prime = ap (λ (x : MatrixValue). x.p) c.in_ok-push.ensures.pushed ∙ c.loop-j.invariant.matrix_prime;
-      matrix_width = ap (λ (x : MatrixValue). x.width) c.in_ok-push.ensures.pushed ∙ c.loop-j.invariant.matrix_width;
-      count = ap (λ (x : List (List ℕ)). length x) pushed ∙ length_push c.loop-j.matrix.rows _ ∙ ap (λ n. n + 1) c.loop-j.invariant.count;
+          ∙ ((layer_coordinates c.args.algebra.now c.args.target).row-is _).length_is
+          ∙ sym c.requires.rows_width;
+      matrix_prime = ap (λ (x : MatrixValue). x.p) c.in_ok-push.ensures.pushed
+          ∙ c.loop-j.invariant.matrix_prime;
+      matrix_width = ap (λ (x : MatrixValue). x.width) c.in_ok-push.ensures.pushed
+          ∙ c.loop-j.invariant.matrix_width;
+      count = ap (λ (x : List (List ℕ)). length x) pushed ∙ length_push c.loop-j.matrix.rows _
+          ∙ ap (λ n. n + 1) c.loop-j.invariant.count;
       each = rows-step dimension c.loop-j.j (map_row c.args.algebra.now c.args.target c.args.rows.now.rows)
           c.loop-j.matrix.rows _ _ _ _ c.loop-j.invariant.count c.loop-j.invariant.each c.apply.ensures.value
           (c.view.ensures.entries ∙ unit) c.view-in-loop-j.ensures.entries pushed;

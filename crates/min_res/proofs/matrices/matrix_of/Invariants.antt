@@ -14,5 +14,6 @@ invariant-loop-j l = record {
   matrix_prime : l.matrix.p ≡ l.rows.p;
   matrix_width : l.matrix.width ≡ l.rows.width;
   count : length l.matrix.rows ≡ l.j;
-  each : (i : ℕ) → i < l.j → row l.matrix.rows i ≡ map_row l.algebra l.target l.rows.rows (unit_row l.dimension i);
+  each : (i : ℕ) → i < l.j → row l.matrix.rows i ≡ map_row l.algebra l.target l.rows.rows
+      (unit_row l.dimension i);
 }

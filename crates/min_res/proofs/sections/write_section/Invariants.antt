@@ -7,5 +7,6 @@ use Rattle.min_res.proofs.sections.write_section.Given as goal
 abbrev pub invariant-loop-k : goal.invariant-loop-k
 invariant-loop-k l = record {
   prime : l.out.p ≡ l.rows.p;
-  sum : IsPartialCombination l.rows.p l.rows.width (λ k. entry (entries_of l.v) (pivot (row l.list.rows k))) l.rows.rows l.k l.out.entries;
+  sum : IsPartialCombination l.rows.p l.rows.width
+      (λ k. entry (entries_of l.v) (pivot (row l.list.rows k))) l.rows.rows l.k l.out.entries;
 }

@@ -20,7 +20,14 @@ push_factors-requires t c =
     let k = c.args.k in
     let consistent = c.presentation-presentation.ensures.consistent in
     let few = few-generators c.args.c.now.prime c.args.c.now.gens consistent.prime consistent.few in
-    omega (arith, few, c.requires.last, c.requires.word.len, length-take (length w - k) (drop k w), length-drop k w)
+    omega (
+      arith,
+      few,
+      c.requires.last,
+      c.requires.word.len,
+      length-take (length w - k) (drop k w),
+      length-drop k w,
+    )
 
 pub passed_by-requires-clause-count : goal.passed_by-requires-clause-count
 passed_by-requires-clause-count t c =
@@ -38,8 +45,10 @@ passed_by-requires-clause-after t c =
     ∙ c.in_ok-push_factors.ensures
     ∙ ap (λ r. r ++ spell (k + 1) (take (length w - k) (drop k w))) c.new-right.ensures.items
     ∙ ap₂ spell one (between_to_end w k (length w) (omega arith)) in
-    subst (λ Q. All (λ j. (k < j) × (j ≤ Q.gens)) c.deref.result.now) (sym c.presentation-presentation.ensures.value)
-    (subst (All (λ j. (k < j) × (j ≤ c.args.c.now.gens))) (sym right) (right-after c.args.c.now k w c.requires.word.len c.requires.last))
+    subst (λ Q. All (λ j. (k < j) × (j ≤ Q.gens)) c.deref.result.now)
+    (sym c.presentation-presentation.ensures.value)
+    (subst (All (λ j. (k < j) × (j ≤ c.args.c.now.gens))) (sym right)
+    (right-after c.args.c.now k w c.requires.word.len c.requires.last))
 
 pub loop-j-init : goal.loop-j-init
 loop-j-init t c =
@@ -60,10 +69,12 @@ loop-j-init t c =
     let put = spell 1 (take k w) ++ k ∷ [] in
     let group = c.presentation-presentation.ensures.group in
     record {
-      word = subst (IsWord P.prime P.gens 0) (sym c.put_generator.ensures) (product-word P consistent.prime consistent.valid group put);
+      word = subst (IsWord P.prime P.gens 0) (sym c.put_generator.ensures)
+          (product-word P consistent.prime consistent.valid group put);
       product =
           ap₂ (λ a js. multiply P a (product_of P js)) c.put_generator.ensures uncollected
-          ∙ collected P consistent.prime consistent.valid group w k c.requires.word c.requires.first c.requires.last;
+          ∙ collected P consistent.prime consistent.valid group w k c.requires.word c.requires.first
+          c.requires.last;
     }
 
 pub collect_generator-requires : goal.collect_generator-requires
@@ -85,7 +96,8 @@ collect_generator-requires t c =
     let After : ℕ → Type 0 = λ j. (k < j) × (j ≤ P.gens) in
     let after : All After c.deref-j-items.result.now =
     subst (All After) (sym uncollected)
-    (passed-after P consistent.valid k c.requires.first (spell (suc k) (drop k w)) (right-after P k w c.requires.word.len c.requires.last)) in
+    (passed-after P consistent.valid k c.requires.first (spell (suc k) (drop k w))
+    (right-after P k w c.requires.word.len c.requires.last)) in
     let j = All-get_or After c.deref-j-items.result.now c.loop-j.j-index 0 c.loop-j-test.true after in
     (omega (arith, j.0, j.1, c.decreases), (omega (arith, j.0), (j.1, c.loop-j.invariant.word)))
 
@@ -93,12 +105,15 @@ pub loop-j-preserved : goal.loop-j-preserved
 loop-j-preserved t c =
     let consistent = c.presentation-presentation.ensures.consistent in
     let more =
-    collected-more c.args.c.now consistent.prime consistent.valid c.presentation-presentation.ensures.group c.loop-j.word c.collect_generator.new.word
-    c.deref-j-items.result.now c.loop-j.j-index _ c.loop-j.invariant.word c.in_ok-collect_generator.ensures c.loop-j-test.true c.loop-j.invariant.product in
+    collected-more c.args.c.now consistent.prime consistent.valid c.presentation-presentation.ensures.group
+    c.loop-j.word c.collect_generator.new.word
+    c.deref-j-items.result.now c.loop-j.j-index _ c.loop-j.invariant.word c.in_ok-collect_generator.ensures
+    c.loop-j-test.true c.loop-j.invariant.product in
     record { word = more.0; product = more.1 }
 
 pub returns : goal.returns
 returns t c =
     let consistent = c.presentation-presentation.ensures.consistent in
-    collected-all c.args.c.now consistent.prime consistent.valid c.presentation-presentation.ensures.group c.loop-j.word c.deref-j-items.result.now
+    collected-all c.args.c.now consistent.prime consistent.valid c.presentation-presentation.ensures.group
+    c.loop-j.word c.deref-j-items.result.now
     c.loop-j.j-index _ c.loop-j.invariant.word c.loop-j-test.false c.loop-j.invariant.product

@@ -9,5 +9,6 @@ decreases-collect_generator l = l.c.now.gens - l.k
 abbrev pub invariant-loop-j : goal.invariant-loop-j
 invariant-loop-j l = record {
   word : IsWord l.c.prime l.c.gens 0 l.word;
-  product : multiply l.c l.word (product_of l.c (drop l.j-index l.j-items)) ≡ multiply l.c l.fn.word (generator 1 l.c.gens l.k);
+  product : multiply l.c l.word (product_of l.c (drop l.j-index l.j-items)) ≡ multiply l.c l.fn.word
+      (generator 1 l.c.gens l.k);
 }

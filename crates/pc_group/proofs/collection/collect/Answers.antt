@@ -20,7 +20,8 @@ loop-k-init c =
       word = subst (IsWord P.prime P.gens 0) (sym one) group.group.one-word;
       product =
           ap (λ w. multiply P w (product_of P c.args.gens.now)) one
-          ∙ group.group.one-mul (product_of P c.args.gens.now) (product-word P consistent.prime consistent.valid group c.args.gens.now);
+          ∙ group.group.one-mul (product_of P c.args.gens.now)
+          (product-word P consistent.prime consistent.valid group c.args.gens.now);
     }
 
 pub loop-k-preserved : goal.loop-k-preserved
@@ -30,13 +31,17 @@ loop-k-preserved c =
     let w = c.loop-k.word.items in
     let k = get_or c.args.gens.now c.loop-k.k-index 0 in
     let next : c.collect_generator.new.word ≡ multiply P w (generator 1 P.gens k) =
-    c.in_ok-collect_generator.ensures ∙ ap (λ v. multiply P v (generator 1 P.gens k)) c.deref_mut.ensures.value in
+    c.in_ok-collect_generator.ensures ∙ ap
+    (λ v. multiply P v (generator 1 P.gens k)) c.deref_mut.ensures.value in
     let more =
-    collected-more P consistent.prime consistent.valid c.presentation.ensures.group w c.collect_generator.new.word c.args.gens.now c.loop-k.k-index
-    (product_of P c.args.gens.now) c.loop-k.invariant.word next c.loop-k-test.true c.loop-k.invariant.product in
+    collected-more P consistent.prime consistent.valid c.presentation.ensures.group w
+    c.collect_generator.new.word c.args.gens.now c.loop-k.k-index
+    (product_of P c.args.gens.now) c.loop-k.invariant.word next c.loop-k-test.true c.loop-k.invariant.product
+    in
     let same : refill (length w) w c.collect_generator.new.word ≡ c.collect_generator.new.word =
     refilled w c.collect_generator.new.word (more.0.len ∙ sym c.loop-k.invariant.word.len) in
     record {
       word = subst (IsWord P.prime P.gens 0) (sym same) more.0;
-      product = ap (λ v. multiply P v (product_of P (drop (c.loop-k.k-index + 1) c.args.gens.now))) same ∙ more.1;
+      product = ap (λ v. multiply P v (product_of P (drop (c.loop-k.k-index + 1) c.args.gens.now))) same
+          ∙ more.1;
     }

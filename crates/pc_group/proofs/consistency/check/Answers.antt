@@ -12,7 +12,8 @@ returns-in-Ok-Ok-clause-group c =
 
 pub returns-in-Ok-Err-clause-refused : goal.returns-in-Ok-Err-clause-refused
 returns-in-Ok-Err-clause-refused c =
-    let named : first_fault c.args.p ≡ Some c.in-Ok-Err.name = rw c.in-Ok-Err.field-0-is at c.in-Ok-Err.ensures.outcome in (
+    let named : first_fault c.args.p ≡ Some c.in-Ok-Err.name =
+    rw c.in-Ok-Err.field-0-is at c.in-Ok-Err.ensures.outcome in (
       refl,
       named,
       λ R.

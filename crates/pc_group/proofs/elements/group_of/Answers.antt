@@ -11,22 +11,26 @@ from_law-requires-clause-small c =
     let step = rw c.in-Ok.is at c.in_ok-table.ensures.outcome in
     small c.presentation-p.result.now c.gens.ensures.prime c.gens.ensures.valid
     (subst GroupClaims (sym c.presentation-p.ensures.value) c.presentation-p.ensures.group)
-    (prime_value c.prime.result) c.gens.result c.in-Ok.table.items c.prime.ensures.value c.gens.ensures.value step.1
-    (subst (λ P. P.prime ^ P.gens ≤ 256) (sym c.presentation-p.ensures.value) c.presentation-p.ensures.consistent.few)
+    (prime_value c.prime.result) c.gens.result c.in-Ok.table.items c.prime.ensures.value c.gens.ensures.value
+    step.1
+    (subst (λ P. P.prime ^ P.gens ≤ 256)
+    (sym c.presentation-p.ensures.value) c.presentation-p.ensures.consistent.few)
 
 pub from_law-requires-clause-table : goal.from_law-requires-clause-table
 from_law-requires-clause-table c =
     let step = rw c.in-Ok.is at c.in_ok-table.ensures.outcome in
     is-table c.presentation-p.result.now c.gens.ensures.prime c.gens.ensures.valid
     (subst GroupClaims (sym c.presentation-p.ensures.value) c.presentation-p.ensures.group)
-    (prime_value c.prime.result) c.gens.result c.in-Ok.table.items c.prime.ensures.value c.gens.ensures.value step.1
+    (prime_value c.prime.result) c.gens.result c.in-Ok.table.items c.prime.ensures.value c.gens.ensures.value
+    step.1
 
 pub from_law-requires-clause-law : goal.from_law-requires-clause-law
 from_law-requires-clause-law c =
     let step = rw c.in-Ok.is at c.in_ok-table.ensures.outcome in
     is-group c.presentation-p.result.now c.gens.ensures.prime c.gens.ensures.valid
     (subst GroupClaims (sym c.presentation-p.ensures.value) c.presentation-p.ensures.group)
-    (prime_value c.prime.result) c.gens.result c.in-Ok.table.items c.prime.ensures.value c.gens.ensures.value step.1
+    (prime_value c.prime.result) c.gens.result c.in-Ok.table.items c.prime.ensures.value c.gens.ensures.value
+    step.1
 
 pub returns-clause-group : goal.returns-clause-group
 returns-clause-group c =
@@ -34,7 +38,8 @@ returns-clause-group c =
     subst₂ IsGroupOf c.presentation-p.ensures.value (sym c.from_law.ensures)
     (is-group-of c.presentation-p.result.now c.gens.ensures.prime c.gens.ensures.valid
     (subst GroupClaims (sym c.presentation-p.ensures.value) c.presentation-p.ensures.group)
-    (prime_value c.prime.result) c.gens.result c.in-Ok.table.items c.prime.ensures.value c.gens.ensures.value step.1)
+    (prime_value c.prime.result) c.gens.result c.in-Ok.table.items c.prime.ensures.value c.gens.ensures.value
+    step.1)
 
 pub returns-clause-powers : goal.returns-clause-powers
 returns-clause-powers c =
@@ -42,7 +47,8 @@ returns-clause-powers c =
     subst₂ HasPowers c.presentation-p.ensures.value (sym c.from_law.ensures)
     (has-powers c.presentation-p.result.now c.gens.ensures.prime c.gens.ensures.valid
     (subst GroupClaims (sym c.presentation-p.ensures.value) c.presentation-p.ensures.group)
-    (prime_value c.prime.result) c.gens.result c.in-Ok.table.items c.prime.ensures.value c.gens.ensures.value step.1)
+    (prime_value c.prime.result) c.gens.result c.in-Ok.table.items c.prime.ensures.value c.gens.ensures.value
+    step.1)
 
 pub returns-clause-commutators : goal.returns-clause-commutators
 returns-clause-commutators c =
@@ -50,4 +56,5 @@ returns-clause-commutators c =
     subst₂ HasCommutators c.presentation-p.ensures.value (sym c.from_law.ensures)
     (has-commutators c.presentation-p.result.now c.gens.ensures.prime c.gens.ensures.valid
     (subst GroupClaims (sym c.presentation-p.ensures.value) c.presentation-p.ensures.group)
-    (prime_value c.prime.result) c.gens.result c.in-Ok.table.items c.prime.ensures.value c.gens.ensures.value step.1)
+    (prime_value c.prime.result) c.gens.result c.in-Ok.table.items c.prime.ensures.value c.gens.ensures.value
+    step.1)

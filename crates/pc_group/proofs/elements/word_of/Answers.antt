@@ -19,16 +19,19 @@ loop-i-preserved c =
     let P = c.args.c.now in
     let more = c.loop-i-test.true in
     let gens = c.gens-i-end.ensures.value ∙ ap (λ P. P.gens) c.presentation-p.ensures.value in
-    let prime = c.value-prime.ensures ∙ c.prime.ensures.value ∙ ap (λ P. P.prime) c.presentation-p.ensures.value in
+    let prime = c.value-prime.ensures ∙ c.prime.ensures.value
+    ∙ ap (λ P. P.prime) c.presentation-p.ensures.value in
     let left = P.gens - (c.loop-i.i + 1) in
     let rest = c.loop-i.rest in
     let items = c.loop-i.word.items in
     record {
       exponents =
           ap (λ xs. xs ++ word_of P.prime left (rest / c.value-prime.result)) c.push_reserved.ensures.items
-          ∙ append_assoc items (rest % c.value-prime.result ∷ []) (word_of P.prime left (rest / c.value-prime.result))
+          ∙ append_assoc items (rest % c.value-prime.result ∷ [])
+          (word_of P.prime left (rest / c.value-prime.result))
           ∙ ap (λ q. items ++ (rest % q ∷ word_of P.prime left (rest / q))) prime
-          ∙ ap (λ n. items ++ word_of P.prime n rest) (let z : suc left ≡ P.gens - c.loop-i.i = omega (arith, more, gens) in z)
+          ∙ ap (λ n. items ++ word_of P.prime n rest)
+          (let z : suc left ≡ P.gens - c.loop-i.i = omega (arith, more, gens) in z)
           ∙ c.loop-i.invariant.exponents;
       count =
           let e = c.loop-i.invariant.count in

@@ -5,4 +5,5 @@ use Rattle.pc_group.proofs.layer_lists.element_list.Given as goal
 
 abbrev pub invariant-loop-j : goal.invariant-loop-j
 invariant-loop-j l =
-    Each (λ j x. (l.i < j → x ≡ entry_of l.table l.width (get_or l.gens j 0) (get_or l.commutators (j * (l.n + 1) + l.i) 0)) × x < l.width) l.j l.out.items
+    Each (λ j x. (l.i < j → x ≡ entry_of l.table l.width (get_or l.gens j 0)
+    (get_or l.commutators (j * (l.n + 1) + l.i) 0)) × x < l.width) l.j l.out.items

@@ -9,7 +9,8 @@ small_power-requires-clause-small c =
     let m = c.requires.small in
     let t = c.if-i-j.true in
     let l = c.requires.inside in
-    let k = pow-le c.args.prime (c.args.j - c.args.i - 1) (c.args.n - c.args.i) (omega (arith, s)) (omega (arith, t, l)) in
+    let k = pow-le c.args.prime (c.args.j - c.args.i - 1) (c.args.n - c.args.i) (omega (arith, s))
+    (omega (arith, t, l)) in
     omega (arith, k, m)
 
 pub returns-then-i-j-clause-below : goal.returns-then-i-j-clause-below
@@ -22,4 +23,5 @@ returns-then-i-j-clause-below c =
     omega (arith, k, e)
 
 pub returns-else-i-j-clause-below : goal.returns-else-i-j-clause-below
-returns-else-i-j-clause-below c = let s = c.requires.some in pow-some c.args.prime (c.args.n - c.args.i) (omega (arith, s))
+returns-else-i-j-clause-below c = let s = c.requires.some in
+    pow-some c.args.prime (c.args.n - c.args.i) (omega (arith, s))

@@ -6,4 +6,5 @@ use Rattle.pc_group.proofs.layer_lists.image_list.Given as goal
 
 abbrev pub invariant-loop-k : goal.invariant-loop-k
 invariant-loop-k l =
-    Each (λ k x. (x ≡ ascending (entry_of l.table l.width) 0 (at l.elements) (l.i + 1) (word_of l.prime (length l.elements - (l.i + 1)) k)) × x < l.width) l.k l.out.items
+    Each (λ k x. (x ≡ ascending (entry_of l.table l.width) 0 (at l.elements) (l.i + 1)
+    (word_of l.prime (length l.elements - (l.i + 1)) k)) × x < l.width) l.k l.out.items

@@ -5,4 +5,5 @@ use Rattle.pc_group.specs.Tables.{at, entry_of, HasEntries}
 use Rattle.pc_group.proofs.layer_table.layer_table.Given as goal
 
 abbrev pub invariant-loop-k : goal.invariant-loop-k
-invariant-loop-k l = HasEntries l.width (step_table l.prime (entry_of l.next (length l.images)) l.w (at l.images)) l.k l.out.items
+invariant-loop-k l = HasEntries l.width (step_table l.prime (entry_of l.next (length l.images)) l.w
+    (at l.images)) l.k l.out.items

@@ -11,6 +11,7 @@ loop-i-preserved c =
     let row = λ (k : Rattle.std.specs.Prelude.ℕ). replicate k (identity c.args.gens) in
     ap (map (λ r. exponents r.items)) c.in_ok-push.ensures.items
     ∙ map-append (λ r. exponents r.items) c.loop-i.rows.items (c.in_ok-empty_words.field-0 ∷ [])
-    ∙ ap₂ (λ rs r. rs ++ r ∷ []) c.loop-i.invariant (c.in_ok-empty_words.ensures ∙ ap row (let z : i ≡ 0 + i = omega arith in z))
+    ∙ ap₂ (λ rs r. rs ++ r ∷ []) c.loop-i.invariant (c.in_ok-empty_words.ensures
+    ∙ ap row (let z : i ≡ 0 + i = omega arith in z))
     ∙ sym (map-append row (range 0 i) ((0 + i) ∷ []))
     ∙ ap (map row) (sym (range-next 0 i))

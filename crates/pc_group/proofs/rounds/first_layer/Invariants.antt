@@ -1,4 +1,5 @@
--- The layers of the m generators after g_(n-m) have no false test, and the table is the product of the first of them.
+-- The layers of the m generators after g_(n-m) have no false test, and the table is the product of the first
+-- of them.
 use Rattle.std.proofs.Common.{◌≡◌, suc, ◌-◌, None}
 use Rattle.power_commutator.specs.Presentations.{tests, first_false}
 use Rattle.pc_group.specs.WordNumbers.{IsTableOf}

@@ -6,5 +6,6 @@ use Rattle.pc_group.proofs.rounds.layer_step.Goals as goal
 pub returns-in_ok-layer_table-in-None : goal.returns-in_ok-layer_table-in-None
 returns-in_ok-layer_table-in-None c P m R e = (
   sym (c.fault.ensures P m R) ∙ c.in-None.is,
-  table-of P m c.args.layer.now R c.requires.sound e c.in_ok-layer_table-in-None.field-0.items c.in_ok-layer_table-in-None.ensures,
+  table-of P m c.args.layer.now R c.requires.sound e c.in_ok-layer_table-in-None.field-0.items
+      c.in_ok-layer_table-in-None.ensures,
 )

@@ -7,7 +7,8 @@ use Rattle.pc_group.proofs.rounds.round.Goals as goal
 
 -- four equal lists in the place of others
 module _ {a b c d a' b' c' d' : List ℕ} where
-  along : (F : List ℕ → List ℕ → List ℕ → List ℕ → Type 0) → a' ≡ a → b' ≡ b → c' ≡ c → d' ≡ d → F a b c d → F a' b' c' d'
+  along : (F : List ℕ → List ℕ → List ℕ → List ℕ → Type 0) → a' ≡ a → b' ≡ b → c' ≡ c → d' ≡ d → F a b c d
+      → F a' b' c' d'
   along F e f g h x = subst₂ (λ s t. F s t c' d') (sym e) (sym f) (subst₂ (F a b) (sym g) (sym h) x)
 
 pub layer_step-requires-clause-small : goal.layer_step-requires-clause-small
@@ -18,7 +19,8 @@ layer_step-requires-clause-small c =
     let count = c.requires.count in
     let few = c.requires.few in
     let width : c.value.result * length c.deref.result.now ≡ P.prime ^ suc c.args.m =
-    ap₂ (λ p w. p * w) (c.value.ensures ∙ c.prime.ensures.value) (ap length c.deref.ensures.value ∙ c.in_ok-lists.ensures.order)
+    ap₂ (λ p w. p * w) (c.value.ensures ∙ c.prime.ensures.value) (ap length c.deref.ensures.value
+    ∙ c.in_ok-lists.ensures.order)
     ∙ sym (pow-succ' P.prime c.args.m) in
     let k = pow-le P.prime (suc c.args.m) P.gens (omega (arith, s)) (omega (arith, first, count)) in
     omega (arith, width, k, few)
@@ -31,6 +33,7 @@ returns c =
       gens-is = sym c.gens.ensures.value;
       numbers =
           along (λ I W K G. AreNumbersOf c.args.p.now c.args.i c.args.m c.args.table.now I W K G)
-          c.deref.ensures.value c.deref-2.ensures.value c.deref-3.ensures.value c.deref-4.ensures.value c.in_ok-lists.ensures.numbers;
+          c.deref.ensures.value c.deref-2.ensures.value c.deref-3.ensures.value c.deref-4.ensures.value
+          c.in_ok-lists.ensures.numbers;
     })
     (ap length c.deref.ensures.value ∙ c.in_ok-lists.ensures.order)

@@ -13,10 +13,12 @@ returns c h = record {
       let w = c.args.exponents.now in
       let l' : k < length w = l in
       let end = c.loop-k-test.false in
-      subst (λ e. e < c.args.prime) (sym (get_or_default_zero w k d l)) (c.loop-k.invariant.small k (omega (arith, l', end)));
+      subst (λ e. e < c.args.prime) (sym (get_or_default_zero w k d l))
+      (c.loop-k.invariant.small k (omega (arith, l', end)));
   later = λ k l. go k l (less-or k (length c.args.exponents.now));
 }
   where
-    go : (k : ℕ) → k < c.args.j → (k < length c.args.exponents.now) ⊎ (length c.args.exponents.now ≤ k) → get_or c.args.exponents.now k 0 ≡ 0
+    go : (k : ℕ) → k < c.args.j → (k < length c.args.exponents.now) ⊎ (length c.args.exponents.now ≤ k)
+        → get_or c.args.exponents.now k 0 ≡ 0
     go k l (inl t) = c.loop-k.invariant.later k (let end = c.loop-k-test.false in omega (arith, t, end)) l
     go k l (inr t) = get_or-eq_default c.args.exponents.now 0 t

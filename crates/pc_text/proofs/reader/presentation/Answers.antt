@@ -6,8 +6,13 @@ loop-relation-init c = made_start c.args.content.now c.in_ok-made.made c.require
 
 pub set_word-requires : goal.set_word-requires
 set_word-requires c =
-    next_relation c.args.content.now c.deref-relation-items.result.now c.loop-relation.relation-index c.loop-relation.made c.relation-item.result c.requires c.loop-relation.invariant c.deref-relation-items.ensures.value c.loop-relation-test.true c.relation-item.is
+    next_relation c.args.content.now c.deref-relation-items.result.now c.loop-relation.relation-index
+    c.loop-relation.made c.relation-item.result c.requires c.loop-relation.invariant
+    c.deref-relation-items.ensures.value c.loop-relation-test.true c.relation-item.is
 
 pub loop-relation-preserved : goal.loop-relation-preserved
 loop-relation-preserved c =
-    next_made c.args.content.now c.deref-relation-items.result.now c.loop-relation.relation-index c.loop-relation.made c.set_word.new.made c.relation-item.result c.requires c.loop-relation.invariant c.deref-relation-items.ensures.value c.loop-relation-test.true c.relation-item.is c.in_ok-set_word.ensures
+    next_made c.args.content.now c.deref-relation-items.result.now c.loop-relation.relation-index
+    c.loop-relation.made c.set_word.new.made c.relation-item.result c.requires c.loop-relation.invariant
+    c.deref-relation-items.ensures.value c.loop-relation-test.true c.relation-item.is
+    c.in_ok-set_word.ensures

@@ -6,4 +6,5 @@ pub returns-clause-gives : goal.returns-clause-gives
 returns-clause-gives c = rw (content_by_cuts c.args.text.now) at c.content_by_cuts.ensures
 
 pub returns-clause-kept : goal.returns-clause-kept
-returns-clause-kept c = result_kept c.args.text.now c.content_by_cuts.result (rw (content_by_cuts c.args.text.now) at c.content_by_cuts.ensures)
+returns-clause-kept c = result_kept c.args.text.now c.content_by_cuts.result
+    (rw (content_by_cuts c.args.text.now) at c.content_by_cuts.ensures)

@@ -5,6 +5,9 @@ use Rattle.pc_text.proofs.writer.push_powers.Goals as goal
 
 pub loop-i-preserved : goal.loop-i-preserved
 loop-i-preserved c =
-    next_place c.args.p.now (λ i. Power i) c.args.text.now.items c.loop-i.text.items c.push_relation.new.text.items c.loop-i.i c.loop-i.invariant
-    (line_at c.args.p.now c.value.result (Power (c.loop-i.i + 1)) c.as_slice.result.now c.loop-i.text.items c.push_relation.new.text.items
-    c.in_ok-push_relation.ensures (c.value.ensures ∙ c.prime.ensures.value) (c.as_slice.ensures ∙ c.power_word-word.ensures.value))
+    next_place c.args.p.now (λ i. Power i) c.args.text.now.items c.loop-i.text.items
+    c.push_relation.new.text.items c.loop-i.i c.loop-i.invariant
+    (line_at c.args.p.now c.value.result
+    (Power (c.loop-i.i + 1)) c.as_slice.result.now c.loop-i.text.items c.push_relation.new.text.items
+    c.in_ok-push_relation.ensures (c.value.ensures ∙ c.prime.ensures.value) (c.as_slice.ensures
+    ∙ c.power_word-word.ensures.value))

@@ -5,4 +5,5 @@ use Rattle.pc_text.specs.Canonical.{place_lines}
 use Rattle.pc_text.proofs.writer.push_row.Given as goal
 
 abbrev pub invariant-loop-i : goal.invariant-loop-i
-invariant-loop-i l = l.text.items ≡ l.fn.text.items ++ place_lines l.p (map (λ i. Commutator l.j i) (range 1 l.i))
+invariant-loop-i l = l.text.items ≡ l.fn.text.items ++ place_lines l.p
+    (map (λ i. Commutator l.j i) (range 1 l.i))

@@ -3,10 +3,12 @@ use Rattle.polynomial_reader.proofs.Cutting.{digit-value, digits-value, numeral-
 use Rattle.polynomial_reader.proofs.pieces.exponent.Goals as goal
 
 pub returns-in-len1 : goal.returns-in-len1
-returns-in-len1 c e h k = digit-value e c.digit.result c.args.digits.now h k c.in-len1.len_below c.digit.ensures.value
+returns-in-len1 c e h k = digit-value e c.digit.result c.args.digits.now h k c.in-len1.len_below
+    c.digit.ensures.value
 
 pub returns-in-len2 : goal.returns-in-len2
-returns-in-len2 c e h k = digits-value e c.digit-in-len2.result c.digit-in-len2-2.result c.args.digits.now h k c.in-len2.len_at_least
+returns-in-len2 c e h k = digits-value e c.digit-in-len2.result c.digit-in-len2-2.result c.args.digits.now h k
+    c.in-len2.len_at_least
     c.digit-in-len2.ensures.value c.digit-in-len2-2.ensures.value
 
 pub returns-in-empty : goal.returns-in-empty

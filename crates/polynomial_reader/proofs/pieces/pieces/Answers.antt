@@ -5,5 +5,6 @@ use Rattle.polynomial_reader.proofs.pieces.pieces.Goals as goal
 
 pub returns : goal.returns
 returns c = map_from_collect _ c.collect.ensures.ran
-    (YieldsList-from_slice_split _ _ c.args.bytes.now c.split.ensures.rest c.split.ensures.done c.split.ensures.closure
+    (YieldsList-from_slice_split _ _ c.args.bytes.now c.split.ensures.rest c.split.ensures.done
+    c.split.ensures.closure
     (λ x r q k. search (rules, tests)))

@@ -15,11 +15,13 @@ read_factors-requires-clause-small c =
 
 pub returns-in_err-factors : goal.returns-in_err-factors
 returns-in_err-factors c t h k =
-    let p = err_from_is_err_and c.from_residual-in_err-factors.result c.from_residual-in_err-factors.ensures.1 in
+    let p = err_from_is_err_and c.from_residual-in_err-factors.result c.from_residual-in_err-factors.ensures.1
+    in
     let q = greatest c.args.gens.now in
     let m : q ≤ 6 = omega (arith, c.requires.prime) in
     let r = c.split_numeral-numeral.ensures.factors q t m h k in
-    rw (p.1, p.2) (subst (λ n. IsUnknownAt c.args.gens.now.degrees (factor_names (c.args.column + n) t.factors) c.in_err-factors.field-0.0)
+    rw (p.1, p.2) (subst (λ n. IsUnknownAt c.args.gens.now.degrees
+    (factor_names (c.args.column + n) t.factors) c.in_err-factors.field-0.0)
     (numeral-room t c.args.piece.now c.split_numeral-numeral.result.1.now h.some k r)
     (c.in_err-factors.ensures t.factors h.each
     (term-split q t c.split_numeral-numeral.result.1.now (bytes_of c.deref.result.now) h r

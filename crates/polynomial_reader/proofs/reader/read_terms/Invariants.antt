@@ -9,6 +9,7 @@ use Rattle.polynomial_reader.proofs.reader.read_terms.Given as goal
 abbrev pub invariant-loop-piece : goal.invariant-loop-piece
 invariant-loop-piece l = record {
   place : l.at ≡ 1 + spans (take l.piece-index (map (λ p. p.now) l.pieces));
-  named : (ts : List NamedTerm) → Each (IsTerm (greatest l.gens)) ts → map term_bytes ts ≡ map (λ p. p.now) l.pieces
+  named : (ts : List NamedTerm) → Each (IsTerm (greatest l.gens)) ts
+      → map term_bytes ts ≡ map (λ p. p.now) l.pieces
       → NamesTerms l.gens.degrees (take l.piece-index ts) l.terms.items;
 }

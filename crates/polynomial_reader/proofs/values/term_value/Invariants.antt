@@ -7,4 +7,5 @@ use Rattle.polynomial_reader.proofs.values.term_value.Given as goal
 
 abbrev pub invariant-loop-x : goal.invariant-loop-x
 invariant-loop-x l = IsSumOf l.gens (factors_degree l.gens.degrees (take l.x-index l.t.factors))
-    (read_from (greatest l.gens) l.gens.degrees (record { scalar = l.t.numeral; monomial = [] } ∷ []) (take l.x-index l.t.factors)) l.out
+    (read_from (greatest l.gens) l.gens.degrees (record { scalar = l.t.numeral; monomial = [] } ∷ [])
+    (take l.x-index l.t.factors)) l.out

@@ -10,6 +10,9 @@ use Rattle.ring_present.proofs.generators.dual_basis.Goals as goal
 pub returns-clause-rows : goal.returns-clause-rows
 returns-clause-rows c =
     let one = prime_above_one c.args.p in
-    subst (AreUnitRows c.args.rank) (sym (echelon-of-units c.in_ok-rows.ensures.rows (prime_value c.args.p) c.in_ok-basis.basis.rows one
-    (subst (λ p. IsEchelonOf p c.args.rank c.in_ok-rows.rows.rows c.in_ok-basis.basis.rows) c.in_ok-rows.ensures.prime
-    (subst (λ n. IsEchelonOf c.in_ok-rows.rows.p n c.in_ok-rows.rows.rows c.in_ok-basis.basis.rows) c.in_ok-rows.ensures.width c.in_ok-basis.ensures.rows)))) c.in_ok-rows.ensures.rows
+    subst (AreUnitRows c.args.rank) (sym
+    (echelon-of-units c.in_ok-rows.ensures.rows (prime_value c.args.p) c.in_ok-basis.basis.rows one
+    (subst (λ p. IsEchelonOf p c.args.rank c.in_ok-rows.rows.rows c.in_ok-basis.basis.rows)
+    c.in_ok-rows.ensures.prime
+    (subst (λ n. IsEchelonOf c.in_ok-rows.rows.p n c.in_ok-rows.rows.rows c.in_ok-basis.basis.rows)
+    c.in_ok-rows.ensures.width c.in_ok-basis.ensures.rows)))) c.in_ok-rows.ensures.rows

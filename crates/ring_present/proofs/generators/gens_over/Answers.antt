@@ -5,10 +5,12 @@ use Rattle.ring_present.proofs.generators.gens_over.Goals as goal
 
 pub push-requires-clause-few : goal.push-requires-clause-few
 push-requires-clause-few c =
-    let e : length c.loop-i.copy.degrees ≡ length (take c.loop-i.i c.args.gens.now.degrees) = ap (λ (g : Generators). length g.degrees) c.loop-i.invariant in
+    let e : length c.loop-i.copy.degrees ≡ length (take c.loop-i.i c.args.gens.now.degrees) =
+    ap (λ (g : Generators). length g.degrees) c.loop-i.invariant in
     omega (arith, e, length-take c.loop-i.i c.args.gens.now.degrees)
 
 pub push-requires-clause-order : goal.push-requires-clause-order
 push-requires-clause-order c =
-    ordered-take c.args.gens.now.degrees c.loop-i.copy.degrees c.loop-i.i c.degree.result (ap (λ (g : Generators). g.degrees) c.loop-i.invariant)
+    ordered-take c.args.gens.now.degrees c.loop-i.copy.degrees c.loop-i.i c.degree.result
+    (ap (λ (g : Generators). g.degrees) c.loop-i.invariant)
     (omega arith) c.degree.ensures.value c.degree.ensures.valid

@@ -8,5 +8,6 @@ abbrev pub invariant-loop-r : goal.invariant-loop-r
 invariant-loop-r l = record {
   prime : l.rows.p ≡ l.gens.prime;
   width : l.rows.width ≡ length l.monomials;
-  multiples : AreMultiples (greatest l.gens) l.gens.degrees (take l.r-index l.relations) l.d l.monomials l.rows.rows;
+  multiples : AreMultiples (greatest l.gens) l.gens.degrees
+      (take l.r-index l.relations) l.d l.monomials l.rows.rows;
 }

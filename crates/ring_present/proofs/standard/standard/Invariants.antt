@@ -6,5 +6,8 @@ use Rattle.ring_present.proofs.standard.standard.Given as goal
 abbrev pub invariant-loop-i : goal.invariant-loop-i
 invariant-loop-i l = record {
   monomials_are : l.monomials ≡ without_pivots l.kernel.rows 0 (take l.i l.all.monomials);
-  values_are : l.values ≡ record l.all.values { rows = without_pivots l.kernel.rows 0 (take l.i l.all.values.rows) };
+  values_are : l.values ≡ record l.all.values {
+    rows = without_pivots l.kernel.rows 0
+        (take l.i l.all.values.rows);
+  };
 }

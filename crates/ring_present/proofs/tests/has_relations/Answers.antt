@@ -3,4 +3,5 @@ use Rattle.gc_poly.specs.Polynomials.{IsOverGenerators}
 use Rattle.ring_present.proofs.tests.has_relations.Goals as goal
 
 pub write_text-requires : goal.write_text-requires
-write_text-requires c = subst (λ gens. IsOverGenerators gens c.relation.result.now) (sym c.gens.ensures) c.relation.ensures.over
+write_text-requires c = subst (λ gens. IsOverGenerators gens c.relation.result.now)
+    (sym c.gens.ensures) c.relation.ensures.over

@@ -7,7 +7,8 @@ use Rattle.min_res.proofs.StageLaws.{exact-minimal, section-is}
 use Rattle.min_res.proofs.resolution.Resolution.extend.Goals as goal
 
 pub returns-clause-within : goal.returns-clause-within
-returns-clause-within c = subst (λ n. n ≤ c.args.limit) (ap (λ (m : MatrixValue). m.width) c.in_ok-stage.ensures.stage.kernel_is) c.in_ok-stage.ensures.width
+returns-clause-within c = subst (λ n. n ≤ c.args.limit)
+    (ap (λ (m : MatrixValue). m.width) c.in_ok-stage.ensures.stage.kernel_is) c.in_ok-stage.ensures.width
 
 pub returns-clause-exact_minimal : goal.returns-clause-exact_minimal
 returns-clause-exact_minimal c = exact-minimal c.args.self.now.group c.args.self.now.last
@@ -16,6 +17,9 @@ pub returns-clause-section : goal.returns-clause-section
 returns-clause-section c = section-is c.args.self.now.group c.args.self.now.last
 
 pub invariant_of-self-2 : goal.invariant_of-self-2
-invariant_of-self-2 c = grown _ c.args.self.now.group _ c.self.inside.stages.items _ c.args.self.now.last c.args.limit c.in_ok-shared.shared c.in_ok-stage.stage c.self.invariant
-    (ap (λ (v : ResolutionValue). v.group) c.self.view_is) (ap (λ (v : ResolutionValue). v.last) c.self.view_is) c.requires.few
-    c.in_ok-stage.ensures.stage c.in_ok-stage.ensures.width c.requires.limit c.in_ok-shared.ensures.ok c.in_ok-push.ensures.items
+invariant_of-self-2 c = grown _ c.args.self.now.group _ c.self.inside.stages.items _ c.args.self.now.last
+    c.args.limit c.in_ok-shared.shared c.in_ok-stage.stage c.self.invariant
+    (ap (λ (v : ResolutionValue). v.group) c.self.view_is)
+    (ap (λ (v : ResolutionValue). v.last) c.self.view_is) c.requires.few
+    c.in_ok-stage.ensures.stage c.in_ok-stage.ensures.width c.requires.limit c.in_ok-shared.ensures.ok
+    c.in_ok-push.ensures.items

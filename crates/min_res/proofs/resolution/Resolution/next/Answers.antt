@@ -10,23 +10,33 @@ use Rattle.min_res.proofs.resolution.Resolution.next.Goals as goal
 pub next_stage-requires-clause-last : goal.next_stage-requires-clause-last
 next_stage-requires-clause-last c =
     let P : PGroup → Type 0 = λ G. IsStageAt G c.deref-2.result.now.degree c.deref-2.result.now in
-    subst P (sym (ap (λ (v : ResolutionValue). v.group) c.self.view_is)) (own-degree c.args.self.now.group _ _ _ c.deref-2.ensures c.stage_at-last.ensures.stage)
+    subst P (sym (ap (λ (v : ResolutionValue). v.group) c.self.view_is))
+    (own-degree c.args.self.now.group _ _ _ c.deref-2.ensures c.stage_at-last.ensures.stage)
 
 pub next_stage-requires-clause-degree : goal.next_stage-requires-clause-degree
 next_stage-requires-clause-degree c =
-    let e : c.deref-2.result.now.degree ≡ c.args.self.now.last = ap (λ (s : StageValue). s.degree) c.deref-2.ensures ∙ c.stage_at-last.ensures.stage.degree_is ∙ c.last.ensures in
+    let e : c.deref-2.result.now.degree ≡ c.args.self.now.last =
+    ap (λ (s : StageValue). s.degree) c.deref-2.ensures ∙ c.stage_at-last.ensures.stage.degree_is
+    ∙ c.last.ensures in
     omega (arith, e, c.requires.few)
 
 pub returns-in-Ok-clause-stage : goal.returns-in-Ok-clause-stage
 returns-in-Ok-clause-stage c =
-    let g : c.self.inside.algebra ≡ c.args.self.now.group = ap (λ (v : ResolutionValue). v.group) c.self.view_is in
-    let e : c.deref-2.result.now.degree ≡ c.args.self.now.last = ap (λ (s : StageValue). s.degree) c.deref-2.ensures ∙ c.stage_at-last.ensures.stage.degree_is ∙ c.last.ensures in
+    let g : c.self.inside.algebra ≡ c.args.self.now.group =
+    ap (λ (v : ResolutionValue). v.group) c.self.view_is in
+    let e : c.deref-2.result.now.degree ≡ c.args.self.now.last =
+    ap (λ (s : StageValue). s.degree) c.deref-2.ensures ∙ c.stage_at-last.ensures.stage.degree_is
+    ∙ c.last.ensures in
     let P : PGroup → Type 0 = λ G. IsStageAt G (suc c.args.self.now.last) c.in-Ok.stage in
     subst P g (subst (λ k. IsStageAt c.self.inside.algebra (suc k) c.in-Ok.stage) e c.in-Ok.ensures.stage)
 
 pub returns-in-Err-clause-refusal : goal.returns-in-Err-clause-refusal
 returns-in-Err-clause-refusal c =
-    let g : c.self.inside.algebra ≡ c.args.self.now.group = ap (λ (v : ResolutionValue). v.group) c.self.view_is in
-    let e : c.deref-2.result.now.degree ≡ c.args.self.now.last = ap (λ (s : StageValue). s.degree) c.deref-2.ensures ∙ c.stage_at-last.ensures.stage.degree_is ∙ c.last.ensures in
+    let g : c.self.inside.algebra ≡ c.args.self.now.group =
+    ap (λ (v : ResolutionValue). v.group) c.self.view_is in
+    let e : c.deref-2.result.now.degree ≡ c.args.self.now.last =
+    ap (λ (s : StageValue). s.degree) c.deref-2.ensures ∙ c.stage_at-last.ensures.stage.degree_is
+    ∙ c.last.ensures in
     let P : PGroup → Type 0 = λ G. IsRefusal G (suc c.args.self.now.last) c.args.limit c.in-Err.fault in
-    subst P g (subst (λ k. IsRefusal c.self.inside.algebra (suc k) c.args.limit c.in-Err.fault) e c.in-Err.ensures.refusal)
+    subst P g (subst (λ k. IsRefusal c.self.inside.algebra
+    (suc k) c.args.limit c.in-Err.fault) e c.in-Err.ensures.refusal)

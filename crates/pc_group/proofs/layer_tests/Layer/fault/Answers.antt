@@ -33,11 +33,13 @@ module _ (P : Presented) (i m : ℕ) where
   by-swap x e k = sym (h ∙ ap₂ (λ t s. or_else t (or_else s (or_else c d))) (sym e) (sym k))
 
   by-fixed : (x : TestName) → None ≡ a → None ≡ b → Some x ≡ c → Some x ≡ all
-  by-fixed x e k l = sym (h ∙ ap₂ (λ t s. or_else t (or_else s (or_else c d))) (sym e) (sym k) ∙ ap (λ t. or_else t d) (sym l))
+  by-fixed x e k l = sym (h ∙ ap₂ (λ t s. or_else t (or_else s (or_else c d))) (sym e) (sym k)
+      ∙ ap (λ t. or_else t d) (sym l))
 
   by-twist : (r : Option TestName) → None ≡ a → None ≡ b → None ≡ c → r ≡ d → r ≡ all
   by-twist r e k l s =
-      s ∙ sym (h ∙ ap₂ (λ t s. or_else t (or_else s (or_else c d))) (sym e) (sym k) ∙ ap (λ t. or_else t d) (sym l))
+      s ∙ sym (h ∙ ap₂ (λ t s. or_else t (or_else s (or_else c d))) (sym e) (sym k)
+      ∙ ap (λ t. or_else t d) (sym l))
 
 pub returns-in-Some : goal.returns-in-Some
 returns-in-Some c P m R = by-power P c.args.self.now.index m c.in-Some.name (c.in-Some.ensures P m R)
@@ -50,11 +52,13 @@ returns-in-Some-swap_fault c P m R =
 pub returns-in-Some-fixed_fault : goal.returns-in-Some-fixed_fault
 returns-in-Some-fixed_fault c P m R =
     by-fixed P c.args.self.now.index m c.in-Some-fixed_fault.name
-    (sym c.in_default.is ∙ c.power_fault.ensures P m R) (sym c.in_default-swap_fault.is ∙ c.swap_fault.ensures P m R)
+    (sym c.in_default.is ∙ c.power_fault.ensures P m R) (sym c.in_default-swap_fault.is
+    ∙ c.swap_fault.ensures P m R)
     (c.in-Some-fixed_fault.ensures P m R)
 
 pub returns : goal.returns
 returns c P m R =
     by-twist P c.args.self.now.index m c.twist_fault.result
-    (sym c.in_default.is ∙ c.power_fault.ensures P m R) (sym c.in_default-swap_fault.is ∙ c.swap_fault.ensures P m R)
+    (sym c.in_default.is ∙ c.power_fault.ensures P m R) (sym c.in_default-swap_fault.is
+    ∙ c.swap_fault.ensures P m R)
     (sym c.in_default-fixed_fault.is ∙ c.fixed_fault.ensures P m R) (c.twist_fault.ensures P m R)

@@ -10,7 +10,8 @@ test P i m j = power_test P (product P (suc i) m) i m j
 pub returns : goal.returns
 returns c P m R =
     let i = c.args.self.now.index in
-    loop-none (test P i m) (suc i) m (c.args.self.now.gens + 1) (let z = R.numbers.count in let e = R.gens-is in omega (arith, z, e))
+    loop-none (test P i m) (suc i) m (c.args.self.now.gens + 1)
+    (let z = R.numbers.count in let e = R.gens-is in omega (arith, z, e))
     (λ k h l. c.loop-j.invariant P m R k h (let t = c.loop-j-test.false in omega (arith, t, l)))
 
 pub returns-then-left-right : goal.returns-then-left-right
@@ -19,7 +20,8 @@ returns-then-left-right c P m R =
     let i = L.index in
     let j = c.loop-j.j in
     let above : i < j = let b = c.loop-j.auto.j in omega (arith, b) in
-    loop-some (test P i m) (suc i) m (L.gens + 1) (let z = R.numbers.count in let e = R.gens-is in omega (arith, z, e))
+    loop-some (test P i m) (suc i) m (L.gens + 1)
+    (let z = R.numbers.count in let e = R.gens-is in omega (arith, z, e))
     j above c.loop-j-test.true (c.loop-j.invariant P m R)
     (failing (test P i m j) _ _ (power-tells P m L R c.requires j above c.loop-j-test.true)
     (λ z. c.if-left-right.true (c.power-left.ensures.value ∙ z)))

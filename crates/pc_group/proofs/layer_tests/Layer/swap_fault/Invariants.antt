@@ -7,4 +7,5 @@ use Rattle.pc_group.proofs.layer_tests.Layer.swap_fault.Given as goal
 
 abbrev pub invariant-loop-j : goal.invariant-loop-j
 invariant-loop-j l = (P : Presented) (m : ℕ) → IsLayerOf P m l.self → let i = l.self.index in
-    (k : ℕ) → suc i ≤ k → k < l.j → first_false (row (swap_test P (product P (suc i) m) i m) (l.self.gens + 1) k) ≡ None
+    (k : ℕ) → suc i ≤ k → k < l.j → first_false
+    (row (swap_test P (product P (suc i) m) i m) (l.self.gens + 1) k) ≡ None

@@ -12,7 +12,8 @@ test P i m j k = swap_test P (product P (suc i) m) i m j k
 pub returns : goal.returns
 returns c P m R =
     let n = c.args.self.now.gens in
-    loop-none (test P c.args.self.now.index m c.args.j) (suc c.args.j) (n + 1 - suc c.args.j) (n + 1) (let b = c.requires.inside in omega (arith, b))
+    loop-none (test P c.args.self.now.index m c.args.j) (suc c.args.j) (n + 1 - suc c.args.j) (n + 1)
+    (let b = c.requires.inside in omega (arith, b))
     (λ k h l. c.loop-k.invariant P m R k h (let t = c.loop-k-test.false in omega (arith, t, l)))
 
 pub returns-then-left-right : goal.returns-then-left-right
@@ -21,15 +22,18 @@ returns-then-left-right c P m R =
     let j = c.args.j in
     let k = c.loop-k.k in
     let above : j < k = let b = c.loop-k.auto.k in omega (arith, b) in
-    loop-some (test P L.index m j) (suc j) (L.gens + 1 - suc j) (L.gens + 1) (let b = c.requires.inside in omega (arith, b))
+    loop-some (test P L.index m j) (suc j) (L.gens + 1 - suc j) (L.gens + 1)
+    (let b = c.requires.inside in omega (arith, b))
     k above c.loop-k-test.true (c.loop-k.invariant P m R)
-    (failing (test P L.index m j k) _ _ (swap-tells P m L R c.requires.sound j k c.requires.above above c.loop-k-test.true)
+    (failing (test P L.index m j k) _ _ (swap-tells P m L R c.requires.sound j k c.requires.above above
+    c.loop-k-test.true)
     (λ z.
     c.if-left-right.true
     (c.entry-left.ensures.value ∙ z
     ∙ sym
     (c.entry-right.ensures.value
-    ∙ ap (λ x. entry_of L.table.now (width L) x (get_or L.images.now (get_or L.commutators.now (k * (L.gens + 1) + j) 0) 0)) c.entry.ensures.value))))
+    ∙ ap (λ x. entry_of L.table.now (width L) x
+    (get_or L.images.now (get_or L.commutators.now (k * (L.gens + 1) + j) 0) 0)) c.entry.ensures.value))))
 
 pub loop-k-preserved : goal.loop-k-preserved
 loop-k-preserved c P m R =
@@ -38,6 +42,8 @@ loop-k-preserved c P m R =
     let k = c.loop-k.k in
     let above : j < k = let b = c.loop-k.auto.k in omega (arith, b) in
     loop-next (test P L.index m j) (suc j) k (c.loop-k.invariant P m R)
-    (passing (test P L.index m j k) _ _ (swap-tells P m L R c.requires.sound j k c.requires.above above c.loop-k-test.true)
+    (passing (test P L.index m j k) _ _ (swap-tells P m L R c.requires.sound j k c.requires.above above
+    c.loop-k-test.true)
     (sym c.entry-left.ensures.value ∙ c.if-left-right.false ∙ c.entry-right.ensures.value
-    ∙ ap (λ x. entry_of L.table.now (width L) x (get_or L.images.now (get_or L.commutators.now (k * (L.gens + 1) + j) 0) 0)) c.entry.ensures.value))
+    ∙ ap (λ x. entry_of L.table.now (width L) x
+    (get_or L.images.now (get_or L.commutators.now (k * (L.gens + 1) + j) 0) 0)) c.entry.ensures.value))

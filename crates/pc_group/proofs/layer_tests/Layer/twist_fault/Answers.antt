@@ -12,7 +12,8 @@ test P i m j = twist_test P (product P (suc i) m) i m j
 pub returns : goal.returns
 returns c P m R =
     let i = c.args.self.now.index in
-    loop-none (test P i m) (suc i) m (c.args.self.now.gens + 1) (let z = R.numbers.count in let e = R.gens-is in omega (arith, z, e))
+    loop-none (test P i m) (suc i) m (c.args.self.now.gens + 1)
+    (let z = R.numbers.count in let e = R.gens-is in omega (arith, z, e))
     (λ k h l. c.loop-j.invariant P m R k h (let t = c.loop-j-test.false in omega (arith, t, l)))
 
 pub returns-then-left-right : goal.returns-then-left-right
@@ -21,10 +22,14 @@ returns-then-left-right c P m R =
     let i = L.index in
     let j = c.loop-j.j in
     let above : i < j = let b = c.loop-j.auto.j in omega (arith, b) in
-    loop-some (test P i m) (suc i) m (L.gens + 1) (let z = R.numbers.count in let e = R.gens-is in omega (arith, z, e))
+    loop-some (test P i m) (suc i) m (L.gens + 1)
+    (let z = R.numbers.count in let e = R.gens-is in omega (arith, z, e))
     j above c.loop-j-test.true (c.loop-j.invariant P m R)
     (failing (test P i m j) _ _ (twist-tells P m L R c.requires j above c.loop-j-test.true)
-    (λ z. c.if-left-right.true (c.entry-left.ensures.value ∙ ap (entry_of c.args.self.now.table.now (width c.args.self.now) (get_or c.args.self.now.powers.now c.args.self.now.index 0)) c.iterated.ensures.value ∙ z ∙ sym c.entry-right.ensures.value)))
+    (λ z. c.if-left-right.true (c.entry-left.ensures.value
+    ∙ ap (entry_of c.args.self.now.table.now (width c.args.self.now)
+    (get_or c.args.self.now.powers.now c.args.self.now.index 0)) c.iterated.ensures.value ∙ z
+    ∙ sym c.entry-right.ensures.value)))
 
 pub loop-j-preserved : goal.loop-j-preserved
 loop-j-preserved c P m R =
@@ -34,4 +39,7 @@ loop-j-preserved c P m R =
     let above : i < j = let b = c.loop-j.auto.j in omega (arith, b) in
     loop-next (test P i m) (suc i) j (c.loop-j.invariant P m R)
     (passing (test P i m j) _ _ (twist-tells P m L R c.requires j above c.loop-j-test.true)
-    (sym (c.entry-left.ensures.value ∙ ap (entry_of c.args.self.now.table.now (width c.args.self.now) (get_or c.args.self.now.powers.now c.args.self.now.index 0)) c.iterated.ensures.value) ∙ c.if-left-right.false ∙ c.entry-right.ensures.value))
+    (sym (c.entry-left.ensures.value ∙ ap
+    (entry_of c.args.self.now.table.now (width c.args.self.now)
+    (get_or c.args.self.now.powers.now c.args.self.now.index 0)) c.iterated.ensures.value)
+    ∙ c.if-left-right.false ∙ c.entry-right.ensures.value))

@@ -11,7 +11,8 @@ returns-clause-word c =
     let v = c.self.invariant.valid in
     let first = c.requires.first in
     let order = c.requires.order in
-    let last : c.args.j ≤ c.self.inside.gens = subst (λ P. c.args.j ≤ P.gens) (sym c.self.view_is) c.requires.last in
+    let last : c.args.j ≤ c.self.inside.gens =
+    subst (λ P. c.args.j ≤ P.gens) (sym c.self.view_is) c.requires.last in
     let rows = c.self.inside.commutators.items in
     let row = c.index.result.now in
     let is_row : get_or (shown c.self.inside).commutators (c.args.j - 1) [] ≡ exponents row.items =
@@ -24,4 +25,5 @@ returns-clause-word c =
     ∙ entry-shown row.items (c.args.i - 1) c.index-2.result.now (λ w. w.items) []
     (omega (arith, first, order, simp length-map at len)) c.index-2.ensures in
     subst (λ P. IsWord P.prime P.gens c.args.j c.index-2.result.now.items) c.self.view_is
-    (subst (IsWord (shown c.self.inside).prime (shown c.self.inside).gens c.args.j) is_word (v.commutator c.args.j c.args.i first order last))
+    (subst (IsWord (shown c.self.inside).prime (shown c.self.inside).gens c.args.j) is_word
+    (v.commutator c.args.j c.args.i first order last))

@@ -12,5 +12,6 @@ invariant_of-result c = record {
       subst IsPresentation
       (ap₂ (λ ws rs. record { prime = prime_value c.args.p; gens = c.args.n; powers = ws; commutators = rs })
       (sym c.in_ok-empty_words.ensures) (sym c.in_ok-empty_rows.ensures))
-      (elementary-valid (prime_value c.args.p) c.args.n (let h = prime_value-above c.args.p in omega (arith, h)));
+      (elementary-valid (prime_value c.args.p) c.args.n
+      (let h = prime_value-above c.args.p in omega (arith, h)));
 }

@@ -17,4 +17,5 @@ invariant_of-self c = record {
 }
 
 pub returns : goal.returns
-returns c = shown-powers c.self.inside c.args.i c.args.w ∙ ap (λ P. with_power P c.args.i c.args.w.items) c.self.view_is
+returns c = shown-powers c.self.inside c.args.i c.args.w
+    ∙ ap (λ P. with_power P c.args.i c.args.w.items) c.self.view_is

@@ -3,4 +3,5 @@ use Rattle.ring_present.proofs.Shown.{degrees-lifted}
 use Rattle.ring_present.proofs.ring.Ring.gens.Goals as goal
 
 pub returns : goal.returns
-returns c = rw (← c.self.view_is) (ap (λ ds. record { prime = c.self.inside.known.gens.prime; degrees = ds }) (c.self.invariant.degrees_of_gens ∙ degrees-lifted c.self.inside.known.lifts.items))
+returns c = rw (← c.self.view_is) (ap (λ ds. record { prime = c.self.inside.known.gens.prime; degrees = ds })
+    (c.self.invariant.degrees_of_gens ∙ degrees-lifted c.self.inside.known.lifts.items))

@@ -20,7 +20,8 @@ new_places-requires-clause-same_width c =
 
 pub returns-clause-lifts : goal.returns-clause-lifts
 returns-clause-lifts c =
-    new-lifts-are c.args.res.now.group (length c.args.self.now.degrees.now) c.args.basis.now.rows c.in_ok-places.places c.in_ok-lifts.lifts.items c.in_ok-lifts.ensures.lifts
+    new-lifts-are c.args.res.now.group (length c.args.self.now.degrees.now) c.args.basis.now.rows
+    c.in_ok-places.places c.in_ok-lifts.lifts.items c.in_ok-lifts.ensures.lifts
 
 pub new_generators-requires-clause-few : goal.new_generators-requires-clause-few
 new_generators-requires-clause-few c = let l = c.in_ok-places.ensures.few in omega (arith, l, c.requires.few)
@@ -28,7 +29,9 @@ new_generators-requires-clause-few c = let l = c.in_ok-places.ensures.few in ome
 pub returns-clause-few : goal.returns-clause-few
 returns-clause-few c =
     let e = ap length c.in_ok-lifts.ensures.lifts in
-    let m = length-map c.in_ok-places.places (λ k. new_lift c.args.res.now.group (suc (length c.args.self.now.degrees.now)) (row c.args.basis.now.rows k)) in
+    let m = length-map c.in_ok-places.places
+    (λ k. new_lift c.args.res.now.group (suc (length c.args.self.now.degrees.now))
+    (row c.args.basis.now.rows k)) in
     let l = c.in_ok-places.ensures.few in
     omega (arith, e, m, l, c.requires.few)
 
@@ -37,16 +40,23 @@ returns-clause-generators c =
     let G : PGroup = c.args.res.now.group in
     let n : ℕ = length c.args.self.now.degrees.now in
     let A = c.requires.all in
-    chosen-generators G n c.args.self.now.lifts.now c.in_ok-lifts.lifts.items c.args.basis.now.rows c.in_ok-places.places c.in_ok-lifts.ensures.lifts c.args.all.now c.in_ok-places.ensures.greedy.0
+    chosen-generators G n c.args.self.now.lifts.now c.in_ok-lifts.lifts.items c.args.basis.now.rows
+    c.in_ok-places.places c.in_ok-lifts.ensures.lifts c.args.all.now c.in_ok-places.ensures.greedy.0
     c.requires.presentation A c.requires.basis
-    (subst (λ p. IsEchelonOf p (rank_of G (suc n)) c.args.all.now.values.rows c.in_ok-places.ensures.greedy.0) A.prime
-    (subst (λ w. IsEchelonOf c.args.all.now.values.p w c.args.all.now.values.rows c.in_ok-places.ensures.greedy.0) A.width c.in_ok-places.ensures.greedy.1))
-    (subst (λ p. IsGreedy p c.args.basis.now.rows c.in_ok-places.ensures.greedy.0 c.in_ok-places.places) A.prime c.in_ok-places.ensures.greedy.2)
+    (subst (λ p. IsEchelonOf p (rank_of G
+    (suc n)) c.args.all.now.values.rows c.in_ok-places.ensures.greedy.0) A.prime
+    (subst (λ w. IsEchelonOf c.args.all.now.values.p w c.args.all.now.values.rows
+    c.in_ok-places.ensures.greedy.0) A.width c.in_ok-places.ensures.greedy.1))
+    (subst (λ p. IsGreedy p c.args.basis.now.rows c.in_ok-places.ensures.greedy.0 c.in_ok-places.places)
+    A.prime c.in_ok-places.ensures.greedy.2)
     c.in_ok-places.ensures.inside
 
 pub returns-clause-spans : goal.returns-clause-spans
 returns-clause-spans c =
     let G : PGroup = c.args.res.now.group in
-    subst (λ p. AreInSpan p c.new_generators.new.all.values.rows c.args.basis.now.rows) (c.requires.all.prime ∙ sym c.in_ok-lifts.ensures.all.prime)
-    (basis-in-span c.args.all.now.values.p c.args.all.now.values.width c.args.all.now.values.rows c.in_ok-places.ensures.greedy.0 c.args.basis.now.rows c.new_generators.new.all.values.rows c.in_ok-places.places
+    subst (λ p. AreInSpan p c.new_generators.new.all.values.rows c.args.basis.now.rows) (c.requires.all.prime
+    ∙ sym c.in_ok-lifts.ensures.all.prime)
+    (basis-in-span c.args.all.now.values.p c.args.all.now.values.width c.args.all.now.values.rows
+    c.in_ok-places.ensures.greedy.0 c.args.basis.now.rows c.new_generators.new.all.values.rows
+    c.in_ok-places.places
     c.in_ok-places.ensures.greedy.1 c.in_ok-places.ensures.greedy.2 c.in_ok-lifts.ensures.rows)

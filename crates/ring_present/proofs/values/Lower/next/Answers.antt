@@ -18,43 +18,56 @@ pub choose-requires-clause-presentation : goal.choose-requires-clause-presentati
 choose-requires-clause-presentation c = c.requires.presentation.generators_are
 
 pub choose-requires-clause-basis_prime : goal.choose-requires-clause-basis_prime
-choose-requires-clause-basis_prime c = c.in_ok-basis.ensures.prime ∙ c.prime.ensures.value ∙ ap (λ (g : Generators). g.prime) c.requires.gens
+choose-requires-clause-basis_prime c = c.in_ok-basis.ensures.prime ∙ c.prime.ensures.value
+    ∙ ap (λ (g : Generators). g.prime) c.requires.gens
 
 pub choose-requires-clause-basis : goal.choose-requires-clause-basis
 choose-requires-clause-basis c =
-    subst (λ r. AreUnitRows r c.in_ok-basis.basis.rows) (c.rank.ensures.value ∙ ap (rank_of c.args.res.now.group) (add-one (length c.args.self.now.degrees.now))) c.in_ok-basis.ensures.rows
+    subst (λ r. AreUnitRows r c.in_ok-basis.basis.rows) (c.rank.ensures.value
+    ∙ ap (rank_of c.args.res.now.group)
+    (add-one (length c.args.self.now.degrees.now))) c.in_ok-basis.ensures.rows
 
 pub choose-requires-clause-basis_width : goal.choose-requires-clause-basis_width
-choose-requires-clause-basis_width c = c.in_ok-basis.ensures.width ∙ c.rank.ensures.value ∙ ap (rank_of c.args.res.now.group) (add-one (length c.args.self.now.degrees.now))
+choose-requires-clause-basis_width c = c.in_ok-basis.ensures.width ∙ c.rank.ensures.value
+    ∙ ap (rank_of c.args.res.now.group) (add-one (length c.args.self.now.degrees.now))
 
 pub choose-requires-clause-few : goal.choose-requires-clause-few
-choose-requires-clause-few c = let n = c.in_ok-basis.ensures.rows.count in omega (arith, n, c.rank.ensures.few)
+choose-requires-clause-few c = let n = c.in_ok-basis.ensures.rows.count in
+    omega (arith, n, c.rank.ensures.few)
 
 pub relations_of-requires-clause-relations : goal.relations_of-requires-clause-relations
 relations_of-requires-clause-relations c =
     let G : PGroup = c.args.res.now.group in
     let n : ℕ = length c.args.self.now.degrees.now in
     subst (λ d. All (IsRelationBelow c.choose.new.gens d) c.args.relations.now) (sym (add-one n))
-    (relations-below G n c.args.self.now.lifts.now c.in_ok-lifts.lifts.items c.args.relations.now c.requires.presentation.relations_are c.in_ok-lifts.ensures.lifts c.choose.new.gens c.in_ok-lifts.ensures.gens)
+    (relations-below G n c.args.self.now.lifts.now c.in_ok-lifts.lifts.items c.args.relations.now
+    c.requires.presentation.relations_are c.in_ok-lifts.ensures.lifts c.choose.new.gens
+    c.in_ok-lifts.ensures.gens)
 
 pub relations_of-requires-clause-factors : goal.relations_of-requires-clause-factors
 relations_of-requires-clause-factors c =
     let G : PGroup = c.args.res.now.group in
-    let lower : IsLower G c.args.self.now.lifts.now c.args.self.now.degrees.now = subst (λ (g : PGroup). IsLower g c.args.self.now.lifts.now c.args.self.now.degrees.now) c.requires.group c.requires.lower in
-    monomials-below G (length c.args.self.now.degrees.now) c.args.self.now.lifts.now c.in_ok-lifts.lifts.items c.args.relations.now c.requires.presentation.relations_are c.in_ok-lifts.ensures.lifts
+    let lower : IsLower G c.args.self.now.lifts.now c.args.self.now.degrees.now =
+    subst (λ (g : PGroup). IsLower g c.args.self.now.lifts.now c.args.self.now.degrees.now)
+    c.requires.group c.requires.lower in
+    monomials-below G (length c.args.self.now.degrees.now) c.args.self.now.lifts.now c.in_ok-lifts.lifts.items
+    c.args.relations.now c.requires.presentation.relations_are c.in_ok-lifts.ensures.lifts
     c.choose.new.gens c.in_ok-lifts.ensures.gens c.args.self.now.degrees.now refl lower.degrees_are
 
 pub relations_of-requires-clause-monomials : goal.relations_of-requires-clause-monomials
 relations_of-requires-clause-monomials c =
     let G : PGroup = c.args.res.now.group in
     let n : ℕ = length c.args.self.now.degrees.now in
-    subst (λ d. IsMonomials (greatest c.choose.new.gens) c.choose.new.gens.degrees d c.choose.new.all.monomials) (sym (add-one n))
-    (monomials-of-gens G (c.args.self.now.lifts.now ++ c.in_ok-lifts.lifts.items) c.choose.new.gens (suc n) c.choose.new.all.monomials c.in_ok-lifts.ensures.gens c.in_ok-lifts.ensures.all.monomials)
+    subst (λ d. IsMonomials (greatest c.choose.new.gens) c.choose.new.gens.degrees d
+    c.choose.new.all.monomials) (sym (add-one n))
+    (monomials-of-gens G (c.args.self.now.lifts.now ++ c.in_ok-lifts.lifts.items) c.choose.new.gens
+    (suc n) c.choose.new.all.monomials c.in_ok-lifts.ensures.gens c.in_ok-lifts.ensures.all.monomials)
 
 pub relations_of-requires-clause-prime : goal.relations_of-requires-clause-prime
 relations_of-requires-clause-prime c =
     let G : PGroup = c.args.res.now.group in
-    c.in_ok-kernel.ensures.prime ∙ c.in_ok-lifts.ensures.all.prime ∙ residues G ∙ sym (ap (λ (g : Generators). g.prime) c.in_ok-lifts.ensures.gens)
+    c.in_ok-kernel.ensures.prime ∙ c.in_ok-lifts.ensures.all.prime ∙ residues G
+    ∙ sym (ap (λ (g : Generators). g.prime) c.in_ok-lifts.ensures.gens)
 
 pub relations_of-requires-clause-width : goal.relations_of-requires-clause-width
 relations_of-requires-clause-width c =
@@ -67,12 +80,14 @@ finished-requires-clause-count c =
 pub finished-requires-clause-prime : goal.finished-requires-clause-prime
 finished-requires-clause-prime c =
     let G : PGroup = c.args.res.now.group in
-    c.in_ok-basis.ensures.prime ∙ c.prime.ensures.value ∙ ap (λ (g : Generators). g.prime) c.requires.gens ∙ sym (c.in_ok-lifts.ensures.all.prime ∙ residues G)
+    c.in_ok-basis.ensures.prime ∙ c.prime.ensures.value ∙ ap (λ (g : Generators). g.prime) c.requires.gens
+    ∙ sym (c.in_ok-lifts.ensures.all.prime ∙ residues G)
 
 pub finished-requires-clause-width : goal.finished-requires-clause-width
 finished-requires-clause-width c =
     let G : PGroup = c.args.res.now.group in
-    c.in_ok-basis.ensures.width ∙ c.rank.ensures.value ∙ ap (rank_of G) (add-one (length c.args.self.now.degrees.now)) ∙ sym c.in_ok-lifts.ensures.all.width
+    c.in_ok-basis.ensures.width ∙ c.rank.ensures.value
+    ∙ ap (rank_of G) (add-one (length c.args.self.now.degrees.now)) ∙ sym c.in_ok-lifts.ensures.all.width
 
 pub finished-requires-clause-spans : goal.finished-requires-clause-spans
 finished-requires-clause-spans c = c.in_ok-lifts.ensures.spans
@@ -93,12 +108,19 @@ returns c =
       few = c.in_ok-lifts.ensures.few;
       presentation = record {
         generators_are = c.in_ok-lifts.ensures.generators;
-        relations_are = relations-next G n c.args.self.now.lifts.now c.in_ok-lifts.lifts.items c.args.relations.now c.requires.presentation.relations_are c.in_ok-lifts.ensures.lifts
-            c.choose.new.gens c.in_ok-lifts.ensures.gens w c.in_ok-kernel.kernel.rows c.in_ok-relations.relations.items c.in_ok-lifts.ensures.all
-            (subst (λ d. AreNewRelations c.choose.new.gens c.args.relations.now d w.monomials c.in_ok-kernel.kernel.rows c.in_ok-relations.relations.items) (add-one n) c.in_ok-relations.ensures)
+        relations_are = relations-next G n c.args.self.now.lifts.now c.in_ok-lifts.lifts.items
+            c.args.relations.now c.requires.presentation.relations_are c.in_ok-lifts.ensures.lifts
+            c.choose.new.gens c.in_ok-lifts.ensures.gens w c.in_ok-kernel.kernel.rows
+            c.in_ok-relations.relations.items c.in_ok-lifts.ensures.all
+            (subst (λ d. AreNewRelations c.choose.new.gens c.args.relations.now d w.monomials
+            c.in_ok-kernel.kernel.rows c.in_ok-relations.relations.items)
+            (add-one n) c.in_ok-relations.ensures)
             c.in_ok-kernel.ensures.rows;
       };
-      degree_is = next-degree-is G (suc n) lifts w D c.in_ok-kernel.kernel.rows c.in_ok-basis.basis.rows c.in_ok-lifts.ensures.all c.in_ok-kernel.ensures.rows
-          (subst (λ r. AreUnitRows r c.in_ok-basis.basis.rows) (c.rank.ensures.value ∙ ap (rank_of G) (add-one n)) c.in_ok-basis.ensures.rows)
-          c.in_ok-degree.ensures.all c.in_ok-degree.ensures.monomials c.in_ok-degree.ensures.values c.in_ok-degree.ensures.prime c.in_ok-degree.ensures.width c.in_ok-degree.ensures.preimages;
+      degree_is = next-degree-is G (suc n) lifts w D c.in_ok-kernel.kernel.rows c.in_ok-basis.basis.rows
+          c.in_ok-lifts.ensures.all c.in_ok-kernel.ensures.rows
+          (subst (λ r. AreUnitRows r c.in_ok-basis.basis.rows) (c.rank.ensures.value
+          ∙ ap (rank_of G) (add-one n)) c.in_ok-basis.ensures.rows)
+          c.in_ok-degree.ensures.all c.in_ok-degree.ensures.monomials c.in_ok-degree.ensures.values
+          c.in_ok-degree.ensures.prime c.in_ok-degree.ensures.width c.in_ok-degree.ensures.preimages;
     }

@@ -14,37 +14,46 @@ pub row_of-requires-clause-listed : goal.row_of-requires-clause-listed
 row_of-requires-clause-listed c =
     let G : PGroup = c.args.self.now.group.now in
     let e : c.args.d ≡ suc (c.args.d - 1) = omega (arith, c.if-d-eq0.false) in
-    (c.requires.lower.degrees_are.each (c.args.d - 1) c.index-self-d.result (omega (arith, e, c.requires.within))).all.monomials.all c.args.m.now
-    (subst (λ k. IsMonomial (largest_residue G) (degrees (classes G c.args.self.now.lifts.now)) k c.args.m.now) e c.requires.monomial)
+    (c.requires.lower.degrees_are.each (c.args.d - 1) c.index-self-d.result
+    (omega (arith, e, c.requires.within))).all.monomials.all c.args.m.now
+    (subst (λ k. IsMonomial (largest_residue G)
+    (degrees (classes G c.args.self.now.lifts.now)) k c.args.m.now) e c.requires.monomial)
 
 pub row_of-requires-clause-rows : goal.row_of-requires-clause-rows
 row_of-requires-clause-rows c =
     let e : c.args.d ≡ suc (c.args.d - 1) = omega (arith, c.if-d-eq0.false) in
-    (c.requires.lower.degrees_are.each (c.args.d - 1) c.index-self-d.result (omega (arith, e, c.requires.within))).all.values.count
+    (c.requires.lower.degrees_are.each (c.args.d - 1) c.index-self-d.result
+    (omega (arith, e, c.requires.within))).all.values.count
 
 pub returns-then-d-eq0-clause-value : goal.returns-then-d-eq0-clause-value
 returns-then-d-eq0-clause-value c =
     let G : PGroup = c.args.self.now.group.now in
-    value-of-one G c.args.self.now.lifts.now _ c.args.m.now (entries_of c.view.result) c.requires.lower.lifts_are
-    (subst (λ k. IsMonomial (largest_residue G) (degrees (classes G c.args.self.now.lifts.now)) k c.args.m.now) c.if-d-eq0.true c.requires.monomial)
+    value-of-one G c.args.self.now.lifts.now _ c.args.m.now
+    (entries_of c.view.result) c.requires.lower.lifts_are
+    (subst (λ k. IsMonomial (largest_residue G)
+    (degrees (classes G c.args.self.now.lifts.now)) k c.args.m.now) c.if-d-eq0.true c.requires.monomial)
     (c.view.ensures.entries ∙ c.requires.one.1)
 
 pub returns-else-d-eq0-clause-modulus : goal.returns-else-d-eq0-clause-modulus
 returns-else-d-eq0-clause-modulus c =
     let G : PGroup = c.args.self.now.group.now in
     let e : c.args.d ≡ suc (c.args.d - 1) = omega (arith, c.if-d-eq0.false) in
-    c.row_of.ensures.modulus ∙ (c.requires.lower.degrees_are.each (c.args.d - 1) c.index-self-d.result (omega (arith, e, c.requires.within))).all.prime ∙ residues G
+    c.row_of.ensures.modulus ∙ (c.requires.lower.degrees_are.each (c.args.d - 1) c.index-self-d.result
+    (omega (arith, e, c.requires.within))).all.prime ∙ residues G
 
 pub returns-else-d-eq0-clause-length : goal.returns-else-d-eq0-clause-length
 returns-else-d-eq0-clause-length c =
     let G : PGroup = c.args.self.now.group.now in
     let e : c.args.d ≡ suc (c.args.d - 1) = omega (arith, c.if-d-eq0.false) in
-    c.row_of.ensures.length ∙ (c.requires.lower.degrees_are.each (c.args.d - 1) c.index-self-d.result (omega (arith, e, c.requires.within))).all.width ∙ ap (rank_of G) (sym e)
+    c.row_of.ensures.length ∙ (c.requires.lower.degrees_are.each (c.args.d - 1) c.index-self-d.result
+    (omega (arith, e, c.requires.within))).all.width ∙ ap (rank_of G) (sym e)
 
 pub returns-else-d-eq0-clause-value : goal.returns-else-d-eq0-clause-value
 returns-else-d-eq0-clause-value c =
     let G : PGroup = c.args.self.now.group.now in
     let e : c.args.d ≡ suc (c.args.d - 1) = omega (arith, c.if-d-eq0.false) in
-    value-of-listed G c.args.self.now.lifts.now (suc (c.args.d - 1)) c.args.m.now (entries_of c.row_of.result) _
-    (c.requires.lower.degrees_are.each (c.args.d - 1) c.index-self-d.result (omega (arith, e, c.requires.within))).all
+    value-of-listed G c.args.self.now.lifts.now (suc (c.args.d - 1)) c.args.m.now
+    (entries_of c.row_of.result) _
+    (c.requires.lower.degrees_are.each (c.args.d - 1) c.index-self-d.result
+    (omega (arith, e, c.requires.within))).all
     c.row_of.ensures.value.0 c.row_of.ensures.value.1 c.row_of.ensures.value.2 c.row_of.ensures.value.3

@@ -17,8 +17,10 @@ use Rattle.ring_present.proofs.values.Lower.values.Goals as goal
 pub write_value-requires-clause-monomial : goal.write_value-requires-clause-monomial
 write_value-requires-clause-monomial c =
     let G : PGroup = c.args.self.now.group.now in
-    subst (IsMonomial (largest_residue G) (degrees (classes G c.args.self.now.lifts.now)) c.args.d) (get_or_from_slice_get c.args.monomials.now c.loop-i.i c.get.result.now [] c.get.ensures)
-    (c.requires.monomials.each c.loop-i.i (slice_get_within c.args.monomials.now c.loop-i.i c.get.result.now c.get.ensures))
+    subst (IsMonomial (largest_residue G) (degrees (classes G c.args.self.now.lifts.now)) c.args.d)
+    (get_or_from_slice_get c.args.monomials.now c.loop-i.i c.get.result.now [] c.get.ensures)
+    (c.requires.monomials.each c.loop-i.i
+    (slice_get_within c.args.monomials.now c.loop-i.i c.get.result.now c.get.ensures))
 
 pub loop-i-preserved : goal.loop-i-preserved
 loop-i-preserved c =
@@ -27,12 +29,17 @@ loop-i-preserved c =
     record {
       prime = ap (λ (m : MatrixValue). m.p) c.in_ok-push.ensures.pushed ∙ c.loop-i.invariant.prime;
       width = ap (λ (m : MatrixValue). m.width) c.in_ok-push.ensures.pushed ∙ c.loop-i.invariant.width;
-      count = ap length rows ∙ length_push c.loop-i.values.rows (entries_of c.view.result) ∙ ap (λ n. n + 1) c.loop-i.invariant.count;
+      count = ap length rows ∙ length_push c.loop-i.values.rows (entries_of c.view.result)
+          ∙ ap (λ n. n + 1) c.loop-i.invariant.count;
       value_prime = c.in_ok-write_value.ensures.prime ∙ c.loop-i.invariant.value_prime;
       value_length = c.in_ok-write_value.ensures.length ∙ c.loop-i.invariant.value_length;
-      each = values-push (largest_residue G) (λ k. evaluate (cohomology G) (classes G c.args.self.now.lifts.now) (slice_index_or c.args.monomials.now k []))
-          c.loop-i.values.rows c.push.new.self.rows (entries_of c.view.result) c.loop-i.i c.loop-i.invariant.count c.loop-i.invariant.each
+      each = values-push (largest_residue G)
+          (λ k. evaluate (cohomology G) (classes G c.args.self.now.lifts.now)
+          (slice_index_or c.args.monomials.now k []))
+          c.loop-i.values.rows c.push.new.self.rows
+          (entries_of c.view.result) c.loop-i.i c.loop-i.invariant.count c.loop-i.invariant.each
           (ap (vector (largest_residue G)) c.view.ensures.entries ∙ c.in_ok-write_value.ensures.value
-          ∙ ap (evaluate (cohomology G) (classes G c.args.self.now.lifts.now)) (sym (get_or_from_slice_get c.args.monomials.now c.loop-i.i c.get.result.now [] c.get.ensures)))
+          ∙ ap (evaluate (cohomology G) (classes G c.args.self.now.lifts.now))
+          (sym (get_or_from_slice_get c.args.monomials.now c.loop-i.i c.get.result.now [] c.get.ensures)))
           rows;
     }

@@ -16,5 +16,6 @@ invariant-loop-i l = record {
   value_prime : l.value.p ≡ l.self.group.now.table.p;
   value_length : length l.value.entries ≡ l.rank;
   each : (k : ℕ) → k < l.i → vector (largest_residue l.self.group.now) (row l.values.rows k)
-      ≡ evaluate (cohomology l.self.group.now) (classes l.self.group.now l.self.lifts.now) (slice_index_or l.monomials k []);
+      ≡ evaluate (cohomology l.self.group.now) (classes l.self.group.now l.self.lifts.now)
+      (slice_index_or l.monomials k []);
 }
