@@ -4,3 +4,8 @@ pub mod Pairings
 pub mod Lists
 pub mod Multiples
 pub mod Levels
+pub mod EmbeddingSums
+pub mod EmbeddingRows
+pub mod EmbeddingMaps
+pub mod EmbeddingElements
+pub mod EmbeddingLevels

@@ -40,7 +40,7 @@ module _ (G : PGroup) where
   q = largest_residue G
 
   -- the value of a class at a table, by the first entries of its row
-  pair-is : (d : ℕ) (a : List ℕ) (v : (free_module G (rank_of G d)).of) (x : List ℕ)
+  pub pair-is : (d : ℕ) (a : List ℕ) (v : (free_module G (rank_of G d)).of) (x : List ℕ)
       → x ≡ (layer_coordinates G (rank_of G d)).row v
       → IsRow (suc q) (rank_of G d) a
       → pair q (group G) (layer_coordinates G) (stage_rows G) d (λ k. vector q a k.0) v ≡ residue q

@@ -3,3 +3,8 @@ pub mod RowMaps
 pub mod Values
 pub mod Maps
 pub mod Stores
+pub mod MapsAlong
+pub mod Embeddings
+pub mod EmbeddingRows
+pub mod EmbeddingValues
+pub mod EmbeddingStores

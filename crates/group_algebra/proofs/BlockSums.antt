@@ -96,7 +96,7 @@ module _ (G : PGroup) where
     abbrev part_of : Below m → (T 1).of
     part_of i z g = table_of G m x i g
 
-    block-table : (i : Below m) → table_of G 1 (block m x i.0) ≡ part_of i
+    pub block-table : (i : Below m) → table_of G 1 (block m x i.0) ≡ part_of i
     block-table i = fun_ext (λ z. fun_ext (λ g. ap (λ (y : Below 1). table_of G 1 (block m x i.0) y g)
         (below-path z (residue 0 0) (let l : z.0 < 1 = z.1 in omega (arith, l))))) ∙ whole
       where

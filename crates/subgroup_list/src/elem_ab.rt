@@ -77,6 +77,17 @@ impl ElemAb {
         self.images[e as usize]
     }
 
+    /// An equal subgroup.
+    pub fn try_clone(&self, alloc: Global) -> Result<ElemAb, Memory>
+        ensures { IfOk result (λ s. s ≡ self.now) }
+    {
+        Ok(ElemAb {
+            basis: Vec::from_slice(alloc, &self.basis)?,
+            members: Vec::from_slice(alloc, &self.members)?,
+            images: Vec::from_slice(alloc, &self.images)?,
+        })
+    }
+
     /// The subgroup of g as a group of its own, in its own numbering. Its table depends on p and the rank
     /// alone.
     pub fn group(&self, alloc: Global, g: &Group) -> Result<Group, Memory>
