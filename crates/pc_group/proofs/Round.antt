@@ -2,6 +2,7 @@
 use Rattle.std.proofs.Common.{◌≡◌, ℕ, suc, refl, sym, ◌∙◌, ap, ap₂, subst, subst₂, ◌+◌, ◌-◌, ◌*◌, ◌/◌, ◌%◌, ◌^◌, ◌<◌, ◌≤◌, arith, List, get_or, drop, length, mod-eq_of_lt}
 use Rattle.std.proofs.Math.Nat.{div-lt_iff_lt-mul, div-eq_of_lt, mul-add-mod_self_right, mul-add-div_right}
 use Rattle.std.proofs.lemmas.Nat.{pow-add}
+use Rattle.limits.specs.declared.TheConstants.{MOST_GENERATORS}
 use Rattle.power_commutator.specs.Presentations.{Presentation as Presented, IsPresentation, ascending, number, word_of, power_word, commutator_word}
 use Rattle.power_commutator.specs.Steps.{IsLayerTable, step_alpha}
 use Rattle.pc_group.specs.Tables.{entry_of, at, IsSquare, Each}
@@ -51,7 +52,7 @@ module _ (P : Presented) (i m : ℕ) (T powers commutators own pairs generators 
     below : (x : ℕ) → x < P.prime ^ P.gens → x / P.prime ^ i < length images
     below x l = subst (λ w. x / P.prime ^ i < w) (sym width-is) (scaled-below P.prime i m P.gens x s e l)
 
-    pub sound : P.gens ≤ 32 → P.prime ^ P.gens ≤ 256 → AreSound i P.gens T images own pairs generators
+    pub sound : P.gens ≤ MOST_GENERATORS → P.prime ^ P.gens ≤ 256 → AreSound i P.gens T images own pairs generators
     sound few small = record {
       order = omega (arith, e);
       few = few;

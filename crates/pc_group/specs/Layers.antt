@@ -1,5 +1,6 @@
 -- The numbers that a layer's tests are made of, and the tests of a layer by kinds.
 use Rattle.std.specs.Prelude.{◌≡◌, ℕ, suc, ◌+◌, ◌-◌, ◌*◌, ◌^◌, ◌<◌, ◌≤◌, List, [], ◌∷◌, map, get_or, drop, length}
+use Rattle.limits.specs.declared.TheConstants.{MOST_GENERATORS}
 use Rattle.power_commutator.specs.Presentations.{Presentation as Presented, IsPresentation, Equation, number, power_word, commutator_word, product, power_test, swap_test, fixed_test, twist_test, range, pairs}
 use Rattle.power_commutator.specs.Steps.{step_alpha, IsLayerTable}
 use Rattle.pc_group.specs.Tables.{entry_of, IsSquare, IsMap, AreBelow}
@@ -9,7 +10,7 @@ use Rattle.pc_group.specs.declared.layer_tests.Layer.{Layer}
 -- images
 pub record AreSound (i n : ℕ) (table images powers commutators generators : List ℕ) : Type 0 where
   pub order : i ≤ n
-  pub few : n ≤ 32
+  pub few : n ≤ MOST_GENERATORS
   pub small : length images ≤ 256
   pub square : IsSquare (length images) table
   pub images-below : IsMap (length images) images

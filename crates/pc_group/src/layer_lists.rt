@@ -6,6 +6,7 @@ ghost use Rattle.pc_group.specs.Tables.{entry_of, at, IsSquare, AreBelow, Each};
 
 use crate::tables::{digits_product, entry};
 use group_table::Memory;
+use limits::MOST_GENERATORS;
 use std::alloc::Global;
 
 /// A power that is at most 256.
@@ -47,7 +48,7 @@ pub(crate) fn generator_list(
 ) -> Result<Vec<u16>, Memory>
     requires some { 1 < prime }
     requires small { prime ^ (n - i) ≤ 256 }
-    requires count { n ≤ 32 }
+    requires count { n ≤ MOST_GENERATORS }
     ensures { IfOk result (λ v.
         Each (λ j x. (i < j → x ≡ prime ^ (j - suc i)) × x < prime ^ (n - i)) (n + 1) v.items) }
 {
@@ -86,7 +87,7 @@ pub(crate) fn element(
     requires square { IsSquare width table.now }
     requires small { width ≤ 256 }
     requires some { 0 < width }
-    requires count { n ≤ 32 }
+    requires count { n ≤ MOST_GENERATORS }
     requires inside { j ≤ n }
     requires before { i ≤ n }
     requires gens { AreBelow width gens.now }
@@ -122,7 +123,7 @@ pub(crate) fn element_list(
     requires square { IsSquare width table.now }
     requires small { width ≤ 256 }
     requires some { 0 < width }
-    requires count { n ≤ 32 }
+    requires count { n ≤ MOST_GENERATORS }
     requires before { i ≤ n }
     requires gens { AreBelow width gens.now }
     requires gens_len { length gens.now ≡ n + 1 }

@@ -6,6 +6,7 @@ ghost use Rattle.power_commutator.specs.Presentations.{IsPresentation, IsWord, i
 ghost use Rattle.pc_group.specs.Parts.{elementary_abelian, with_power, with_commutator, exponents};
 
 use group_table::{Memory, Prime};
+use limits::MOST_GENERATORS;
 use smallvec::SmallVec;
 use std::alloc::Global;
 use std::marker::Model;
@@ -38,9 +39,9 @@ impl Model for Presentation {
 
 impl Presentation {
     /// The presentation in which all words are empty, that of the elementary abelian group.
-    /// n is at most 32.
+    /// n is at most `MOST_GENERATORS`.
     pub fn new(alloc: Global, p: Prime, n: u32) -> Result<Presentation, Memory>
-        requires { n ≤ 32 }
+        requires { n ≤ MOST_GENERATORS }
         ensures { IfOk result (λ made. made ≡ elementary_abelian (prime_value p) n) }
     {
         Ok(Presentation {
@@ -62,7 +63,7 @@ impl Presentation {
     /// The number n of generators.
     pub fn gens(&self) -> u32
         ensures value { result ≡ self.now.gens }
-        ensures bound { result ≤ 32 }
+        ensures bound { result ≤ MOST_GENERATORS }
         ensures prime { 1 < self.now.prime }
         ensures valid { IsPresentation self.now }
     {

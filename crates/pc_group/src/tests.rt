@@ -6,6 +6,7 @@ ghost use Rattle.power_commutator.specs.Presentations.{IsWord};
 use super::*;
 use crate::known_groups::*;
 use group_table::{Group, Prime};
+use limits::MOST_GENERATORS;
 use smallvec::SmallVec;
 use std::alloc::Global;
 use std::process::Abort;
@@ -39,7 +40,7 @@ fn presentation_of(
     alloc: Global,
     relations: &Relations<'_>,
 ) -> Result<Presentation, Fail> {
-    assert!(rt; relations.gens <= 32);
+    assert!(rt; relations.gens <= MOST_GENERATORS);
     let mut made = Presentation::new(alloc, relations.prime, relations.gens)?;
     for (i, exponents) in relations.powers {
         assert!(rt; 0 < *i && *i <= made.gens());
