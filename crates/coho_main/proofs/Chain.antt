@@ -1,13 +1,15 @@
 -- Calls one after another end as their steps do.
-use Rattle.std.proofs.Common.{List, ℕ, refl, inl, inr}
+use Rattle.std.proofs.Common.{◌≡◌, List, ℕ, refl, sym, subst, inl, inr, arith}
+use Rattle.std.specs.declared.option.Option.{Option}
 use Rattle.std.specs.declared.result.Result.{Result}
 use Rattle.std.specs.declared.result.Result.TheVariants.{Ok, Err}
 use Rattle.std.specs.Result.{IfErr}
+use Rattle.coho_io.specs.Causes.{Rose}
 use Rattle.coho_io.specs.Content.{Content}
 use Rattle.coho_main.specs.declared.stop.Stop.{Stop}
 use Rattle.coho_main.specs.declared.stop.Stop.TheVariants as stop
-use Rattle.coho_main.specs.Steps.{Step, ◌>>=◌}
-use Rattle.coho_main.specs.Stops.{refusal_of, Meets, Settles, HasReadCause}
+use Rattle.coho_main.specs.Steps.{Refusal, Step, ◌>>=◌}
+use Rattle.coho_main.specs.Stops.{refusal_of, Meets, Settles, HasReadCause, IsReadStop, IsRefused, OnlyReads}
 
 module _ {T U A B : Type 0} (seen : T → A) (view : U → B) (first : Step A) (next : A → Step B) where
   -- the first call ended well, and the rest as it does
@@ -64,16 +66,53 @@ module _ {T A : Type 0} (view : T → A) (step : Step A) where
   settled_cause Reads before now (Ok x) h = tt
   settled_cause Reads before now (Err s) h = settled_stop Reads before now s h
 
-module _ (before now : List ℕ → ℕ) {Reads Others : List ℕ → Type 0} (f : (path : List ℕ) → Reads path
-    → Others path) where
-  cause_weaker : (s : Stop) → HasReadCause Reads before now s → HasReadCause Others before now s
-  cause_weaker (stop.Refused why) h = tt
-  cause_weaker (stop.Read path) h = (f path.now h.0, h.1)
-  cause_weaker stop.Write h = absurd h
-  cause_weaker stop.Memory h = tt
+  -- a call that wants memory meets every step
+  pub memory_settles : (s : Stop) → s ≡ stop.Memory → Settles view step (Err s)
+  memory_settles s e = subst (λ s. Settles view step (Err s)) (sym e) tt
 
-  -- a path of the first kind is one of the second
-  pub causes_weaker : {T : Type 0} (r : Result T Stop) → IfErr r (HasReadCause Reads before now)
-      → IfErr r (HasReadCause Others before now)
-  causes_weaker (Ok x) h = tt
-  causes_weaker (Err s) h = cause_weaker s h
+  -- a call that is refused as its step is
+  pub refused_settles : (Q : Refusal → Type 0) (s : Stop) → IsRefused Q s
+      → ((r : Refusal) → Q r → (files : Content) → step files (Err r) files) → Settles view step (Err s)
+  refused_settles Q (stop.Refused why) h f = f (refusal_of why) h
+  refused_settles Q (stop.Read path) h f = absurd h
+  refused_settles Q stop.Write h f = absurd h
+  refused_settles Q stop.Memory h f = tt
+
+-- a path of the first kind is one of the second
+pub cause_weaker : (Reads Others : List ℕ → Type 0) (f : (path : List ℕ) → Reads path
+    → Others path) (before now : List ℕ → ℕ) (s : Stop) → HasReadCause Reads before now s
+    → HasReadCause Others before now s
+cause_weaker Reads Others f before now (stop.Refused why) h = tt
+cause_weaker Reads Others f before now (stop.Read path) h = (f path.now h.0, h.1)
+cause_weaker Reads Others f before now stop.Write h = absurd h
+cause_weaker Reads Others f before now stop.Memory h = tt
+
+pub path_cause : (path : List ℕ) (before now : List ℕ → ℕ) (s : Stop) → IsReadStop path before now s
+    → HasReadCause (λ p. p ≡ path) before now s
+path_cause path before now (stop.Refused why) h = absurd h
+path_cause path before now (stop.Read p) h = (h.0, subst (λ q. Rose (before q) (now q)) (sym h.0) h.1)
+path_cause path before now stop.Write h = absurd h
+path_cause path before now stop.Memory h = tt
+
+-- what calls one after another read
+
+abbrev Causes : Type 1
+Causes = (List ℕ → ℕ) → (List ℕ → ℕ) → Stop → Type 0
+
+module _ {T U : Type 0} (First All : Causes) (content content_now : Option Content) (before now : List ℕ
+    → ℕ) where
+  -- the call that reads stopped, and so does the whole
+  pub reads_stop : (s : Stop) → OnlyReads {T = T} First content content_now before now (Err s)
+      → (First before now s → All before now s) → OnlyReads {T = U} All content content_now before now (Err s)
+  reads_stop s h f = record { content = h.content; later = h.later; cause = f h.cause }
+
+  -- it ended well, and then nothing was read
+  pub reads_then : (x : T) (r : Result U Stop) → OnlyReads First content content_now before now (Ok x)
+      → IfErr r (All before now) → OnlyReads All content content_now before now r
+  reads_then x r h cause = record { content = h.content; later = h.later; cause = cause }
+
+-- nothing was read
+pub reads_nothing : {T : Type 0} (All : Causes) (content : Option Content) (before : List ℕ
+    → ℕ) (r : Result T Stop) → IfErr r (All before before) → OnlyReads All content content before before r
+reads_nothing All content before r cause =
+    record { content = refl; later = λ path. omega arith; cause = cause }

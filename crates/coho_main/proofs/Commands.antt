@@ -189,18 +189,13 @@ unread_words P k (inr p) = go k
   where
     go : (k : ErrorKind) → IsWordsStop P (parse_stop k)
     go kind.OutOfMemory = tt
-    go _ = p
+    go _ = (p, refl)
 
 -- a call stopped at the words
 pub stopped : (words : List Text) (P : Type 0) (s : Stop) → IsWordsStop P s → (P → command words ≡ None)
     → Settles asked (Ask words) (Err s)
-stopped words P (stop.Refused cause.Words) h none = refuses words (none h)
-stopped words P (stop.Refused cause.Length) h none = absurd h
-stopped words P (stop.Refused (cause.Text kind line column)) h none = absurd h
-stopped words P (stop.Refused cause.Order) h none = absurd h
-stopped words P (stop.Refused (cause.Inconsistent name)) h none = absurd h
-stopped words P (stop.Refused (cause.Stage d X)) h none = absurd h
-stopped words P (stop.Refused (cause.Monomials d X)) h none = absurd h
+stopped words P (stop.Refused why) h none =
+    λ files. subst (λ q. Ask words files (Err q) files) (sym h.1) (refuses words (none h.0) files)
 stopped words P (stop.Read path) h none = absurd h
 stopped words P stop.Write h none = absurd h
 stopped words P stop.Memory h none = tt

@@ -5,15 +5,14 @@ pub mod Seen
 pub mod Loads
 pub mod Replies
 pub mod OneTable
+pub mod Proper
 pub mod Sizes
 pub mod StageRows
 pub mod OneResolution
 pub mod Ringing
-pub mod Unique
-pub mod Usage
 pub mod ParsedWords
 pub mod Commands
 pub mod Run
 pub mod TableExists
 pub mod StagesExist
-pub mod OutcomeExists
+pub mod Outcomes

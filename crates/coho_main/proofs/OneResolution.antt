@@ -1,45 +1,72 @@
--- A presentation has one list of stages to a degree, or one first stage that does not fit.
-use Rattle.std.proofs.Common.{◌≡◌, ℕ, suc, ◌<◌, List, sym, ◌∙◌, ap, subst, arith}
-use Rattle.power_commutator.specs.Presentations.{Presentation}
+-- A group has one list of stages to a degree, or one first stage that does not fit.
+use Rattle.std.proofs.Common.{◌≡◌, ◌∙◌, ◌⊎◌, inl, inr, ℕ, suc, ◌<◌, List, ap, refl, sym, arith}
 use Rattle.p_groups.specs.PGroups.{PGroup}
-use Rattle.coho_main.specs.Stages.{Summary, stages_below, dimension, IsFirstAbove, AreStagesOf, IsStageAbove}
-use Rattle.coho_main.proofs.OneTable.{one_table}
+use Rattle.coho_main.specs.Refusals.{stage_refused}
+use Rattle.coho_main.specs.Stages.{Summary, stages_below, dimension, Fit, IsFirstAbove, AreStagesTo, IsStageRefusal}
+use Rattle.coho_main.specs.Steps.{Refusal}
+use Rattle.coho_main.proofs.Proper.{IsDecided}
+use Rattle.coho_main.proofs.StagesExist.{fit_or_first}
 
-module _ (P : Presentation) (n : ℕ) where
-  pub one_list : (xs ys : List Summary) → AreStagesOf P n xs → AreStagesOf P n ys → xs ≡ ys
-  one_list xs ys a b =
-      a.are ∙ sym (subst (λ G. ys ≡ stages_below G (suc n))
-      (sym (one_table P a.group b.group a.is_table b.is_table)) b.are)
-
-  -- what does not fit for the one table does not fit for the other
-  moved : (G H : PGroup) (d X : ℕ) → G ≡ H → IsFirstAbove H n d X → IsFirstAbove G n d X
-  moved G H d X same first = subst (λ G. IsFirstAbove G n d X) (sym same) first
-
-  pub not_both : (xs : List Summary) (d X : ℕ) → AreStagesOf P n xs → IsStageAbove P n d X → ⊥
-  not_both xs d X a b =
-      let first = moved a.group b.group d X (one_table P a.group b.group a.is_table b.is_table) b.is_first in
-      let fits = a.fit d first.from first.to in
+module _ (G : PGroup) (n : ℕ) where
+  fit_or_refused : (q : Refusal) → Fit G n → IsStageRefusal G n q → ⊥
+  fit_or_refused q fit a =
+      let first = a.2 in
+      let fits = fit a.0 first.from first.to in
       let is = first.is in
       let above = first.above in
       omega arith
 
-  module _ (G : PGroup) (d X c Y : ℕ) (a : IsFirstAbove G n d X) (b : IsFirstAbove G n c Y) where
-    not_less : d < c → ⊥
-    not_less less =
-        let fits = b.first d a.from less in
-        let is = a.is in
-        let above = a.above in
-        omega arith
+  not_less : (d X c Y : ℕ) → IsFirstAbove G n d X → IsFirstAbove G n c Y → d < c → ⊥
+  not_less d X c Y a b less =
+      let fits = b.first d a.from less in
+      let is = a.is in
+      let above = a.above in
+      omega arith
 
-  same_degree : (G : PGroup) (d X c Y : ℕ) → IsFirstAbove G n d X → IsFirstAbove G n c Y → d ≡ c
-  same_degree G d X c Y a b =
-      let left = not_less G d X c Y a b in
-      let right = not_less G c Y d X b a in
+  same_degree : (d X c Y : ℕ) → IsFirstAbove G n d X → IsFirstAbove G n c Y → d ≡ c
+  same_degree d X c Y a b =
+      let left = not_less d X c Y a b in
+      let right = not_less c Y d X b a in
       grind (arith, left, right)
 
-  pub one_above : (d X c Y : ℕ) → IsStageAbove P n d X → IsStageAbove P n c Y → (d ≡ c) × (X ≡ Y)
-  one_above d X c Y a b =
-      let first = a.is_first in
-      let other = moved a.group b.group c Y (one_table P a.group b.group a.is_table b.is_table) b.is_first in
-      let same = same_degree a.group d X c Y first other in
-      (same, first.is ∙ ap (dimension a.group) same ∙ sym other.is)
+  one_refused : (q r : Refusal) → IsStageRefusal G n q → IsStageRefusal G n r → q ≡ r
+  one_refused q r a b =
+      let first = a.2 in
+      let other = b.2 in
+      let same = same_degree a.0 a.1 b.0 b.1 first other in
+      let dimensions = first.is ∙ ap (dimension G) same ∙ sym other.is in
+      a.3 ∙ ap (λ d. stage_refused d a.1) same ∙ ap (stage_refused b.0) dimensions ∙ sym b.3
+
+  refused : ((d : ℕ) × IsFirstAbove G n d (dimension G d)) → (q : Refusal) × IsStageRefusal G n q
+  refused one = (stage_refused one.0 (dimension G one.0), (one.0, dimension G one.0, one.1, refl))
+
+  some_fit : ((x : Unit {0}) × Fit G n) ⊎ ((q : Refusal) × IsStageRefusal G n q)
+  some_fit = elim (fit_or_first G n) [ inl fit ↦ inl (tt, fit) | inr one ↦ inr (refused one) ]
+
+  some_stages : ((stages : List Summary) × AreStagesTo G n stages) ⊎ ((q : Refusal) × IsStageRefusal G n q)
+  some_stages = elim (fit_or_first G n) [
+    | inl fit ↦ inl (
+      stages_below G (suc n),
+      record { fit = fit; are = refl },
+    )
+    | inr one ↦ inr (refused one)
+  ]
+
+pub stages_decided : (n : ℕ) → IsDecided (λ G (stages : List Summary). AreStagesTo G n stages)
+    (λ G refusal. IsStageRefusal G n refusal)
+stages_decided n = record {
+  one_value = λ G xs ys a b. a.are ∙ sym b.are;
+  one_refusal = λ G q r a b. one_refused G n q r a b;
+  not_both = λ G xs q a b. fit_or_refused G n q a.fit b;
+  some = λ G. some_stages G n;
+  keeps = λ G q a e. let is = a.3 in let no = sym (ap (λ (q : Refusal). q.status) is) ∙ e in cc;
+}
+
+pub fit_decided : (n : ℕ) → IsDecided (λ G (x : Unit {0}). Fit G n) (λ G refusal. IsStageRefusal G n refusal)
+fit_decided n = record {
+  one_value = λ G x y a b. refl;
+  one_refusal = λ G q r a b. one_refused G n q r a b;
+  not_both = λ G x q a b. fit_or_refused G n q a b;
+  some = λ G. some_fit G n;
+  keeps = λ G q a e. let is = a.3 in let no = sym (ap (λ (q : Refusal). q.status) is) ∙ e in cc;
+}

@@ -1,4 +1,4 @@
--- A presentation has one group table, and one list of layer sizes.
+-- A presentation has one group table.
 use Rattle.std.proofs.Common.{◌≡◌, ℕ, ◌+◌, ◌*◌, ◌/◌, ◌%◌, ◌^◌, ◌<◌, List, get_or, sym, ◌∙◌, ap, subst, arith}
 use Rattle.std.proofs.Math.Nat.{div-lt_iff_lt-mul, mod-lt}
 use Rattle.std.proofs.lemmas.Nat.{div-add-mod'}
@@ -7,8 +7,7 @@ use Rattle.group_table.specs.Tables.{order, order_is, product, product_is}
 use Rattle.power_commutator.specs.Presentations.{Presentation}
 use Rattle.p_groups.specs.PGroups.{PGroup}
 use Rattle.p_groups.proofs.SameTables.{same_table}
-use Rattle.group_algebra.specs.Coordinates.{sizes}
-use Rattle.coho_main.specs.Layers.{IsTableOf, AreLayerSizes}
+use Rattle.coho_main.specs.Groups.{IsTableOf}
 
 module _ (P : Presentation) (G H : PGroup) (g : IsTableOf P G) (h : IsTableOf P H) where
   same_prime : G.table.p ≡ H.table.p
@@ -48,8 +47,3 @@ module _ (P : Presentation) (G H : PGroup) (g : IsTableOf P G) (h : IsTableOf P 
       (ap (λ p. record { p = p; n = G.table.n; entries = G.table.entries }) same_prime
       ∙ ap (λ n. record { p = H.table.p; n = n; entries = G.table.entries }) same_rank
       ∙ ap (λ e. record { p = H.table.p; n = H.table.n; entries = e }) same_entries)
-
--- and one list of layer sizes
-pub one_sizes : (P : Presentation) (xs ys : List ℕ) → AreLayerSizes P xs → AreLayerSizes P ys → xs ≡ ys
-one_sizes P xs ys a b =
-    a.are ∙ sym (subst (λ G. ys ≡ sizes G) (sym (one_table P a.group b.group a.is_table b.is_table)) b.are)

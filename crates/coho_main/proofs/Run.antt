@@ -20,11 +20,14 @@ use Rattle.coho_main.specs.declared.cause.Cause.TheVariants as cause
 use Rattle.coho_main.specs.Refusals.{words_refused, read_refused, write_refused, memory_refused}
 use Rattle.coho_main.specs.Steps.{Refusal}
 use Rattle.coho_main.specs.Stops.{refusal_of, told, Meets, HasReadCause, IsWriteStop}
-use Rattle.coho_main.specs.Run.{Agrees, Answers, OfFiles, IsSettled, Leaves, Tells, EndsAs, AnswersFront, MayTell, ToldFront, WantsMemory, NoReadFault}
+use Rattle.coho_main.specs.Run.{Agrees, Answers, OfFiles, IsSettled, Leaves, Tells, EndsAs, AnswersFront, MayTell, Stays, ToldFront, WantsMemory, NoReadFault}
 use Rattle.coho_main.specs.Words.{Command, IsRead, command}
 use Rattle.coho_main.proofs.Replies.{Lines, lines_of, MeetsOf}
-use Rattle.coho_main.proofs.Unique.{outcome_unique}
-use Rattle.coho_main.proofs.Usage.{usage_is, none_comes}
+use Rattle.coho_main.proofs.Outcomes.{none_comes, outcome_unique, usage_is}
+
+-- nothing was saved
+pub stays : (words : List (List ℕ)) (before now : Option Content) → now ≡ before → Stays words before now
+stays words before now same = λ told e. (told, same ∙ e, λ path other. refl)
 
 Appends_nothing : (known : Option (List ℕ)) → Appends known known []
 Appends_nothing None = tt

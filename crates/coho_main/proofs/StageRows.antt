@@ -17,13 +17,12 @@ use Rattle.min_res.specs.Defined.{IsStageAt}
 use Rattle.min_res.specs.Stages.{rank_of, stage_rows}
 use Rattle.min_res.specs.Refusals.{IsRefusal}
 use Rattle.coho_main.specs.Outcome.{after_space, stage_line, stage_lines}
-use Rattle.coho_main.specs.Stages.{Summary, summary, HasRows, rows_at, stage_at, stages_below, dimension, Fit, IsFirstAbove, AreStagesOf}
+use Rattle.coho_main.specs.Stages.{Summary, summary, HasRows, rows_at, stage_at, stages_below, dimension, Fit, IsFirstAbove, AreStagesTo, IsStageRefusal}
 use Rattle.coho_main.specs.Words.{contents}
 use Rattle.power_commutator.specs.Presentations.{Presentation}
-use Rattle.coho_main.specs.declared.stop.Stop.{Stop}
-use Rattle.coho_main.specs.declared.stop.Stop.TheVariants as stop
-use Rattle.coho_main.specs.Layers.{IsTableOf}
-use Rattle.coho_main.specs.Resolving.{IsStageFault, IsStageStop, IsResolutionTo, stop_of, TellsStage, TellsStages}
+use Rattle.coho_main.specs.Stops.{IsRefused}
+use Rattle.coho_main.specs.Groups.{ForGroupOf, IsTableOf}
+use Rattle.coho_main.specs.Resolving.{IsStageFault, IsResolutionTo, stop_of, TellsStage, TellsStages}
 
 -- the rows of a boundary
 
@@ -214,31 +213,26 @@ module _ (P : Presentation) (n : ℕ) (G : PGroup) (start : ResolutionValue) (is
     fit = subst (λ K. Fit K n) (sym same) fit;
   }
 
-  pub stage_stop : (e : ResFault) → IsStageFault start.group n e → IsStageStop P n (stop_of e)
-  stage_stop (fault.TooLarge d X) first =
-      record {
-        group = G;
-        is_table = is;
-        is_first = subst (λ (r : ResolutionValue). IsFirstAbove r.group n d X) from first;
-      }
+  pub stage_stop : (e : ResFault) → IsStageFault start.group n e
+      → IsRefused (λ refusal. ForGroupOf P (λ G. IsStageRefusal G n refusal)) (stop_of e)
+  stage_stop (fault.TooLarge d X) first = record {
+    group = G;
+    is_table = is;
+    holds = (d, X, subst (λ (r : ResolutionValue). IsFirstAbove r.group n d X) from first, refl);
+  }
   stage_stop fault.Memory first = tt
-
-pub memory_stop : (P : Presentation) (n : ℕ) (s : Stop) → s ≡ stop.Memory → IsStageStop P n s
-memory_stop P n s e = subst (IsStageStop P n) (sym e) tt
 
 -- what the answer tells of it
 pub stages_of : (P : Presentation) (n : ℕ) (r : ResolutionValue) → IsResolutionTo P n r
-    → (lines : List (List ℕ)) → TellsStages r.group (r.last + 1) lines → (stages : List Summary)
-    × AreStagesOf P n stages × (lines ≡ stage_lines stages)
+    → (lines : List (List ℕ)) → TellsStages r.group (r.last + 1) lines
+    → (stages : List Summary) × ForGroupOf P (λ G. AreStagesTo G n stages) × (lines ≡ stage_lines stages)
 stages_of P n r R lines t =
     let same : r.last + 1 ≡ suc n = let e = R.last in omega (arith, e) in (
       t.0,
       record {
         group = r.group;
         is_table = R.is_table;
-        fit = R.fit;
-        are = t.1
-            ∙ ap (stages_below r.group) same;
+        holds = record { fit = R.fit; are = t.1 ∙ ap (stages_below r.group) same };
       },
       t.2,
     )

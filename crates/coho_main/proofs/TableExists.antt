@@ -12,7 +12,7 @@ use Rattle.power_commutator.proofs.Result.{claims}
 use Rattle.pc_group.specs.GroupOf.{IsGroupOf}
 use Rattle.pc_group.proofs.GroupTables.{group-same}
 use Rattle.p_groups.specs.PGroups.{PGroup}
-use Rattle.coho_main.specs.Layers.{IsTableOf}
+use Rattle.coho_main.specs.Groups.{IsTableOf}
 
 module _ (P : Presentation) (C : GroupClaims P) where
   abbrev size : ℕ

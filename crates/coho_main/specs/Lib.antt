@@ -1,7 +1,7 @@
 pub mod Steps
 pub mod Words
 pub mod Refusals
-pub mod Layers
+pub mod Groups
 pub mod Ringing
 pub mod Outcome
 pub mod Stops

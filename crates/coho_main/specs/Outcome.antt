@@ -14,12 +14,12 @@ use Rattle.pc_text.specs.Faults.{Fault}
 use Rattle.pc_text.specs.Texts.{read}
 use Rattle.coho_main.specs.declared.status.Status.{Status}
 use Rattle.coho_main.specs.declared.status.Status.TheVariants as status
-use Rattle.coho_main.specs.Steps.{Refusal, Step, ◌>>=◌, Gives, Refuses, OrRefuse, RefuseIf}
-use Rattle.coho_main.specs.Refusals.{words_refused, read_refused, length_refused, text_refused, order_refused, test_refused, stage_refused, monomials_refused}
-use Rattle.coho_main.specs.Words.{Command, Group, Resolve, Ring, command}
-use Rattle.coho_main.specs.Layers.{AreLayerSizes}
-use Rattle.coho_main.specs.Stages.{Summary, AreStagesOf, HasFitStages, IsStageAbove}
-use Rattle.coho_main.specs.Ringing.{IsReportOf, HasTooMany}
+use Rattle.coho_main.specs.Steps.{Refusal, Step, ◌>>=◌, Gives, Refuses, OrRefuse, RefuseIf, OnGroup}
+use Rattle.coho_main.specs.Refusals.{words_refused, read_refused, length_refused, text_refused, order_refused, test_refused}
+use Rattle.coho_main.specs.Words.{Command, Group, Resolve, Ring, command, path_of}
+use Rattle.group_algebra.specs.Coordinates.{sizes}
+use Rattle.coho_main.specs.Stages.{Summary, Fit, AreStagesTo, IsStageRefusal}
+use Rattle.coho_main.specs.Ringing.{IsReportTo, IsReportRefusal}
 use Rattle.coho_report.specs.Values.{ReportValue}
 use Rattle.coho_report.specs.Lines.{report_lines}
 
@@ -62,11 +62,15 @@ UnlessFalse P (Some name) = Refuses (test_refused name)
 abbrev pub Test : Presentation → Step Presentation
 Test P = UnlessFalse P (first_fault P)
 
--- the consistent presentation of a text
-abbrev pub Describe : List ℕ → Step Presentation
-Describe text = do
+-- the presentation of a text that is not too long
+abbrev pub ReadText : List ℕ → Step Presentation
+ReadText text = do
   _ ← FitLength text
-  P ← Present text
+  Present text
+
+-- a presentation whose order is not too great, and in which no consistency test is false
+abbrev pub Accept : Presentation → Step Presentation
+Accept P = do
   _ ← FitOrder P
   Test P
 
@@ -74,30 +78,24 @@ Describe text = do
 abbrev pub Load : List ℕ → Step Presentation
 Load path = do
   text ← ReadFront path
-  Describe text
+  P ← ReadText text
+  Accept P
 
 -- the dimensions of the radical layers of the group algebra
 abbrev pub Layers : Presentation → Step (List ℕ)
-Layers P old (Ok dimensions) new = AreLayerSizes P dimensions × (new ≡ old)
-Layers P old (Err refusal) new = ⊥
+Layers P = OnGroup P (λ G dimensions. dimensions ≡ sizes G) (λ G refusal. ⊥)
 
 -- the stages of the minimal resolution to degree n, or the first that is above the limit
 abbrev pub Stages : Presentation → ℕ → Step (List Summary)
-Stages P n old (Ok stages) new = AreStagesOf P n stages × (new ≡ old)
-Stages P n old (Err refusal) new =
-    ((d : ℕ) × (X : ℕ) × IsStageAbove P n d X × (refusal ≡ stage_refused d X)) × (new ≡ old)
+Stages P n = OnGroup P (λ G stages. AreStagesTo G n stages) (λ G refusal. IsStageRefusal G n refusal)
 
 -- no stage to degree n is above the limit, or the first one
 abbrev pub FitStages : Presentation → ℕ → Step (Unit {0})
-FitStages P n old (Ok x) new = HasFitStages P n × (new ≡ old)
-FitStages P n old (Err refusal) new =
-    ((d : ℕ) × (X : ℕ) × IsStageAbove P n d X × (refusal ≡ stage_refused d X)) × (new ≡ old)
+FitStages P n = OnGroup P (λ G _. Fit G n) (λ G refusal. IsStageRefusal G n refusal)
 
 -- the report on the cohomology ring through degree n, or the first degree that has too many monomials
 abbrev pub Report : Presentation → ℕ → Step ReportValue
-Report P n old (Ok report) new = IsReportOf P n report × (new ≡ old)
-Report P n old (Err refusal) new =
-    ((d : ℕ) × (X : ℕ) × HasTooMany P n d X × (refusal ≡ monomials_refused d X)) × (new ≡ old)
+Report P n = OnGroup P (λ G report. IsReportTo G n report) (λ G refusal. IsReportRefusal G n refusal)
 
 -- the answers
 
@@ -137,21 +135,32 @@ stage_line s =
 abbrev pub stage_lines : List Summary → List (List ℕ)
 stage_lines stages = map stage_line stages
 
--- the commands, step by step
-abbrev pub Reply : Command → Step (List (List ℕ))
-Reply (Group path) = do
-  P ← Load path
+-- the commands, step by step, on the presentation of their file
+abbrev pub AnswerGroup : Presentation → Step (List (List ℕ))
+AnswerGroup P = do
   dimensions ← Layers P
   Gives (group_lines P dimensions)
-Reply (Resolve path n) = do
-  P ← Load path
+
+abbrev pub AnswerResolve : Presentation → ℕ → Step (List (List ℕ))
+AnswerResolve P n = do
   stages ← Stages P n
   Gives (stage_lines stages)
-Reply (Ring path n) = do
-  P ← Load path
+
+abbrev pub AnswerRing : Presentation → ℕ → Step (List (List ℕ))
+AnswerRing P n = do
   _ ← FitStages P n
   report ← Report P n
   Gives (report_lines report)
+
+abbrev pub Answer : Command → Presentation → Step (List (List ℕ))
+Answer (Group path) P = AnswerGroup P
+Answer (Resolve path n) P = AnswerResolve P n
+Answer (Ring path n) P = AnswerRing P n
+
+abbrev pub Reply : Command → Step (List (List ℕ))
+Reply asked = do
+  P ← Load (path_of asked)
+  Answer asked P
 
 abbrev pub Comes : List (List ℕ) → Step (List (List ℕ))
 Comes words = do

@@ -8,8 +8,8 @@ use Rattle.min_res.specs.declared.fault.ResFault.TheVariants as fault
 use Rattle.coho_main.specs.declared.cause.Cause.TheVariants as cause
 use Rattle.coho_main.specs.declared.stop.Stop.{Stop}
 use Rattle.coho_main.specs.declared.stop.Stop.TheVariants as stop
-use Rattle.coho_main.specs.Layers.{IsTableOf}
-use Rattle.coho_main.specs.Stages.{Summary, stage_at, stages_below, Fit, IsFirstAbove, IsStageAbove}
+use Rattle.coho_main.specs.Groups.{IsTableOf}
+use Rattle.coho_main.specs.Stages.{Summary, stage_at, stages_below, Fit, IsFirstAbove}
 use Rattle.coho_main.specs.Outcome.{stage_line, stage_lines}
 
 -- the fault names the first stage to degree n that does not fit, or memory was wanting
@@ -21,12 +21,6 @@ IsStageFault G n fault.Memory = ⊤
 abbrev pub stop_of : ResFault → Stop
 stop_of (fault.TooLarge d X) = stop.Refused (cause.Stage d X)
 stop_of fault.Memory = stop.Memory
-
--- the stop names the first stage to degree n that does not fit, or memory was wanting
-abbrev pub IsStageStop : Presentation → ℕ → Stop → Type 0
-IsStageStop P n (stop.Refused (cause.Stage d X)) = IsStageAbove P n d X
-IsStageStop P n stop.Memory = ⊤
-IsStageStop P n _ = ⊥
 
 -- the stages to degree n, whose dimensions fit, for the group of P
 pub record IsResolutionTo (P : Presentation) (n : ℕ) (r : ResolutionValue) : Type 0 where

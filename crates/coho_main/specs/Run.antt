@@ -5,11 +5,11 @@ use Rattle.std.specs.declared.option.Option.TheVariants.{Some}
 use Rattle.std.specs.Io.KnownBytes.{Appends}
 use Rattle.coho_io.specs.Causes.{Rose}
 use Rattle.coho_io.specs.Bytes.{AppendsFront}
-use Rattle.coho_io.specs.Content.{Content}
+use Rattle.coho_io.specs.Content.{Content, file}
 use Rattle.coho_main.specs.declared.status.Status.{Status}
 use Rattle.coho_main.specs.declared.status.Status.TheVariants as status
 use Rattle.coho_main.specs.Refusals.{read_refused, write_refused, memory_refused}
-use Rattle.coho_main.specs.Words.{IsRead}
+use Rattle.coho_main.specs.Words.{IsRead, IsSaved}
 use Rattle.coho_main.specs.Outcome.{Ending, Outcome}
 
 -- these are the files that are told, where any are told
@@ -19,6 +19,12 @@ Agrees known files = (told : Content) → known ≡ Some told → told ≡ files
 -- the files after a run are told where they were told before, and are these
 abbrev pub Leaves : Option Content → Option Content → Content → Type 0
 Leaves before now files = (told : Content) → before ≡ Some told → now ≡ Some files
+
+-- every path but those that the words save to stays, where files are told
+abbrev pub Stays : List (List ℕ) → Option Content → Option Content → Type 0
+Stays words before now = (told : Content) → before ≡ Some told
+    → (left : Content) × (now ≡ Some left)
+    × ((path : List ℕ) → (IsSaved words path → ⊥) → file left path ≡ file told path)
 
 -- it holds of the files that are told, and where none are told of some files
 abbrev pub OfFiles : Option Content → (Content → Type 0) → Type 0

@@ -4,11 +4,11 @@ use Rattle.std.specs.declared.option.Option.{Option}
 use Rattle.std.specs.declared.option.Option.TheVariants.{None, Some}
 use Rattle.std.specs.Option.{option_map}
 use Rattle.limits.specs.declared.TheConstants.{GREATEST_DIMENSION}
-use Rattle.power_commutator.specs.Presentations.{Presentation}
 use Rattle.p_groups.specs.PGroups.{PGroup, order_of}
 use Rattle.min_res.specs.Values.{StageValue}
 use Rattle.min_res.specs.Stages.{stage_rows, rank_of}
-use Rattle.coho_main.specs.Layers.{IsTableOf}
+use Rattle.coho_main.specs.Refusals.{stage_refused}
+use Rattle.coho_main.specs.Steps.{Refusal}
 
 -- what an answer tells of a stage
 pub record Summary : Type 0 where
@@ -67,21 +67,11 @@ module _ (G : PGroup) where
     pub above : GREATEST_DIMENSION < X
     pub first : (c : ℕ) → 1 ≤ c → c < d → dimension c ≤ GREATEST_DIMENSION
 
--- the stages of degree 0 to n, whose dimensions all fit, for the group of P
-pub record AreStagesOf (P : Presentation) (n : ℕ) (stages : List Summary) : Type 0 where
-  pub group : PGroup
-  pub is_table : IsTableOf P group
-  pub fit : Fit group n
-  pub are : stages ≡ stages_below group (suc n)
+  -- the refusal names the first stage to degree n that does not fit
+  abbrev pub IsStageRefusal : ℕ → Refusal → Type 0
+  IsStageRefusal n refusal = (d : ℕ) × (X : ℕ) × IsFirstAbove n d X × (refusal ≡ stage_refused d X)
 
--- the stages of degree 0 to n all fit, for the group of P
-pub record HasFitStages (P : Presentation) (n : ℕ) : Type 0 where
-  pub group : PGroup
-  pub is_table : IsTableOf P group
-  pub fit : Fit group n
-
--- the stage of degree d, of dimension X, is the first that does not fit, for the group of P
-pub record IsStageAbove (P : Presentation) (n d X : ℕ) : Type 0 where
-  pub group : PGroup
-  pub is_table : IsTableOf P group
-  pub is_first : IsFirstAbove group n d X
+  -- the stages of degree 0 to n, whose dimensions all fit
+  pub record AreStagesTo (n : ℕ) (stages : List Summary) : Type 0 where
+    pub fit : Fit n
+    pub are : stages ≡ stages_below (suc n)

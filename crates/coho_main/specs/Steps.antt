@@ -5,7 +5,10 @@ use Rattle.std.specs.declared.option.Option.TheVariants.{None, Some}
 use Rattle.std.specs.declared.result.Result.{Result}
 use Rattle.std.specs.declared.result.Result.TheVariants.{Ok, Err}
 use Rattle.coho_io.specs.Content.{Content}
+use Rattle.power_commutator.specs.Presentations.{Presentation}
+use Rattle.p_groups.specs.PGroups.{PGroup}
 use Rattle.coho_main.specs.declared.status.Status.{Status}
+use Rattle.coho_main.specs.Groups.{ForGroupOf}
 
 infixr 10 ◌>>=◌
 -- the status of a run that is refused, and its line on err
@@ -40,3 +43,9 @@ OrRefuse refusal (Some x) = Gives x
 abbrev pub RefuseIf : Bool → Refusal → Step (Unit {0})
 RefuseIf true refusal = Refuses refusal
 RefuseIf false refusal = Gives tt
+
+-- goes on with a value that belongs to the group of P, or is refused for it, and leaves the files
+abbrev pub OnGroup : {A : Type 0} → Presentation → (PGroup → A → Type 0) → (PGroup → Refusal → Type 0)
+    → Step A
+OnGroup P Value Refused old (Ok x) new = ForGroupOf P (λ G. Value G x) × (new ≡ old)
+OnGroup P Value Refused old (Err refusal) new = ForGroupOf P (λ G. Refused G refusal) × (new ≡ old)

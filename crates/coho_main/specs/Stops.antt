@@ -1,8 +1,10 @@
 -- Where the program's own calls stop: at a refusal, at a fault, or for want of memory.
 use Rattle.std.specs.Prelude.{◌≡◌, ℕ, List, ⊤}
+use Rattle.std.specs.declared.option.Option.{Option}
 use Rattle.std.specs.declared.result.Result.{Result}
 use Rattle.std.specs.declared.result.Result.TheVariants.{Ok, Err}
-use Rattle.coho_io.specs.Causes.{Rose}
+use Rattle.std.specs.Result.{IfErr}
+use Rattle.coho_io.specs.Causes.{NoneFell, Rose}
 use Rattle.clap.specs.declared.error.kind.ErrorKind.{ErrorKind}
 use Rattle.clap.specs.declared.error.kind.ErrorKind.TheVariants as kind
 use Rattle.coho_io.specs.Content.{Content}
@@ -72,8 +74,21 @@ abbrev pub parse_stop : ErrorKind → Stop
 parse_stop kind.OutOfMemory = stop.Memory
 parse_stop _ = stop.Refused cause.Words
 
+-- a call stopped at a refusal of which Q holds, or for want of memory
+abbrev pub IsRefused : (Refusal → Type 0) → Stop → Type 0
+IsRefused Q (stop.Refused why) = Q (refusal_of why)
+IsRefused Q (stop.Read path) = ⊥
+IsRefused Q stop.Write = ⊥
+IsRefused Q stop.Memory = ⊤
+
 -- a stop at the words, where P says why, or for want of memory
 abbrev pub IsWordsStop : Type 0 → Stop → Type 0
-IsWordsStop P (stop.Refused cause.Words) = P
-IsWordsStop P stop.Memory = ⊤
-IsWordsStop P _ = ⊥
+IsWordsStop P s = IsRefused (λ refusal. P × (refusal ≡ words_refused)) s
+
+-- a call only read files: what is told of them stays, no count fell, and where it stopped, the cause is told
+pub record OnlyReads {T : Type 0}
+    (IsCause : (List ℕ → ℕ) → (List ℕ → ℕ) → Stop → Type 0)
+    (told told_now : Option Content) (before now : List ℕ → ℕ) (r : Result T Stop) : Type 0 where
+  pub content : told_now ≡ told
+  pub later : NoneFell before now
+  pub cause : IfErr r (IsCause before now)

@@ -4,6 +4,7 @@ use Rattle.std.specs.declared.alloc.Global.{Global}
 use Rattle.std.specs.declared.option.Option.{Option}
 use Rattle.std.specs.declared.option.Option.TheVariants.{None, Some}
 use Rattle.std.specs.Option.{option_map}
+use Rattle.std.specs.List.{Contains}
 use Rattle.std.specs.Str.{bytes_eq}
 use Rattle.limits.specs.declared.TheConstants.{GREATEST_DEGREE}
 use Rattle.pc_text.specs.Numerals.{numeral}
@@ -79,6 +80,17 @@ with_degree p = option_map (λ n. (p.0, n)) (numeral 1 GREATEST_DEGREE p.1)
 abbrev pub file_and_degree : List (List ℕ) → Option (List ℕ × ℕ)
 file_and_degree words = option_and_then with_degree (two_operands words)
 
+-- the paths that a command reads, and those that it saves to
+abbrev pub read_paths : Command → List (List ℕ)
+read_paths c = path_of c ∷ []
+
+abbrev pub saved_paths : Command → List (List ℕ)
+saved_paths c = []
+
 -- a path that the command of the words reads
 abbrev pub IsRead : List (List ℕ) → List ℕ → Type 0
-IsRead words path = (c : Command) × (command words ≡ Some c) × (path_of c ≡ path)
+IsRead words path = (c : Command) × (command words ≡ Some c) × Contains (read_paths c) path
+
+-- a path that the command of the words saves to
+abbrev pub IsSaved : List (List ℕ) → List ℕ → Type 0
+IsSaved words path = (c : Command) × (command words ≡ Some c) × Contains (saved_paths c) path

@@ -1,6 +1,6 @@
 ghost use Rattle.std.specs.Prelude.{◌≡◌, IfOk};
 ghost use Rattle.group_algebra.specs.Coordinates.{sizes};
-ghost use Rattle.coho_main.specs.Layers.{IsTableOf, AreLayerSizes};
+ghost use Rattle.coho_main.specs.Groups.{ForGroupOf, IsTableOf};
 
 use group_algebra::Algebra;
 use group_table::Memory;
@@ -28,7 +28,8 @@ fn layer_sizes(alloc: Global, algebra: &Algebra) -> Result<Vec<usize>, AllocErro
 
 /// The dimensions of the radical layers of the group algebra.
 pub fn radical_dimensions(alloc: Global, consistent: &Consistent) -> Result<Vec<usize>, Memory>
-    ensures { IfOk result (λ found. AreLayerSizes consistent.now found.items) }
+    ensures { IfOk result
+        (λ found. ForGroupOf consistent.now (λ G. found.items ≡ sizes G)) }
 {
     let algebra = algebra_of(alloc, consistent)?;
     Ok(layer_sizes(alloc, &algebra)?)

@@ -1,7 +1,6 @@
-ghost use Rattle.std.specs.Prelude.{◌≡◌, ◌≤◌, length, IfErr, OnOk};
-ghost use Rattle.coho_io.specs.Causes.{NoneFell};
-ghost use Rattle.coho_main.specs.Outcome.{FitLength, Present, FitOrder, Test, Describe, Load, order};
-ghost use Rattle.coho_main.specs.Stops.{Meets, Settles, HasReadCause};
+ghost use Rattle.std.specs.Prelude.{◌≡◌, ◌≤◌, length, OnOk};
+ghost use Rattle.coho_main.specs.Outcome.{FitLength, Present, ReadText, FitOrder, Test, Accept, Load, order};
+ghost use Rattle.coho_main.specs.Stops.{Meets, Settles, HasReadCause, OnlyReads};
 ghost use Rattle.coho_main.specs.Run.{OfFiles};
 
 use crate::{Cause, Stop, read_front};
@@ -36,6 +35,14 @@ fn present(alloc: Global, text: &[u8]) -> Result<Presentation, Stop<'static>>
     }
 }
 
+// The presentation of a text that is not too long.
+fn read_text(alloc: Global, text: &[u8]) -> Result<Presentation, Stop<'static>>
+    ensures { Settles (λ p. p) (ReadText text.now) result }
+{
+    fit_length(text)?;
+    present(alloc, text)
+}
+
 // The order is not too great.
 fn fit_order(presentation: &Presentation) -> Result<(), Stop<'static>>
     ensures step { Settles (λ _. tt) (FitOrder presentation.now) result }
@@ -60,12 +67,10 @@ fn test(alloc: Global, presentation: Presentation) -> Result<Consistent, Stop<'s
     }
 }
 
-// The consistent presentation of a text.
-fn describe(alloc: Global, text: &[u8]) -> Result<Consistent, Stop<'static>>
-    ensures { Settles (λ c. c) (Describe text.now) result }
+/// The presentation, where its order is not too great and no consistency test is false.
+pub fn accept(alloc: Global, presentation: Presentation) -> Result<Consistent, Stop<'static>>
+    ensures { Settles (λ c. c) (Accept presentation) result }
 {
-    fit_length(text)?;
-    let presentation = present(alloc, text)?;
     fit_order(&presentation)?;
     test(alloc, presentation)
 }
@@ -78,11 +83,11 @@ pub fn load<'a, F: Files>(
 ) -> Result<Consistent, Stop<'a>>
     ensures step { OfFiles (F.content files.old)
         (λ seen. Meets (λ c. c) (Load path.now) seen seen result) }
-    ensures content { F.content files.new ≡ F.content files.old }
-    ensures later { NoneFell (F.read_faults files.old) (F.read_faults files.new) }
-    ensures cause { IfErr result
-        (HasReadCause (λ p. p ≡ path.now) (F.read_faults files.old) (F.read_faults files.new)) }
+    ensures reads { OnlyReads (HasReadCause (λ p. p ≡ path.now))
+        (F.content files.old) (F.content files.new)
+        (F.read_faults files.old) (F.read_faults files.new) result }
 {
     let text = read_front(alloc, files, path)?;
-    describe(alloc, &text)
+    let presentation = read_text(alloc, &text)?;
+    accept(alloc, presentation)
 }

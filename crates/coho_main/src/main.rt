@@ -25,7 +25,7 @@ pub use cause::Cause;
 use coho_io::{DiskFiles, StdSink};
 pub use degree::read_degree;
 pub use layers::{algebra_of, radical_dimensions};
-pub use loading::load;
+pub use loading::{accept, load};
 pub use operands::{all_plain, one_operand, two_operands};
 pub use reading::read_front;
 pub use running::{outcome_exists, outcome_is_unique, run};

@@ -1,8 +1,7 @@
-ghost use Rattle.std.specs.Prelude.{◌≡◌, ◌≤◌, ◌+◌, ◌<◌, ◌++◌, length, take, drop, IfOk, IfErr, Some};
+ghost use Rattle.std.specs.Prelude.{◌≡◌, ◌≤◌, ◌+◌, ◌<◌, ◌++◌, length, take, drop, IfOk, Some};
 ghost use Rattle.coho_io.specs.Content.{Content, file};
-ghost use Rattle.coho_io.specs.Causes.{NoneFell};
 ghost use Rattle.coho_main.specs.Outcome.{ReadFront};
-ghost use Rattle.coho_main.specs.Stops.{Meets, IsReadStop};
+ghost use Rattle.coho_main.specs.Stops.{Meets, IsReadStop, OnlyReads};
 ghost use Rattle.coho_main.specs.Reading.{ReadsMore};
 
 use crate::Stop;
@@ -27,10 +26,9 @@ fn read_more<'a, F: Files>(
     ensures bound { length text.new.items ≤ READ_LIMIT }
     ensures more { (told : Content) → F.content files.old ≡ Some told
         → IfOk result (ReadsMore (file told path.now) text.old.items text.new.items) }
-    ensures content { F.content files.new ≡ F.content files.old }
-    ensures later { NoneFell (F.read_faults files.old) (F.read_faults files.new) }
-    ensures cause { IfErr result
-        (IsReadStop path.now (F.read_faults files.old) (F.read_faults files.new)) }
+    ensures reads { OnlyReads (IsReadStop path.now)
+        (F.content files.old) (F.content files.new)
+        (F.read_faults files.old) (F.read_faults files.new) result }
 {
     let mut piece = [0u8; PIECE];
     let room = PIECE.min(READ_LIMIT - text.len());
@@ -53,10 +51,9 @@ pub fn read_front<'a, F: Files>(
     ensures step { (told : Content) → F.content files.old ≡ Some told
         → Meets (λ text. text.items) (ReadFront path.now) told told result }
     ensures bound { IfOk result (λ text. length text.items ≤ LONGEST_TEXT + 1) }
-    ensures content { F.content files.new ≡ F.content files.old }
-    ensures later { NoneFell (F.read_faults files.old) (F.read_faults files.new) }
-    ensures cause { IfErr result
-        (IsReadStop path.now (F.read_faults files.old) (F.read_faults files.new)) }
+    ensures reads { OnlyReads (IsReadStop path.now)
+        (F.content files.old) (F.content files.new)
+        (F.read_faults files.old) (F.read_faults files.new) result }
 {
     let mut text = Vec::new(alloc);
     while text.len() < READ_LIMIT {

@@ -1,11 +1,11 @@
-ghost use Rattle.std.specs.Prelude.{◌≡◌, ◌≢◌, ◌≤◌, ◌⊎◌, ℕ, List, None, Some, IfErr};
+ghost use Rattle.std.specs.Prelude.{◌≡◌, ◌≢◌, ◌≤◌, ◌⊎◌, ℕ, List, None, Some};
 ghost use Rattle.coho_io.specs.Content.{Content};
-ghost use Rattle.coho_io.specs.Causes.{Rose, NoneFell};
-ghost use Rattle.coho_main.specs.Words.{Group, IsRead, Resolve, Ring, command, contents, texts};
-ghost use Rattle.coho_main.specs.Outcome.{Reply, Comes, Ending, Outcome};
+ghost use Rattle.coho_io.specs.Causes.{Rose};
+ghost use Rattle.coho_main.specs.Words.{IsRead, IsWithin, asked, command, contents, texts};
+ghost use Rattle.coho_main.specs.Outcome.{Answer, AnswerGroup, AnswerResolve, AnswerRing, Comes, Ending, Outcome};
 ghost use Rattle.coho_main.specs.Refusals.{read_refused, write_refused};
-ghost use Rattle.coho_main.specs.Stops.{Meets, HasReadCause};
-ghost use Rattle.coho_main.specs.Run.{OfFiles, IsSettled, MayWrite, Tells, EndsAs, AnswersFront, WantsMemory, NoReadFault};
+ghost use Rattle.coho_main.specs.Stops.{Meets, Settles, HasReadCause, OnlyReads};
+ghost use Rattle.coho_main.specs.Run.{OfFiles, IsSettled, MayWrite, Tells, EndsAs, AnswersFront, WantsMemory, NoReadFault, Stays};
 
 use crate::{
     Command, Status, Stop, group_lines, load, radical_dimensions, read_words, report,
@@ -14,66 +14,55 @@ use crate::{
 use coho_io::{Files, Sink};
 use coho_report::{compose, report_lines};
 use limits::{GREATEST_DEGREE, GREATEST_DIMENSION, MOST_MONOMIALS};
+use pc_group::Consistent;
 use std::alloc::Global;
 
 // The lines of the answer to `group`.
-fn answer_group<'a, F: Files>(
-    alloc: Global,
-    files: &mut F,
-    path: &'a str,
-) -> Result<Vec<Vec<u8>>, Stop<'a>>
-    ensures step { OfFiles (F.content files.old)
-        (λ seen. Meets (λ lines. contents lines.items) (Reply (Group path.now)) seen seen result) }
-    ensures content { F.content files.new ≡ F.content files.old }
-    ensures later { NoneFell (F.read_faults files.old) (F.read_faults files.new) }
-    ensures cause { IfErr result
-        (HasReadCause (λ p. p ≡ path.now) (F.read_faults files.old) (F.read_faults files.new)) }
+fn answer_group<'a>(alloc: Global, consistent: &Consistent) -> Result<Vec<Vec<u8>>, Stop<'a>>
+    ensures { Settles (λ lines. contents lines.items) (AnswerGroup consistent.now) result }
 {
-    let consistent = load(alloc, files, path)?;
-    let dimensions = radical_dimensions(alloc, &consistent)?;
-    Ok(group_lines(alloc, &consistent, &dimensions)?)
+    let dimensions = radical_dimensions(alloc, consistent)?;
+    Ok(group_lines(alloc, consistent, &dimensions)?)
 }
 
 // The lines of the answer to `resolve`.
-fn answer_resolve<'a, F: Files>(
+fn answer_resolve<'a>(
     alloc: Global,
-    files: &mut F,
-    path: &'a str,
+    consistent: &Consistent,
     n: u32,
 ) -> Result<Vec<Vec<u8>>, Stop<'a>>
     requires { n ≤ GREATEST_DEGREE }
-    ensures step { OfFiles (F.content files.old)
-        (λ seen. Meets (λ lines. contents lines.items) (Reply (Resolve path.now n)) seen seen result) }
-    ensures content { F.content files.new ≡ F.content files.old }
-    ensures later { NoneFell (F.read_faults files.old) (F.read_faults files.new) }
-    ensures cause { IfErr result
-        (HasReadCause (λ p. p ≡ path.now) (F.read_faults files.old) (F.read_faults files.new)) }
+    ensures { Settles (λ lines. contents lines.items) (AnswerResolve consistent.now n) result }
 {
-    let consistent = load(alloc, files, path)?;
-    let resolution = resolution_of(alloc, &consistent, n)?;
+    let resolution = resolution_of(alloc, consistent, n)?;
     Ok(stage_lines(alloc, &resolution)?)
 }
 
 // The lines of the answer to `ring`.
-fn answer_ring<'a, F: Files>(
-    alloc: Global,
-    files: &mut F,
-    path: &'a str,
-    n: u32,
-) -> Result<Vec<Vec<u8>>, Stop<'a>>
+fn answer_ring<'a>(alloc: Global, consistent: &Consistent, n: u32) -> Result<Vec<Vec<u8>>, Stop<'a>>
     requires low { 1 ≤ n }
     requires high { n ≤ GREATEST_DEGREE }
-    ensures step { OfFiles (F.content files.old)
-        (λ seen. Meets (λ lines. contents lines.items) (Reply (Ring path.now n)) seen seen result) }
-    ensures content { F.content files.new ≡ F.content files.old }
-    ensures later { NoneFell (F.read_faults files.old) (F.read_faults files.new) }
-    ensures cause { IfErr result
-        (HasReadCause (λ p. p ≡ path.now) (F.read_faults files.old) (F.read_faults files.new)) }
+    ensures { Settles (λ lines. contents lines.items) (AnswerRing consistent.now n) result }
 {
-    let consistent = load(alloc, files, path)?;
-    let resolution = resolution_of(alloc, &consistent, n)?;
+    let resolution = resolution_of(alloc, consistent, n)?;
     let report = compose(alloc, &resolution, n, MOST_MONOMIALS, GREATEST_DIMENSION)?;
     Ok(report_lines(alloc, &report)?)
+}
+
+// The lines of the answer to a command on the presentation of its file.
+fn answer_on<'a>(
+    alloc: Global,
+    command: Command<'a>,
+    consistent: &Consistent,
+) -> Result<Vec<Vec<u8>>, Stop<'a>>
+    requires { IsWithin (asked command) }
+    ensures { Settles (λ lines. contents lines.items) (Answer (asked command.entry) consistent.now) result }
+{
+    match command {
+        Command::Group(_) => answer_group(alloc, consistent),
+        Command::Resolve(_, n) => answer_resolve(alloc, consistent, n),
+        Command::Ring(_, n) => answer_ring(alloc, consistent, n),
+    }
 }
 
 // The lines of the answer to the words.
@@ -84,16 +73,13 @@ fn answer<'a, F: Files>(
 ) -> Result<Vec<Vec<u8>>, Stop<'a>>
     ensures step { OfFiles (F.content files.old)
         (λ seen. Meets (λ lines. contents lines.items) (Comes (texts words.now)) seen seen result) }
-    ensures content { F.content files.new ≡ F.content files.old }
-    ensures later { NoneFell (F.read_faults files.old) (F.read_faults files.new) }
-    ensures cause { IfErr result
-        (HasReadCause (IsRead (texts words.now)) (F.read_faults files.old) (F.read_faults files.new)) }
+    ensures reads { OnlyReads (HasReadCause (IsRead (texts words.now)))
+        (F.content files.old) (F.content files.new)
+        (F.read_faults files.old) (F.read_faults files.new) result }
 {
-    match read_words(alloc, words)? {
-        Command::Group(path) => answer_group(alloc, files, path),
-        Command::Resolve(path, n) => answer_resolve(alloc, files, path, n),
-        Command::Ring(path, n) => answer_ring(alloc, files, path, n),
-    }
+    let command = read_words(alloc, words)?;
+    let consistent = load(alloc, files, command.path())?;
+    answer_on(alloc, command, &consistent)
 }
 
 /// Does all that the program does: answers the words over the files, writes the answer to `out`, or
@@ -144,7 +130,7 @@ pub fn run<F: Files, O: Sink, E: Sink>(
         (E.written err.old) (E.written err.new)) }
 
     // What stays.
-    ensures files { F.content files.new ≡ F.content files.old }
+    ensures files { Stays (texts words.now) (F.content files.old) (F.content files.new) }
     ensures unwritten { (MayWrite result → ⊥) → O.written out.new ≡ O.written out.old }
 
     // Where no count rose, the status is that of the outcome, or memory was wanting.

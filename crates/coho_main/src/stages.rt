@@ -1,6 +1,8 @@
 ghost use Rattle.std.specs.Prelude.{◌≡◌, ◌≤◌, IfOk, IfErr, OnOk};
-ghost use Rattle.coho_main.specs.Stages.{Fit};
-ghost use Rattle.coho_main.specs.Resolving.{IsResolutionTo, IsStageFault, IsStageStop};
+ghost use Rattle.coho_main.specs.Groups.{ForGroupOf};
+ghost use Rattle.coho_main.specs.Stages.{Fit, IsStageRefusal};
+ghost use Rattle.coho_main.specs.Resolving.{IsResolutionTo, IsStageFault};
+ghost use Rattle.coho_main.specs.Stops.{IsRefused};
 
 use crate::{Stop, algebra_of};
 use limits::{GREATEST_DEGREE, GREATEST_DIMENSION};
@@ -31,7 +33,8 @@ pub fn resolution_of<'a>(
 ) -> Result<Resolution, Stop<'a>>
     requires { n ≤ GREATEST_DEGREE }
     ensures found { IfOk result (IsResolutionTo consistent.now n) }
-    ensures refused { IfErr result (IsStageStop consistent.now n) }
+    ensures refused { IfErr result
+        (IsRefused (λ refusal. ForGroupOf consistent.now (λ G. IsStageRefusal G n refusal))) }
 {
     let algebra = algebra_of(alloc, consistent)?;
     let mut resolution = Resolution::start(alloc, algebra)?;

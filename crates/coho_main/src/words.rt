@@ -1,6 +1,6 @@
 ghost use Rattle.std.specs.Prelude.{◌≡◌, ◌≤◌, IfErr, IfOk, None, Some, true};
 ghost use Rattle.std.specs.List.{list_all};
-ghost use Rattle.coho_main.specs.Words.{IsWithin, asked, command, file_and_degree, is_path, texts};
+ghost use Rattle.coho_main.specs.Words.{IsWithin, asked, command, file_and_degree, is_path, path_of, texts};
 ghost use Rattle.coho_main.specs.Outcome.{Ask};
 ghost use Rattle.coho_main.specs.Stops.{IsWordsStop, Settles};
 
@@ -18,6 +18,17 @@ pub enum Command<'a> {
     /// To find generators and relations of the cohomology ring of the group of the file at this path, through
     /// this degree.
     Ring(&'a str, u32),
+}
+
+impl<'a> Command<'a> {
+    /// The path of its file.
+    pub fn path(self) -> &'a str
+        ensures { result.now ≡ path_of (asked self.entry) }
+    {
+        match self {
+            Command::Group(path) | Command::Resolve(path, _) | Command::Ring(path, _) => path,
+        }
+    }
 }
 
 // The two words after the command's name, a file and a degree.

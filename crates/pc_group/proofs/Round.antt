@@ -52,7 +52,8 @@ module _ (P : Presented) (i m : ℕ) (T powers commutators own pairs generators 
     below : (x : ℕ) → x < P.prime ^ P.gens → x / P.prime ^ i < length images
     below x l = subst (λ w. x / P.prime ^ i < w) (sym width-is) (scaled-below P.prime i m P.gens x s e l)
 
-    pub sound : P.gens ≤ MOST_GENERATORS → P.prime ^ P.gens ≤ 256 → AreSound i P.gens T images own pairs generators
+    pub sound : P.gens ≤ MOST_GENERATORS → P.prime ^ P.gens ≤ 256
+        → AreSound i P.gens T images own pairs generators
     sound few small = record {
       order = omega (arith, e);
       few = few;

@@ -10,7 +10,7 @@ returns-in_err-count-clause-step g c = λ told is. let p =
     err_from_is_err_and c.from_residual.result c.from_residual.ensures.1 in
     rw (p.1, p.2) (fault_meets {T = Vec ℕ Global} {A = List ℕ} (λ text. text.items)
     (ReadFront c.args.path.now) told told c.args.path.now (g.F.Files.read_faults c.loop-text.files)
-    (g.F.Files.read_faults c.read_more.new.files) c.in_err-count.field-0.0 c.in_err-count.ensures.cause)
+    (g.F.Files.read_faults c.read_more.new.files) c.in_err-count.field-0.0 c.in_err-count.ensures.reads.cause)
 
 pub returns-then-count-eq0-clause-step : goal.returns-then-count-eq0-clause-step
 returns-then-count-eq0-clause-step g c = λ told is.

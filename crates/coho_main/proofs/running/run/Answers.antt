@@ -4,7 +4,7 @@ use Rattle.std.specs.Io.KnownBytes.{Appends}
 use Rattle.coho_io.specs.Bytes.{AppendsFront}
 use Rattle.coho_io.specs.Causes.{Rose}
 use Rattle.coho_main.specs.Words.{contents, texts}
-use Rattle.coho_main.proofs.Run.{wrote_all, wrote_front, answers, told_meets, write_told, write_complete, memory_of_write, stopped, usage_stop, read_told, memory_of_stop, complete_stop}
+use Rattle.coho_main.proofs.Run.{wrote_all, wrote_front, answers, told_meets, write_told, write_complete, memory_of_write, stopped, usage_stop, read_told, stays, memory_of_stop, complete_stop}
 use Rattle.coho_main.proofs.running.run.Goals as goal
 
 pub returns-in-Ok-write_lines-clause-outcome : goal.returns-in-Ok-write_lines-clause-outcome
@@ -12,7 +12,7 @@ returns-in-Ok-write_lines-clause-outcome g c = λ _.
     wrote_all (texts c.args.words.now) (g.F.Files.content c.args.files.now) (g.O.Sink.written c.args.out.now)
     (g.O.Sink.written c.write_lines.new.out) (g.E.Sink.written c.args.err.now)
     (g.E.Sink.written c.args.err.now) c.in-Ok.lines (g.F.Files.content c.answer.new.files)
-    (g.E.Sink.faults c.args.err.now) c.in-Ok.ensures.content c.in-Ok.ensures.step
+    (g.E.Sink.faults c.args.err.now) c.in-Ok.ensures.reads.content c.in-Ok.ensures.step
     (subst (λ ls. Appends (g.O.Sink.written c.args.out.now) (g.O.Sink.written c.write_lines.new.out)
     (concat (contents ls))) c.deref.ensures.value c.in-Ok-write_lines.ensures.ok)
 
@@ -64,9 +64,9 @@ returns-in-Ok-clause-complete g c = λ told e is k reads writes. inr
 pub returns-clause-outcome : goal.returns-clause-outcome
 returns-clause-outcome g c = λ h.
     stopped (texts c.args.words.now) (g.F.Files.content c.args.files.now)
-    (g.F.Files.content c.answer.new.files) c.in-Err.ensures.content (g.O.Sink.written c.args.out.now)
-    (g.E.Sink.written c.args.err.now) (g.E.Sink.written c.report-in-Err.new.err)
-    (g.E.Sink.faults c.args.err.now)
+    (g.F.Files.content c.answer.new.files) c.in-Err.ensures.reads.content
+    (g.O.Sink.written c.args.out.now) (g.E.Sink.written c.args.err.now)
+    (g.E.Sink.written c.report-in-Err.new.err) (g.E.Sink.faults c.args.err.now)
     (g.E.Sink.faults c.report-in-Err.new.err) c.in-Err.stop c.report-in-Err.result h
     c.report-in-Err.ensures.told c.in-Err.ensures.step
 
@@ -83,7 +83,7 @@ returns-clause-read g c = read_told c.report-in-Err.result (g.E.Sink.written c.a
     (g.E.Sink.faults c.report-in-Err.new.err) (texts c.args.words.now)
     (g.F.Files.read_faults c.args.files.now)
     (g.F.Files.read_faults c.answer.new.files) c.in-Err.stop c.report-in-Err.ensures.told
-    c.in-Err.ensures.cause
+    c.in-Err.ensures.reads.cause
 
 pub returns-clause-memory : goal.returns-clause-memory
 returns-clause-memory g c = λ h.
@@ -92,8 +92,8 @@ returns-clause-memory g c = λ h.
     (g.E.Sink.written c.report-in-Err.new.err) (g.F.Files.read_faults c.args.files.now)
     (g.F.Files.read_faults c.answer.new.files)
     (Rose (g.O.Sink.faults c.args.out.now)
-    (g.O.Sink.faults c.args.out.now)) c.in-Err.stop refl c.in-Err.ensures.step c.in-Err.ensures.cause
-    (c.report-in-Err.ensures.memory h)
+    (g.O.Sink.faults c.args.out.now)) c.in-Err.stop refl c.in-Err.ensures.step
+    c.in-Err.ensures.reads.cause (c.report-in-Err.ensures.memory h)
 
 pub returns-clause-complete : goal.returns-clause-complete
 returns-clause-complete g c = λ told e is k reads writes.
@@ -103,4 +103,17 @@ returns-clause-complete g c = λ told e is k reads writes.
     (g.F.Files.read_faults c.args.files.now)
     (g.F.Files.read_faults c.answer.new.files) told e k c.in-Err.stop c.report-in-Err.ensures.told
     (told_meets (texts c.args.words.now) (g.F.Files.content c.args.files.now)
-    (Err c.in-Err.stop) c.in-Err.ensures.step told is) c.in-Err.ensures.cause reads
+    (Err c.in-Err.stop) c.in-Err.ensures.step told is) c.in-Err.ensures.reads.cause reads
+
+pub returns-in-Ok-write_lines-clause-files : goal.returns-in-Ok-write_lines-clause-files
+returns-in-Ok-write_lines-clause-files g c =
+    stays (texts c.args.words.now) (g.F.Files.content c.args.files.now)
+    (g.F.Files.content c.answer.new.files) c.in-Ok.ensures.reads.content
+
+pub returns-in-Ok-clause-files : goal.returns-in-Ok-clause-files
+returns-in-Ok-clause-files g c = stays (texts c.args.words.now) (g.F.Files.content c.args.files.now)
+    (g.F.Files.content c.answer.new.files) c.in-Ok.ensures.reads.content
+
+pub returns-clause-files : goal.returns-clause-files
+returns-clause-files g c = stays (texts c.args.words.now) (g.F.Files.content c.args.files.now)
+    (g.F.Files.content c.answer.new.files) c.in-Err.ensures.reads.content

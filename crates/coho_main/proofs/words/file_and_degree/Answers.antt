@@ -1,4 +1,4 @@
-use Rattle.std.proofs.Common.{◌≡◌, None, sym}
+use Rattle.std.proofs.Common.{◌≡◌, None, refl, sym}
 use Rattle.std.proofs.lemmas.Result.{err_from_is_err_and}
 use Rattle.clap.specs.Values.{kind_of}
 use Rattle.coho_main.specs.Words.{file_and_degree, texts}
@@ -19,6 +19,9 @@ returns-in-Some-clause-found c = degree_found
     c.in_ok-path.ensures.found (sym c.in-Some.ensures.numeral)
 
 pub returns-in-None-clause-refused : goal.returns-in-None-clause-refused
-returns-in-None-clause-refused c = degree_none
-    (texts c.args.words.now) c.in_ok-path.path.now c.in_ok-path.degree.now c.in_ok-path.ensures.found
-    (sym c.in-None.ensures.numeral)
+returns-in-None-clause-refused c = (
+  degree_none
+      (texts c.args.words.now) c.in_ok-path.path.now c.in_ok-path.degree.now c.in_ok-path.ensures.found
+      (sym c.in-None.ensures.numeral),
+  refl,
+)

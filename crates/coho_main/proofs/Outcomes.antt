@@ -1,0 +1,194 @@
+-- Words and files have one outcome, which is refused by the words exactly where they are not those of a
+-- command.
+use Rattle.std.proofs.Common.{◌≡◌, ◌≢◌, ◌∙◌, ◌⊎◌, inl, inr, ℕ, ◌+◌, List, take, refl, sym, ap, subst}
+use Rattle.std.specs.declared.option.Option.{Option}
+use Rattle.std.specs.declared.option.Option.TheVariants.{None, Some}
+use Rattle.std.specs.declared.result.Result.{Result}
+use Rattle.std.specs.declared.result.Result.TheVariants.{Ok, Err}
+use Rattle.std.specs.Option.{option_map}
+use Rattle.limits.specs.declared.TheConstants.{LONGEST_TEXT}
+use Rattle.coho_io.specs.Content.{Content, file}
+use Rattle.group_algebra.specs.Coordinates.{sizes}
+use Rattle.p_groups.specs.PGroups.{PGroup}
+use Rattle.pc_text.specs.Faults.{Fault}
+use Rattle.pc_text.specs.Texts.{read}
+use Rattle.pc_text.proofs.Valid.{IsGiven, above_one, prime_listed, read_given}
+use Rattle.power_commutator.specs.declared.TestName.{TestName}
+use Rattle.power_commutator.specs.Presentations.{Presentation, first_fault}
+use Rattle.coho_report.specs.Lines.{report_lines}
+use Rattle.coho_main.specs.declared.status.Status.TheVariants as status
+use Rattle.coho_main.specs.Groups.{IsTableOf}
+use Rattle.coho_main.specs.Outcome.{Ask, ReadFront, ReadText, FitLength, OrFault, Present, FitOrder, UnlessFalse, Test, Accept, Load, Layers, Stages, FitStages, Report, Answer, AnswerGroup, AnswerResolve, AnswerRing, Reply, Comes, group_lines, stage_lines, Ending, ending, Outcome}
+use Rattle.coho_main.specs.Refusals.{read_refused, words_refused}
+use Rattle.coho_main.specs.Ringing.{IsReportTo, IsReportRefusal}
+use Rattle.coho_main.specs.Stages.{AreStagesTo, Fit, IsStageRefusal}
+use Rattle.coho_main.specs.Steps.{Refusal, ◌>>=◌, OrRefuse, OnGroup}
+use Rattle.coho_main.specs.Words.{Command, Group, Resolve, Ring, command, path_of}
+use Rattle.coho_main.proofs.Loads.{after_length, after_order, after_text}
+use Rattle.coho_main.proofs.OneResolution.{fit_decided, stages_decided}
+use Rattle.coho_main.proofs.Proper.{Ends, IsDecided, IsFunctional, IsProper, gives, on_group, or_refuse, refuse_if, refuses, then, then_ends, then_one}
+use Rattle.coho_main.proofs.Replies.{after_fit, group_answer, report_answer, stage_answer}
+use Rattle.coho_main.proofs.Ringing.{report_decided}
+use Rattle.coho_main.proofs.TableExists.{table_exists}
+
+or_fault : (r : Result Presentation Fault) → IsProper (OrFault r)
+or_fault (Ok P) = gives P
+or_fault (Err fault) = refuses _ (λ e. cc)
+
+unless_false : (P : Presentation) (o : Option TestName) → IsProper (UnlessFalse P o)
+unless_false P None = gives P
+unless_false P (Some name) = refuses _ (λ e. cc)
+
+read_text : (text : List ℕ) → IsProper (ReadText text)
+read_text text = then (FitLength text) (after_length text) (refuse_if _ _ (λ e. cc))
+    (λ _ old mid h. or_fault (read text))
+
+accept : (P : Presentation) → IsProper (Accept P)
+accept P = then (FitOrder P) (after_order P) (refuse_if _ _ (λ e. cc))
+    (λ _ old mid h. unless_false P (first_fault P))
+
+read_front : (path : List ℕ) → IsProper (ReadFront path)
+read_front path = record {
+  one = λ old. (at old).one old;
+  keeps = λ old. (at old).keeps old;
+  ends = λ old. (at old).ends old;
+}
+  where
+    at : (old : Content) → IsProper (OrRefuse (read_refused path)
+        (option_map (take (LONGEST_TEXT + 1)) (file old path)))
+    at old = or_refuse _ _ (λ e. cc)
+
+load : (path : List ℕ) → IsProper (Load path)
+load path = then (ReadFront path) after_text (read_front path)
+    (λ text old mid h. then (ReadText text) Accept (read_text text) (λ P old mid h. accept P))
+
+-- ---- a presentation that was loaded is consistent, and has a group
+
+record IsLoaded (P : Presentation) : Type 0 where
+  given : IsGiven P
+  consistent : first_fault P ≡ None
+
+read_is : (r : Result Presentation Fault) (P : Presentation) (old new : Content) → OrFault r old (Ok P) new
+    → r ≡ Ok P
+read_is (Ok Q) P old new h = let e : Q ≡ P = let d = h.0 in cc in ap (λ P. Ok P) e
+read_is (Err fault) P old new h = absurd (let no = h.0 in cc)
+
+text_is : (text : List ℕ) (P : Presentation) (old new : Content) → ReadText text old (Ok P) new
+    → read text ≡ Ok P
+text_is text P old new (inl h) = read_is (read text) P h.1 new h.3
+text_is text P old new (inr h) = absurd (let no = h.2 in cc)
+
+none_is : (P Q : Presentation) (o : Option TestName) (old new : Content) → UnlessFalse P o old (Ok Q) new
+    → (o ≡ None) × (P ≡ Q)
+none_is P Q None old new h = (refl, (let e = h.0 in cc))
+none_is P Q (Some name) old new h = absurd (let no = h.0 in cc)
+
+accepted : (text : List ℕ) (P Q : Presentation) (old new : Content) → read text ≡ Ok P
+    → Accept P old (Ok Q) new → IsLoaded Q
+accepted text P Q old new is (inl h) =
+    let e = none_is P Q (first_fault P) h.1 new h.3 in
+    subst IsLoaded e.1 (record { given = read_given text P is; consistent = e.0 })
+accepted text P Q old new is (inr h) = absurd (let no = h.2 in cc)
+
+after_is : (text : List ℕ) (Q : Presentation) (old new : Content) → after_text text old (Ok Q) new
+    → IsLoaded Q
+after_is text Q old new (inl h) = accepted text h.0 Q h.1 new (text_is text h.0 old h.1 h.2) h.3
+after_is text Q old new (inr h) = absurd (let no = h.2 in cc)
+
+loaded : (path : List ℕ) (Q : Presentation) (old new : Content) → Load path old (Ok Q) new → IsLoaded Q
+loaded path Q old new (inl h) = after_is h.0 Q h.1 new h.3
+loaded path Q old new (inr h) = absurd (let no = h.2 in cc)
+
+table_of : (P : Presentation) → IsLoaded P → (G : PGroup) × IsTableOf P G
+table_of P is = let four = prime_listed P.prime is.given.prime in
+    table_exists P four (above_one P.prime four) is.given.valid is.consistent
+
+-- ---- the commands
+
+layers_decided : IsDecided (λ G (dimensions : List ℕ). dimensions ≡ sizes G) (λ G (refusal : Refusal). ⊥)
+layers_decided = record {
+  one_value = λ G xs ys a b. a ∙ sym b;
+  one_refusal = λ G q r a b. absurd a;
+  not_both = λ G xs q a b. b;
+  some = λ G. inl (sizes G, refl);
+  keeps = λ G q a. absurd a;
+}
+
+module _ (P : Presentation) (is : IsLoaded P) where
+  on : {A : Type 0} (Value : PGroup → A → Type 0) (Refused : PGroup → Refusal → Type 0)
+      → IsDecided Value Refused → IsProper (OnGroup P Value Refused)
+  on Value Refused D = let t = table_of P is in on_group P t.0 t.1 Value Refused D
+
+  answer_group : IsProper (AnswerGroup P)
+  answer_group = then (Layers P) (group_answer P) (on _ _ layers_decided)
+      (λ dimensions old mid h. gives (group_lines P dimensions))
+
+  answer_resolve : (n : ℕ) → IsProper (AnswerResolve P n)
+  answer_resolve n = then (Stages P n) stage_answer (on _ _ (stages_decided n))
+      (λ stages old mid h. gives (stage_lines stages))
+
+  answer_ring : (n : ℕ) → IsProper (AnswerRing P n)
+  answer_ring n =
+      then (FitStages P n) (after_fit P n) (on _ _ (fit_decided n)) (λ _ old mid h.
+      then (Report P n) report_answer (on _ _ (report_decided n))
+      (λ report old mid h. gives (report_lines report)))
+
+  answer : (asked : Command) → IsProper (Answer asked P)
+  answer (Group path) = answer_group
+  answer (Resolve path n) = answer_resolve n
+  answer (Ring path n) = answer_ring n
+
+reply : (asked : Command) → IsProper (Reply asked)
+reply asked = then (Load (path_of asked)) (Answer asked) (load (path_of asked))
+    (λ P old mid h. answer P (loaded (path_of asked) P old mid h) asked)
+
+-- ---- so there is one outcome
+
+ask_one : (words : List (List ℕ)) → IsFunctional (Ask words)
+ask_one words = functional (command words)
+  where
+    functional : (o : Option Command) → IsFunctional (OrRefuse words_refused o)
+    functional None old new new' end end' h k = (h.0 ∙ sym k.0, h.1 ∙ sym k.1)
+    functional (Some c) old new new' end end' h k = (h.0 ∙ sym k.0, h.1 ∙ sym k.1)
+
+ask_ends : (words : List (List ℕ)) (old : Content) → Ends (Ask words) old
+ask_ends words old = ends (command words)
+  where
+    ends : (o : Option Command) → Ends (OrRefuse words_refused o) old
+    ends None = (Err words_refused, old, (refl, refl))
+    ends (Some c) = (Ok c, old, (refl, refl))
+
+pub outcome_unique : (words : List (List ℕ)) (files : Content) (e d : Ending) → Outcome words files e
+    → Outcome words files d → e ≡ d
+outcome_unique words files e d h k =
+    let same = then_one (Ask words) Reply (ask_one words)
+    (λ asked old mid h. reply asked) files h.1 k.1 h.0 k.0 h.2 k.2 in
+    h.3 ∙ ap (λ r. ending r h.1) same.0 ∙ ap (ending k.0) same.1 ∙ sym k.3
+
+pub outcome_exists : (words : List (List ℕ)) (files : Content) → (e : Ending) × Outcome words files e
+outcome_exists words files =
+    let c = then_ends (Ask words) Reply files (ask_ends words files) (λ asked old mid h. reply asked) in
+    (ending c.0 c.1, (c.0, c.1, c.2, refl))
+
+-- ---- refused by the words exactly where they are not those of a command
+
+refused_none : (o : Option Command) (r : Refusal) (old new : Content)
+    → OrRefuse words_refused o old (Err r) new → o ≡ None
+refused_none None r old new h = refl
+refused_none (Some x) r old new h = let no = h.0 in absurd (cc)
+
+pub usage_is : (words : List (List ℕ)) (old new : Content) (r : Refusal) → Comes words old (Err r) new
+    → r.status ≡ status.Usage → command words ≡ None
+usage_is words old new r (inl h) e = absurd ((reply h.0).keeps h.1 new r h.3 e)
+usage_is words old new r (inr h) e = refused_none (command words) h.0 old new h.1
+
+ask_none : (o : Option Command) (old new : Content) (end : Result (List (List ℕ)) Refusal)
+    → (OrRefuse words_refused o >>= Reply) old end new → o ≡ None → end ≡ Err words_refused
+ask_none None old new end (inl h) e = let no = h.2.0 in absurd (cc)
+ask_none None old new end (inr h) e = let same : h.0 ≡ words_refused = let no = h.1.0 in cc in h.2
+    ∙ ap (λ r. Err r) same
+ask_none (Some x) old new end h e = absurd (let no : ◌≡◌ {A = Option Command} (Some x) None = e in cc)
+
+pub none_comes : (words : List (List ℕ)) (old new : Content) (end : Result (List (List ℕ)) Refusal)
+    → Comes words old end new → command words ≡ None → end ≡ Err words_refused
+none_comes words old new end h e = ask_none (command words) old new end h e

@@ -1,0 +1,21 @@
+use Rattle.std.proofs.Common.{sym, subst}
+use Rattle.coho_main.specs.Outcome.{Answer}
+use Rattle.coho_main.specs.Stops.{Settles}
+use Rattle.coho_main.specs.Words.{asked}
+use Rattle.coho_main.proofs.Replies.{lines_of}
+use Rattle.coho_main.proofs.running.answer_on.Goals as goal
+
+pub returns-in-Group : goal.returns-in-Group
+returns-in-Group c = subst (λ named. Settles lines_of
+    (Answer (asked named) c.args.consistent.now) c.answer_group.result)
+    (sym c.in-Group.is) c.answer_group.ensures
+
+pub returns-in-Resolve : goal.returns-in-Resolve
+returns-in-Resolve c = subst (λ named. Settles lines_of
+    (Answer (asked named) c.args.consistent.now) c.answer_resolve.result)
+    (sym c.in-Resolve.is) c.answer_resolve.ensures
+
+pub returns-in-Ring : goal.returns-in-Ring
+returns-in-Ring c = subst (λ named. Settles lines_of
+    (Answer (asked named) c.args.consistent.now) c.answer_ring.result)
+    (sym c.in-Ring.is) c.answer_ring.ensures
