@@ -56,8 +56,8 @@ bad_word : read (text (codes "pgroup 1" ∷ codes "prime 2" ∷ codes "gens 3" �
 unfolding at text
 bad_word = refl
 
-repeated : read (text (codes "pgroup 1" ∷ codes "prime 2" ∷ codes "gens 2" ∷ codes "g1^2 = g2" ∷ codes "g1^2 =
-    g2" ∷ [])) ≡ at 5 1 kind.Repeated
+repeated : read (text (codes "pgroup 1" ∷ codes "prime 2" ∷ codes "gens 2" ∷ codes "g1^2 = g2" ∷ codes
+    "g1^2 = g2" ∷ [])) ≡ at 5 1 kind.Repeated
 unfolding at text
 repeated = refl
 
