@@ -16,10 +16,12 @@ pub record AreClearedUpTo (p width t : ℕ) (v : List ℕ) (E D : List (List ℕ
 pub cleared_start : {p width t : ℕ} {v : List ℕ} (E : List (List ℕ)) → AreClearedUpTo p width t v E E 0
 cleared_start E = record { same_length = refl; done = λ i l. absurd (omega arith); rest = λ i l. refl }
 
-pub cleared_end : {p width t : ℕ} {v : List ℕ} {E D : List (List ℕ)} (n : ℕ) → length E ≤ n → AreClearedUpTo p width t v E D n → AreCleared p width t v E D
+pub cleared_end : {p width t : ℕ} {v : List ℕ} {E D : List (List ℕ)} (n : ℕ) → length E ≤ n
+    → AreClearedUpTo p width t v E D n → AreCleared p width t v E D
 cleared_end n l h = record { same_length = h.same_length; each = λ i b. h.done i (omega arith) }
 
-pub cleared_step : {p width t : ℕ} {v : List ℕ} {E D : List (List ℕ)} {n : ℕ} (d : List ℕ) → n < length E → AreClearedUpTo p width t v E D n →
+pub cleared_step : {p width t : ℕ} {v : List ℕ} {E D : List (List ℕ)} {n : ℕ} (d : List ℕ) → n < length E
+    → AreClearedUpTo p width t v E D n →
     IsCleared p width t v (row E n) d → AreClearedUpTo p width t v E (set D n d) (n + 1)
 cleared_step {p} {width} {t} {v} {E} {D} {n} d l h c = record {
   same_length = length-set D n d ∙ h.same_length;
@@ -31,5 +33,11 @@ cleared_step {p} {width} {t} {v} {E} {D} {n} d l h c = record {
     go i b (inl e) = rw (e, get_or-set_same D n d [] (omega (arith, h.same_length))) c
     go i b (inr ne) = rw (get_or-set_other D n i d [] ne) (h.done i (omega arith))
 
-pub cleared_zero : {p width t : ℕ} {v r : List ℕ} → IsRow p width r → entry r t ≡ 0 → IsCleared p width t v r r
-cleared_zero {p} {width} {t} {v} {r} h z = record { is_row = h; each = λ j. congruent_sym (to_congruent 0 (entry v j) (rw (z, sub-zero) (omega arith))) }
+pub cleared_zero : {p width t : ℕ} {v r : List ℕ} → IsRow p width r → entry r t ≡ 0
+    → IsCleared p width t v r r
+cleared_zero {p} {width} {t} {v} {r} h z =
+    record {
+      is_row = h;
+      each = λ j. congruent_sym
+          (to_congruent 0 (entry v j) (rw (z, sub-zero) (omega arith)));
+    }

@@ -11,7 +11,8 @@ use Rattle.linear_algebra.proofs.PivotTests.{found-if-pivot, not-found-if-none}
 use Rattle.fp_rows.proofs.ListLemmas.{kept_pivot}
 
 pub pivot-searched : (rows : List (List ℕ)) (pivots : List ℕ) (j : ℕ) (r : Result ℕ ℕ)
-    → IsEchelon rows → pivots ≡ map pivot rows → IsBinarySearchResult (λ y. nat_cmp y j) pivots r → is_ok r ≡ is_pivot rows j
+    → IsEchelon rows → pivots ≡ map pivot rows → IsBinarySearchResult (λ y. nat_cmp y j) pivots r
+    → is_ok r ≡ is_pivot rows j
 pivot-searched rows pivots j r E e found = answer r (searched pivots j r found rise)
   where
     count : length pivots ≡ length rows

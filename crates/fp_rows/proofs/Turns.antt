@@ -85,7 +85,8 @@ row-end m k s h e = omega (arith, h.count, e)
 abbrev pub passed : MatrixValue → Iter RowValue → ℕ
 passed m it = length m.rows - length (iter_rest it)
 
-pub passed-start : (m : MatrixValue) (it : Iter RowValue) → IsOverRows m it → (passed m it ≡ 0) × AreLeft m (passed m it) it
+pub passed-start : (m : MatrixValue) (it : Iter RowValue) → IsOverRows m it → (passed m it ≡ 0)
+    × AreLeft m (passed m it) it
 passed-start m it h = (none, subst (λ k. AreLeft m k it) (sym none) (row-start m it h))
   where
     none : passed m it ≡ 0

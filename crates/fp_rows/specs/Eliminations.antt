@@ -7,7 +7,8 @@ use Rattle.fp_rows.specs.declared.kernels.Elimination.{Elimination}
 
 -- the rows from row k on are eliminated
 pub record IsElimination (p width : ℕ) (rows : List (List ℕ)) (k : ℕ) (e : Elimination) : Type 0 where
-  pub solved : IsSolvedFrom p width rows k (lists e.rows.items) (lists e.made.items) (reverse (lists e.kernel.items))
+  pub solved : IsSolvedFrom p width rows k (lists e.rows.items) (lists e.made.items)
+      (reverse (lists e.kernel.items))
   pub over : AreOver p e.rows.items
   pub made_over : AreOver p e.made.items
   pub kernel_over : AreOver p e.kernel.items

@@ -3,8 +3,10 @@ use Rattle.std.specs.Prelude.{◌≡◌, ℕ, ◌+◌, ◌<◌, ◌≤◌, List,
 use Rattle.linear_algebra.specs.Rows.{entry, row, pivot, IsMatrix, IsEchelon, IsCombination, IsInSpan}
 use Rattle.linear_algebra.specs.Kernels.{IsInKernel}
 
--- L is a reduced echelon list of the span of the rows from row k on, and row i of R the combination that makes row i of L, without the rows
--- before row k and those at the pivots of K. K is a reduced echelon list of members of the kernel, without the rows before row k.
+-- L is a reduced echelon list of the span of the rows from row k on, and row i of R the combination that
+-- makes row i of L, without the rows
+-- before row k and those at the pivots of K. K is a reduced echelon list of members of the kernel, without
+-- the rows before row k.
 pub record IsSolvedFrom (p width : ℕ) (rows : List (List ℕ)) (k : ℕ) (L R K : List (List ℕ)) : Type 0 where
   pub matrix : IsMatrix p width L
   pub echelon : IsEchelon L

@@ -63,7 +63,8 @@ module _ (G : PGroup) where
 
     pub block-is : (i : ℕ) (a : List ℕ) → IsBlock G m i x a → a ≡ block i
     block-is i a B = ext_get_or 0 a (block i) (B.count ∙ sym (block-of-row i).count)
-        (λ k l. let d : k < order G.table = (let e : length a ≡ order G.table = B.count in omega (arith, e, l)) in
+        (λ k l. let d : k < order G.table =
+        (let e : length a ≡ order G.table = B.count in omega (arith, e, l)) in
         B.each k d ∙ sym (entry-block i k d))
 
   module _ (m : ℕ) (x : List ℕ) (x-is : IsRow (suc q) (order G.table * m) x) where
@@ -73,13 +74,18 @@ module _ (G : PGroup) where
         go : (j < order G.table * m) ⊎ (order G.table * m ≤ j) → entry x j < suc q
         go (inl l) = x-is.below j l
         go (inr l) = subst (λ y. y < suc q)
-            (sym (get_or_past x j 0 (let e : length x ≡ order G.table * m = x-is.length_is in omega (arith, e, l))))
+            (sym (get_or_past x j 0 (let e : length x ≡ order G.table * m = x-is.length_is in omega (
+              arith,
+              e,
+              l,
+            ))))
             (let z : 0 < suc q = omega arith in z)
 
     pub block-is-row : (i : ℕ) → IsRow (suc q) (order G.table) (block m x i)
     block-is-row i = record {
       length_is = (block-of-row m x i).count;
-      below = λ j l. subst (λ y. y < suc q) (sym (entry-block m x i j l)) (entry-below (place_of (sizes G) m i j));
+      below = λ j l. subst (λ y. y < suc q) (sym (entry-block m x i j l))
+          (entry-below (place_of (sizes G) m i j));
     }
 
     wide-row : (i : ℕ) → IsRow (suc q) (order G.table * 1) (block m x i)
@@ -97,7 +103,8 @@ module _ (G : PGroup) where
         whole : ◌≡◌ {A = (T 1).of} (λ z g. table_of G 1 (block m x i.0) (residue 0 0) g) (part_of i)
         whole = (layer_claims G).expand 1 (table_of G 1 (block m x i.0)) (residue 0 0)
             ∙ ap (total (T 1) (below (length (layer_basis (layers G)))))
-            (fun_ext (λ (k : Below (length (layer_basis (layers G)))). ap (λ c. times (T 1).add (T 1).zero c (member G k.0)) (same k)))
+            (fun_ext (λ (k : Below (length (layer_basis (layers G)))). ap
+            (λ c. times (T 1).add (T 1).zero c (member G k.0)) (same k)))
             ∙ sym ((layer_claims G).expand m (table_of G m x) i)
           where
             same : (k : Below (length (layer_basis (layers G))))
@@ -106,7 +113,8 @@ module _ (G : PGroup) where
             same k = ap₂ entry ((layer_coordinates G 1).row-table (block m x i.0) (wide-row i.0))
                 (place-one (sizes G) k.0 (subst (λ n. k.0 < n) (sym (size-is G)) inside))
                 ∙ entry-block m x i.0 k.0 inside
-                ∙ ap (λ y. entry y (place_of (sizes G) m i.0 k.0)) (sym ((layer_coordinates G m).row-table x x-is))
+                ∙ ap (λ y. entry y (place_of (sizes G) m i.0 k.0))
+                (sym ((layer_coordinates G m).row-table x x-is))
               where
                 inside : k.0 < order G.table
                 inside = subst (λ n. k.0 < n) (basis-count G) k.1
@@ -117,15 +125,18 @@ module _ (G : PGroup) where
       product i = product_with G b (table_of G 1 (block m x i)) (target i)
 
       product-is : (i : Below m)
-          → product i.0 ≡ total (T b) (below (order G.table)) (part q Γ (T b) m (λ (j : Below m). target j.0) (table_of G m x) i)
+          → product i.0 ≡ total (T b) (below (order G.table))
+          (part q Γ (T b) m (λ (j : Below m). target j.0) (table_of G m x) i)
       product-is i = lin-terms q Γ (T b) 1 (λ j. target i.0) (table_of G 1 (block m x i.0)) (below 1)
           ∙ (T b).add-zero (total (T b) (below (order G.table))
           (part q Γ (T b) 1 (λ j. target i.0) (table_of G 1 (block m x i.0)) (0, lt-suc_self 0)))
-          ∙ ap (λ (a : (T 1).of). total (T b) (below (order G.table)) (part q Γ (T b) 1 (λ j. target i.0) a (0, lt-suc_self 0)))
+          ∙ ap (λ (a : (T 1).of). total (T b) (below (order G.table))
+          (part q Γ (T b) 1 (λ j. target i.0) a (0, lt-suc_self 0)))
           (block-table i)
 
       -- the linear map that takes basis element i to target i
-      pub map-is : lin (T b) (λ (j : Below m). target j.0) (terms q Γ m (table_of G m x)) ≡ total (T b) (below m) (λ i. product i.0)
+      pub map-is : lin (T b) (λ (j : Below m). target j.0) (terms q Γ m (table_of G m x)) ≡ total (T b)
+          (below m) (λ i. product i.0)
       map-is = lin-terms q Γ (T b) m (λ (j : Below m). target j.0) (table_of G m x) (below m)
           ∙ ap (total (T b) (below m)) (sym (fun_ext product-is))
 
@@ -149,14 +160,17 @@ module _ (G : PGroup) where
     sum-step k out v new S g n = record {
       sum = n
           ∙ ap₂ (λ (s t : (T b).of). row_of G b ((T b).add s t))
-          (ap (table_of G b) S.sum ∙ (layer_coordinates G b).table-row (total (T b) (below k) (λ i. term i.0)))
+          (ap (table_of G b) S.sum ∙ (layer_coordinates G b).table-row
+          (total (T b) (below k) (λ i. term i.0)))
           (ap (λ z. product_with G b (table_of G 1 (block (length rows) x k)) (table_of G b z)) g)
           ∙ ap (row_of G b) (sym (total-last (T b) k term)
           ∙ ap (λ n. total (T b) (below n) (λ i. term i.0)) (let z : suc k ≡ k + 1 = omega arith in z));
     }
 
-    pub sum-end : (out : List ℕ) (k : ℕ) → IsRow G.table.p (order G.table * length rows) x → k ≡ length rows → IsRowSum k out
+    pub sum-end : (out : List ℕ) (k : ℕ) → IsRow G.table.p (order G.table * length rows) x → k ≡ length rows
+        → IsRowSum k out
         → out ≡ map_row G b rows x
     sum-end out k r e S = (subst (λ n. IsRowSum n out) e S).sum
-        ∙ ap (row_of G b) (sym (map-is (length rows) x (subst (λ p. IsRow p (order G.table * length rows) x) (sym (residues G)) r)
+        ∙ ap (row_of G b) (sym (map-is (length rows) x
+        (subst (λ p. IsRow p (order G.table * length rows) x) (sym (residues G)) r)
         b (λ i. table_of G b (row rows i))))

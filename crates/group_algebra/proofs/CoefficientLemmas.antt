@@ -21,7 +21,8 @@ module _ {p n : ℕ} (x : List ℕ) (row : IsRow p n x) (some : 0 < n) where
   set-other y k l = get_or-set_other x 0 k y 0 (let z : k ≢ 0 = omega (arith, l) in z)
 
   -- x with the sum s of its entries at the first place
-  pub sum-coordinates-are : (s : ℕ) → s < p → IsCongruent p s (sum_below n (entry x)) → AreSumCoordinates p n x (slice_set x 0 s)
+  pub sum-coordinates-are : (s : ℕ) → s < p → IsCongruent p s (sum_below n (entry x))
+      → AreSumCoordinates p n x (slice_set x 0 s)
   sum-coordinates-are s small sum = record {
     coefficients = row;
     coordinates = set-row x 0 s row some small;
@@ -37,14 +38,21 @@ module _ {p n : ℕ} (x : List ℕ) (row : IsRow p n x) (some : 0 < n) where
     where
       count : length part ≡ n - 1
       count = let w : length x ≡ n = row.length_is in
-          omega (arith, ap (λ (ys : List ℕ). length ys) e, length-take (1 + (n - 1) - 1) (drop 1 x), length-drop 1 x, w)
+          omega (
+            arith,
+            ap (λ (ys : List ℕ). length ys) e,
+            length-take (1 + (n - 1) - 1) (drop 1 x),
+            length-drop 1 x,
+            w,
+          )
 
       at : (i : ℕ) → i < n - 1 → entry (slice_range x 1 (1 + (n - 1))) i ≡ entry x (suc i)
       at i l = get_or-take (1 + (n - 1) - 1) (drop 1 x) i 0 (omega (arith, l)) ∙ get_or-drop 1 x i 0
           ∙ ap (entry x) (let z : 1 + i ≡ suc i = omega arith in z)
 
   -- x with the first entry less the sum of the others at the first place
-  pub coefficients-are : (rest first : ℕ) → first < p → IsCongruent p rest (sum_below (n - 1) (λ i. entry x (suc i)))
+  pub coefficients-are : (rest first : ℕ) → first < p
+      → IsCongruent p rest (sum_below (n - 1) (λ i. entry x (suc i)))
       → IsCongruent p (first + rest) (entry x 0) → AreSumCoordinates p n (slice_set x 0 first) x
   coefficients-are rest first small rest-is first-is = record {
     coefficients = set-row x 0 first row some small;
@@ -55,7 +63,8 @@ module _ {p n : ℕ} (x : List ℕ) (row : IsRow p n x) (some : 0 < n) where
   }
     where
       split : sum_below n (entry (slice_set x 0 first)) ≡ first + sum_below (n - 1) (λ i. entry x (suc i))
-      split = ap (λ m. sum_below m (entry (slice_set x 0 first))) (let z : n ≡ suc (n - 1) = omega (arith, some) in z)
+      split = ap (λ m. sum_below m (entry (slice_set x 0 first)))
+          (let z : n ≡ suc (n - 1) = omega (arith, some) in z)
           ∙ sum_below-first (n - 1) (entry (slice_set x 0 first))
           ∙ ap₂ ◌+◌ (set-first first)
           (sum_below-same (n - 1) (λ i. entry (slice_set x 0 first) (suc i)) (λ i. entry x (suc i))
@@ -63,7 +72,8 @@ module _ {p n : ℕ} (x : List ℕ) (row : IsRow p n x) (some : 0 < n) where
 
 -- y less r, plus r
 pub less-and-plus : {p : ℕ} (y r : ℕ) → 0 < p → IsCongruent p ((y + (p - 1) * r) % p + r) y
-less-and-plus {p} y r some = congruent_trans (congruent_add (congruent_mod (y + (p - 1) * r)) (congruent_refl r))
+less-and-plus {p} y r some = congruent_trans
+    (congruent_add (congruent_mod (y + (p - 1) * r)) (congruent_refl r))
     (to_congruent 0 r (let z : y + (p - 1) * r + r + 0 * p ≡ y + r * p = minus p some in z))
   where
     minus : (m : ℕ) → 0 < m → y + (m - 1) * r + r + 0 * m ≡ y + r * m

@@ -12,11 +12,13 @@ pub record IsCombined (p n : ℕ) (c : List ℕ) (R : ℕ → List ℕ) (r : Lis
   pub is_row : IsRow p n r
   pub each : (j : ℕ) → IsCongruent p (entry r j) (sum_below n (λ k. entry c k * entry (R k) j))
 
-pub combined : {p n : ℕ} (c : List ℕ) (rows : List (List ℕ)) (r : List ℕ) → 0 < p → IsMatrix p n rows → length rows ≡ n
+pub combined : {p n : ℕ} (c : List ℕ) (rows : List (List ℕ)) (r : List ℕ) → 0 < p → IsMatrix p n rows
+    → length rows ≡ n
     → r ≡ combination_row p n (entry c) rows → IsCombined p n c (row rows) r
 combined {p} {n} c rows r some M len e = subst (λ x. IsCombined p n c (row rows) x) (sym e) (record {
   is_row = combination_row-is_row p n some (entry c) rows M;
-  each = λ j. subst (λ m. IsCongruent p (entry (combination_row p n (entry c) rows) j) (sum_below m (λ k. entry c k * entry (row rows k) j)))
+  each = λ j. subst (λ m. IsCongruent p (entry (combination_row p n (entry c) rows) j)
+      (sum_below m (λ k. entry c k * entry (row rows k) j)))
       len (combination_row-each p n some (entry c) rows M j);
 })
 

@@ -27,15 +27,23 @@ use Rattle.group_algebra.proofs.LayerRows.{block, each_block, image-added, size-
 use Rattle.group_algebra.proofs.ElementRows.{product-expand}
 
 zeros-are-row : (p w : ℕ) → 0 < p → IsRow p w (replicate w 0)
-zeros-are-row p w l = record { length_is = length-replicate w 0; below = λ j m. subst (λ x. x < p) (sym (get_or-replicate w j 0 0 m)) l }
+zeros-are-row p w l = record {
+  length_is = length-replicate w 0;
+  below = λ j m. subst (λ x. x < p) (sym (get_or-replicate w j 0 0 m)) l;
+}
 
 -- the numbers of a borrowed row
-pub row-of-ref : {p w m : ℕ} (x : List ℕ) → length x ≡ w → m ≡ p → ((j : ℕ) → j < length x → entry x j < m) → IsRow p w x
-row-of-ref {p} {w} {m} x e f h = record { length_is = e; below = λ j l. subst (λ k. entry x j < k) f (h j (subst (λ k. j < k) (sym e) l)) }
+pub row-of-ref : {p w m : ℕ} (x : List ℕ) → length x ≡ w → m ≡ p → ((j : ℕ) → j < length x → entry x j < m)
+    → IsRow p w x
+row-of-ref {p} {w} {m} x e f h = record {
+  length_is = e;
+  below = λ j l. subst (λ k. entry x j < k) f (h j (subst (λ k. j < k) (sym e) l));
+}
 
 -- positions by steps
 pub inside-steps : (n k g s L : ℕ) → k < n → g < n → s ≡ n → L ≡ n * n → g + k * s < L
-inside-steps n k g s L l m e f = let z : (k + 1) * n ≤ n * n = mul-le-mul_right n (let y : k + 1 ≤ n = omega (arith, l) in y) in
+inside-steps n k g s L l m e f = let z : (k + 1) * n ≤ n * n =
+    mul-le-mul_right n (let y : k + 1 ≤ n = omega (arith, l) in y) in
     let d : k * s ≡ k * n = ap (λ x. k * x) e in omega (arith, z, m, f, d)
 
 module _ (G : PGroup) where
@@ -49,15 +57,18 @@ module _ (G : PGroup) where
   M b = free_module G b
 
   -- a row is the row of its table
-  pub row-back : (b : ℕ) (x : List ℕ) (v : (M b).of) → IsRow G.table.p (n * b) x → table_of G b x ≡ v → x ≡ row_of G b v
+  pub row-back : (b : ℕ) (x : List ℕ) (v : (M b).of) → IsRow G.table.p (n * b) x → table_of G b x ≡ v
+      → x ≡ row_of G b v
   row-back b x v r e = sym ((layer_coordinates G b).row-table x (residue-row G r)) ∙ ap (row_of G b) e
 
   -- the row of 0
   pub zero-row : (b : ℕ) → row_of G b (M b).zero ≡ replicate (n * b) 0
   zero-row b = same_number_lists (row_of G b (M b).zero) (replicate (n * b) 0)
       (r.length_is ∙ sym (length-replicate (n * b) 0))
-      (λ j l. let m : j < n * b = (let e : length (row_of G b (M b).zero) ≡ n * b = r.length_is in omega (arith, e, l)) in
-      same_below (at-zero q (group G) (n * b) (M b) (layer_coordinates G b) j) (r.below j m) (let z : 0 < suc q = omega arith in z)
+      (λ j l. let m : j < n * b = (let e : length (row_of G b (M b).zero) ≡ n * b = r.length_is in omega
+      (arith, e, l)) in
+      same_below (at-zero q (group G) (n * b) (M b) (layer_coordinates G b) j) (r.below j m)
+      (let z : 0 < suc q = omega arith in z)
       ∙ sym (get_or-replicate (n * b) j 0 0 m))
     where
       r : IsRow (suc q) (n * b) (row_of G b (M b).zero)
@@ -67,37 +78,54 @@ module _ (G : PGroup) where
   zero-table b = ap (table_of G b) (sym (zero-row b)) ∙ (layer_coordinates G b).table-row (M b).zero
 
   -- a row that gained the images of the blocks
-  pub image-gained : (f : (M 1).of → (M 1).of) → IsAdditive (M 1) (M 1) f → (R : ℕ → List ℕ) → ((k : ℕ) → k < n → R k ≡ row_of G 1 (f (member G k)))
-      → (b c : ℕ) (ss v old new : List ℕ) → ss ≡ sizes G → IsRow G.table.p (n * b) v → IsRow G.table.p (n * b) old → GainsImage G.table.p ss b R c v old new
-      → table_of G b new ≡ (M b).add (table_of G b old) (times (M b).add (M b).zero c (each_block G b f (table_of G b v)))
-  image-gained f a R e b c ss v old new s rv ro C = image-added G f a R e b c v old new (residue-row G rv) (residue-row G ro)
+  pub image-gained : (f : (M 1).of → (M 1).of) → IsAdditive (M 1) (M 1) f → (R : ℕ → List ℕ)
+      → ((k : ℕ) → k < n → R k ≡ row_of G 1 (f (member G k)))
+      → (b c : ℕ) (ss v old new : List ℕ) → ss ≡ sizes G → IsRow G.table.p (n * b) v
+      → IsRow G.table.p (n * b) old → GainsImage G.table.p ss b R c v old new
+      → table_of G b new ≡ (M b).add (table_of G b old)
+      (times (M b).add (M b).zero c (each_block G b f (table_of G b v)))
+  image-gained f a R e b c ss v old new s rv ro C =
+      image-added G f a R e b c v old new (residue-row G rv) (residue-row G ro)
       (residue-row G (subst (λ m. IsRow G.table.p (m * b) new) (ap size_of s ∙ size-is G) C.is_row))
-      (λ i j l m. subst (λ p. At p (sizes G) n i j) (sym (residues G)) (subst (λ k. At G.table.p (sizes G) k i j) (ap size_of s ∙ size-is G)
-      (subst (λ ss'. At G.table.p ss' (size_of ss) i j) s (C.each i j l (subst (λ k. j < k) (sym (ap size_of s ∙ size-is G)) m)))))
+      (λ i j l m. subst (λ p. At p (sizes G) n i j) (sym (residues G))
+      (subst (λ k. At G.table.p (sizes G) k i j) (ap size_of s ∙ size-is G)
+      (subst (λ ss'. At G.table.p ss' (size_of ss) i j) s
+      (C.each i j l (subst (λ k. j < k) (sym (ap size_of s ∙ size-is G)) m)))))
     where
       At : ℕ → List ℕ → ℕ → ℕ → ℕ → Type 0
-      At p ss m i j = IsCongruent p (entry new (place_of ss b i j)) (entry old (place_of ss b i j) + c * sum_below m (λ k. entry v (place_of ss b i k) * entry (R k) j))
+      At p ss m i j = IsCongruent p (entry new (place_of ss b i j))
+          (entry old (place_of ss b i j) + c * sum_below m (λ k. entry v (place_of ss b i k) * entry (R k) j))
 
   -- the translates by g, and g times a table
-  pub acted : (T : List (List ℕ)) → length T ≡ n * n → EachRow (IsTranslateRow G) T → (b : ℕ) (g : Below n) (ss v new : List ℕ) → ss ≡ sizes G
+  pub acted : (T : List (List ℕ)) → length T ≡ n * n → EachRow (IsTranslateRow G) T
+      → (b : ℕ) (g : Below n) (ss v new : List ℕ) → ss ≡ sizes G
       → IsRow G.table.p (n * b) v → GainsImage G.table.p ss b (stepped T g.0 n) 1 v (replicate (n * b) 0) new
       → new ≡ row_of G b ((M b).act g (table_of G b v))
-  acted T len H b g ss v new s rv C = row-back b new ((M b).act g (table_of G b v)) (subst (λ m. IsRow G.table.p (m * b) new) (ap size_of s ∙ size-is G) C.is_row)
-      (image-gained ((M 1).act g) ((M 1).act-add g) (stepped T g.0 n) (λ k l. H (g.0 + k * n) (inside k l) k g l (let z : g.0 + k * n ≡ k * n + g.0 = omega arith in z))
-      b 1 ss v (replicate (n * b) 0) new s rv (zeros-are-row G.table.p (n * b) (let z : suc q ≡ G.table.p = residues G in omega (arith, z))) C
+  acted T len H b g ss v new s rv C = row-back b new ((M b).act g (table_of G b v))
+      (subst (λ m. IsRow G.table.p (m * b) new) (ap size_of s ∙ size-is G) C.is_row)
+      (image-gained ((M 1).act g) ((M 1).act-add g) (stepped T g.0 n)
+      (λ k l. H (g.0 + k * n) (inside k l) k g l (let z : g.0 + k * n ≡ k * n + g.0 = omega arith in z))
+      b 1 ss v (replicate (n * b) 0) new s rv
+      (zeros-are-row G.table.p (n * b) (let z : suc q ≡ G.table.p = residues G in omega (arith, z))) C
       ∙ ap (λ z. (M b).add z (times (M b).add (M b).zero 1 ((M b).act g (table_of G b v)))) (zero-table b)
       ∙ zero-add (M b) (times (M b).add (M b).zero 1 ((M b).act g (table_of G b v)))
       ∙ (M b).add-zero ((M b).act g (table_of G b v)))
     where
       inside : (k : ℕ) → k < n → g.0 + k * n < length T
-      inside k l = let z : (k + 1) * n ≤ n * n = mul-le-mul_right n (let y : k + 1 ≤ n = omega (arith, l) in y) in let c : g.0 < n = g.1 in omega (arith, z, c, len)
+      inside k l = let z : (k + 1) * n ≤ n * n =
+          mul-le-mul_right n (let y : k + 1 ≤ n = omega (arith, l) in y) in let c : g.0 < n = g.1 in
+          omega (arith, z, c, len)
 
   -- a block of a product
-  pub block-product : (b : ℕ) (a : (M 1).of) (w : (M b).of) → each_block G b (product_with G 1 a) w ≡ product_with G b a w
+  pub block-product : (b : ℕ) (a : (M 1).of) (w : (M b).of)
+      → each_block G b (product_with G 1 a) w ≡ product_with G b a w
   block-product b a w = fun_ext (λ i. fun_ext (λ g. ap (λ (y : (M 1).of). y (residue 0 0) g)
       (product-expand G 1 a (block G b w i)
-      ∙ sym (map-total (M b) (M 1) (λ u. block G b u i) (λ u u'. refl) (below n) (λ g. times (M b).add (M b).zero (a (residue 0 0) g).0 ((M b).act g w))
-      ∙ ap (total (M 1) (below n)) (fun_ext (λ g. map-times (M b) (M 1) (λ u. block G b u i) (λ u u'. refl) (a (residue 0 0) g).0 ((M b).act g w))))
+      ∙ sym (map-total (M b) (M 1) (λ u. block G b u i) (λ u u'. refl) (below n)
+      (λ g. times (M b).add (M b).zero (a (residue 0 0) g).0 ((M b).act g w))
+      ∙ ap (total (M 1) (below n)) (fun_ext
+      (λ g. map-times (M b) (M 1) (λ u. block G b u i) (λ u u'. refl) (a (residue 0 0) g).0
+      ((M b).act g w))))
       ∙ ap (λ u. block G b u i) (sym (product-expand G b a w)))))
 
   product-additive : (b : ℕ) (a : (M 1).of) → IsAdditive (M b) (M b) (product_with G b a)
@@ -105,37 +133,51 @@ module _ (G : PGroup) where
 
   -- the sum of the first products
   abbrev pub first_products : (b : ℕ) → List ℕ → (M b).of → ℕ → (M b).of
-  first_products b a w k = total (M b) (below k) (λ l. times (M b).add (M b).zero (entry a l.0) (product_with G b (member G l.0) w))
+  first_products b a w k = total (M b) (below k)
+      (λ l. times (M b).add (M b).zero (entry a l.0) (product_with G b (member G l.0) w))
 
   pub products-next : (b : ℕ) (a : List ℕ) (w : (M b).of) (k : ℕ)
-      → first_products b a w (k + 1) ≡ (M b).add (times (M b).add (M b).zero (entry a k) (product_with G b (member G k) w)) (first_products b a w k)
+      → first_products b a w (k + 1) ≡ (M b).add
+      (times (M b).add (M b).zero (entry a k) (product_with G b (member G k) w)) (first_products b a w k)
   products-next b a w k = ap (first_products b a w) (let z : k + 1 ≡ suc k = omega arith in z)
       ∙ ap ((M b).add (times (M b).add (M b).zero (entry a k) (product_with G b (member G k) w)))
-      (total-map (M b) (λ i. up i) (below k) (λ l. times (M b).add (M b).zero (entry a l.0) (product_with G b (member G l.0) w)))
+      (total-map (M b) (λ i. up i) (below k)
+      (λ l. times (M b).add (M b).zero (entry a l.0) (product_with G b (member G l.0) w)))
 
   -- all of them are the product
-  pub products-all : (b : ℕ) (a : List ℕ) (w : (M b).of) → IsRow G.table.p n a → first_products b a w n ≡ product_with G b (table_of G 1 a) w
-  products-all b a w r = ap (total (M b) (below n)) (fun_ext (λ l. sym (map-times (M 1) (M b) (λ y. product_with G b y w) (terms-add q (group G) (M b) 1 (λ i. w)) (entry a l.0) (member G l.0))))
-      ∙ sym (map-total (M 1) (M b) (λ y. product_with G b y w) (terms-add q (group G) (M b) 1 (λ i. w)) (below n) (λ l. times (M 1).add (M 1).zero (entry a l.0) (member G l.0)))
+  pub products-all : (b : ℕ) (a : List ℕ) (w : (M b).of) → IsRow G.table.p n a
+      → first_products b a w n ≡ product_with G b (table_of G 1 a) w
+  products-all b a w r = ap (total (M b) (below n))
+      (fun_ext (λ l. sym (map-times (M 1) (M b) (λ y. product_with G b y w)
+      (terms-add q (group G) (M b) 1 (λ i. w)) (entry a l.0) (member G l.0))))
+      ∙ sym (map-total (M 1) (M b) (λ y. product_with G b y w) (terms-add q (group G) (M b) 1 (λ i. w))
+      (below n) (λ l. times (M 1).add (M 1).zero (entry a l.0) (member G l.0)))
       ∙ ap (λ y. product_with G b y w) (sym (expand-one G (table_of G 1 a)
-      ∙ ap (λ y. total (M 1) (below n) (λ k. times (M 1).add (M 1).zero (entry y k.0) (member G k.0))) ((layer_coordinates G 1).row-table a (subst (λ m. IsRow (suc q) m a) (let z : n ≡ n * 1 = omega arith in z) (residue-row G r)))))
+      ∙ ap (λ y. total (M 1) (below n) (λ k. times (M 1).add (M 1).zero (entry y k.0) (member G k.0)))
+      ((layer_coordinates G 1).row-table a
+      (subst (λ m. IsRow (suc q) m a) (let z : n ≡ n * 1 = omega arith in z) (residue-row G r)))))
 
   -- one more product
-  pub product-gained : (T : List (List ℕ)) → length T ≡ n * n → EachRow (IsProductRow G) T → (b k : ℕ) (ss a v first old new : List ℕ) → ss ≡ sizes G → k < n
-      → IsRow G.table.p (n * b) v → IsRow G.table.p (n * b) old → GainsImage G.table.p ss b (stepped T k n) (entry a k) v old new
+  pub product-gained : (T : List (List ℕ)) → length T ≡ n * n → EachRow (IsProductRow G) T
+      → (b k : ℕ) (ss a v first old new : List ℕ) → ss ≡ sizes G → k < n
+      → IsRow G.table.p (n * b) v → IsRow G.table.p (n * b) old
+      → GainsImage G.table.p ss b (stepped T k n) (entry a k) v old new
       → table_of G b old ≡ (M b).add (table_of G b first) (first_products b a (table_of G b v) k)
       → table_of G b new ≡ (M b).add (table_of G b first) (first_products b a (table_of G b v) (k + 1))
   product-gained T len H b k ss a v first old new s l rv ro C e =
       image-gained (product_with G 1 (member G k)) (product-additive 1 (member G k)) (stepped T k n)
       (λ j m. H (k + j * n) (inside j m) k j l m (let z : k + j * n ≡ j * n + k = omega arith in z))
       b (entry a k) ss v old new s rv ro C
-      ∙ ap (λ z. (M b).add (table_of G b old) (times (M b).add (M b).zero (entry a k) z)) (block-product b (member G k) (table_of G b v))
+      ∙ ap (λ z. (M b).add (table_of G b old) (times (M b).add (M b).zero (entry a k) z))
+      (block-product b (member G k) (table_of G b v))
       ∙ ap (λ z. (M b).add z term) e
       ∙ (M b).add-assoc (table_of G b first) (first_products b a (table_of G b v) k) term
-      ∙ ap ((M b).add (table_of G b first)) ((M b).add-comm (first_products b a (table_of G b v) k) term ∙ sym (products-next b a (table_of G b v) k))
+      ∙ ap ((M b).add (table_of G b first)) ((M b).add-comm (first_products b a (table_of G b v) k) term
+      ∙ sym (products-next b a (table_of G b v) k))
     where
       term : (M b).of
       term = times (M b).add (M b).zero (entry a k) (product_with G b (member G k) (table_of G b v))
 
       inside : (j : ℕ) → j < n → k + j * n < length T
-      inside j m = let z : (j + 1) * n ≤ n * n = mul-le-mul_right n (let y : j + 1 ≤ n = omega (arith, m) in y) in omega (arith, z, l, len)
+      inside j m = let z : (j + 1) * n ≤ n * n =
+          mul-le-mul_right n (let y : j + 1 ≤ n = omega (arith, m) in y) in omega (arith, z, l, len)

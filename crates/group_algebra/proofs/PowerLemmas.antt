@@ -23,17 +23,25 @@ use Rattle.p_groups.proofs.Fields.{residues}
 use Rattle.group_algebra.specs.Coordinates.{sum_coordinates, free_module}
 
 -- each row is the combination of the unit rows with its entries
-module _ (p n : ℕ) (M : List (List ℕ)) (len : length M ≡ n) (units : (k : ℕ) → k < n → row M k ≡ unit_row n k) where
+module _ (p n : ℕ) (M : List (List ℕ)) (len : length M ≡ n) (units : (k : ℕ) → k < n
+    → row M k ≡ unit_row n k) where
   pub units-combination : (x : List ℕ) → IsRow p n x → IsCombination p (entry x) M (entry x)
   units-combination x r = record { each = λ j. rw len (at j (cases_lt j n)) }
     where
       other : (j i : ℕ) → i < n → i ≢ j → IsCongruent p (entry x i * entry (row M i) j) 0
-      other j i l d = congruent_eq (ap (λ y. entry x i * entry y j) (units i l) ∙ ap (λ y. entry x i * y) (entry_unit_other n i j (λ e. d (sym e))) ∙ (let z : entry x i * 0 ≡ 0 = omega arith in z))
+      other j i l d = congruent_eq (ap (λ y. entry x i * entry y j) (units i l)
+          ∙ ap (λ y. entry x i * y) (entry_unit_other n i j (λ e. d (sym e)))
+          ∙ (let z : entry x i * 0 ≡ 0 = omega arith in z))
 
-      at : (j : ℕ) → (j < n) ⊎ (n ≤ j) → IsCongruent p (sum_below n (λ i. entry x i * entry (row M i) j)) (entry x j)
-      at j (inl l) = congruent_trans (sum_below-one p n j (λ i. entry x i * entry (row M i) j) l (λ i m d. other j i m d))
-          (congruent_eq (ap (λ y. entry x j * entry y j) (units j l) ∙ ap (λ y. entry x j * y) (entry_unit_same n j l) ∙ (let z : entry x j * 1 ≡ entry x j = omega arith in z)))
-      at j (inr l) = congruent_trans (sum_below-vanishes p n (λ i. entry x i * entry (row M i) j) (λ i m. other j i m (omega (arith, l, m))))
+      at : (j : ℕ) → (j < n) ⊎ (n ≤ j) → IsCongruent p (sum_below n (λ i. entry x i * entry (row M i) j))
+          (entry x j)
+      at j (inl l) = congruent_trans (sum_below-one p n j (λ i. entry x i * entry (row M i) j) l
+          (λ i m d. other j i m d))
+          (congruent_eq (ap (λ y. entry x j * entry y j) (units j l)
+          ∙ ap (λ y. entry x j * y) (entry_unit_same n j l)
+          ∙ (let z : entry x j * 1 ≡ entry x j = omega arith in z)))
+      at j (inr l) = congruent_trans (sum_below-vanishes p n (λ i. entry x i * entry (row M i) j)
+          (λ i m. other j i m (omega (arith, l, m))))
           (congruent_eq (sym (get_or_past x j 0 (let e : length x ≡ n = r.length_is in omega (arith, e, l)))))
 
   pub in-units : (x : List ℕ) → IsRow p n x → IsInSpan p M (entry x)
@@ -41,21 +49,27 @@ module _ (p n : ℕ) (M : List (List ℕ)) (len : length M ≡ n) (units : (k : 
 
   module _ (above : 1 < p) where
     unit-pivot : (i : ℕ) → i < n → pivot (unit_row n i) ≡ i
-    unit-pivot i l = pivot_is (unit_row n i) i (λ j m. entry_unit_other n i j (let z : j ≢ i = omega (arith, m) in z))
+    unit-pivot i l = pivot_is (unit_row n i) i
+        (λ j m. entry_unit_other n i j (let z : j ≢ i = omega (arith, m) in z))
         (λ e. let z : entry (unit_row n i) i ≡ 1 = entry_unit_same n i l in omega (arith, e, z))
 
     pivot-at : (i : ℕ) → i < length M → pivot (row M i) ≡ i
     pivot-at i l = let m : i < n = omega (arith, l, len) in ap pivot (units i m) ∙ unit-pivot i m
 
     units-matrix : IsMatrix p n M
-    units-matrix i l = let m : i < n = omega (arith, l, len) in subst (IsRow p n) (sym (units i m)) (unit-is-row p n i above m)
+    units-matrix i l = let m : i < n = omega (arith, l, len) in
+        subst (IsRow p n) (sym (units i m)) (unit-is-row p n i above m)
 
     units-echelon : IsEchelon M
     units-echelon = record {
-      not_zero = λ i l. let e : pivot (row M i) ≡ i = pivot-at i l in let f : length (row M i) ≡ n = (units-matrix i l).length_is in omega (arith, e, f, l, len);
-      ascending = λ i k l m. let e : pivot (row M i) ≡ i = pivot-at i (omega (arith, l, m)) in let f : pivot (row M k) ≡ k = pivot-at k m in omega (arith, e, f, l);
-      monic = λ i l. let m : i < n = omega (arith, l, len) in ap (entry (row M i)) (pivot-at i l) ∙ ap (λ x. entry x i) (units i m) ∙ entry_unit_same n i m;
-      cleared = λ i k l m d. ap (entry (row M k)) (pivot-at i l) ∙ ap (λ x. entry x i) (units k (omega (arith, m, len))) ∙ entry_unit_other n k i d;
+      not_zero = λ i l. let e : pivot (row M i) ≡ i = pivot-at i l in
+          let f : length (row M i) ≡ n = (units-matrix i l).length_is in omega (arith, e, f, l, len);
+      ascending = λ i k l m. let e : pivot (row M i) ≡ i = pivot-at i (omega (arith, l, m)) in
+          let f : pivot (row M k) ≡ k = pivot-at k m in omega (arith, e, f, l);
+      monic = λ i l. let m : i < n = omega (arith, l, len) in ap (entry (row M i)) (pivot-at i l)
+          ∙ ap (λ x. entry x i) (units i m) ∙ entry_unit_same n i m;
+      cleared = λ i k l m d. ap (entry (row M k)) (pivot-at i l)
+          ∙ ap (λ x. entry x i) (units k (omega (arith, m, len))) ∙ entry_unit_other n k i d;
     }
 
     -- the echelon list of the unit rows is their list
@@ -66,7 +80,9 @@ module _ (G : PGroup) where
   abbrev IsPower : ℕ → List (List ℕ) → Type 0
   IsPower i E = IsPowerList (largest_residue G) (group G) (sum_coordinates G) i E
 
-  pub whole-is : (M E : List (List ℕ)) → length M ≡ order G.table → ((k : ℕ) → k < order G.table → row M k ≡ unit_row (order G.table) k) → IsEchelonOf G.table.p (order G.table) M E → IsPower 0 E
+  pub whole-is : (M E : List (List ℕ)) → length M ≡ order G.table
+      → ((k : ℕ) → k < order G.table → row M k ≡ unit_row (order G.table) k)
+      → IsEchelonOf G.table.p (order G.table) M E → IsPower 0 E
   whole-is M E len units e = go (subst (λ p. IsEchelonOf p (order G.table) M E) (sym (residues G)) e)
     where
       go : IsEchelonOf (suc (largest_residue G)) (order G.table) M E → IsPower 0 E
@@ -74,12 +90,17 @@ module _ (G : PGroup) where
         matrix = e.matrix;
         echelon = e.echelon;
         members = λ i l. (e.matrix i l, tt);
-        spans = λ x r. in_span_trans e.spans (in-units (suc (largest_residue G)) (order G.table) M len units x r.0);
+        spans = λ x r. in_span_trans e.spans
+            (in-units (suc (largest_residue G)) (order G.table) M len units x r.0);
       }
 
-  pub next-is : (i : ℕ) (E M E' : List (List ℕ)) → IsPower i E → M ≡ moves (group G) (free_module G 1) (sum_coordinates G) E → IsEchelonOf G.table.p (order G.table) M E' → IsPower (suc i) E'
-  next-is i E M E' P m e = next-layer (largest_residue G) (group G) (order G.table) (free_module G 1) (sum_coordinates G) i E P E'
-      (subst (λ N. IsEchelonOf (suc (largest_residue G)) (order G.table) N E') m (subst (λ p. IsEchelonOf p (order G.table) M E') (sym (residues G)) e))
+  pub next-is : (i : ℕ) (E M E' : List (List ℕ)) → IsPower i E
+      → M ≡ moves (group G) (free_module G 1) (sum_coordinates G) E
+      → IsEchelonOf G.table.p (order G.table) M E' → IsPower (suc i) E'
+  next-is i E M E' P m e = next-layer (largest_residue G) (group G) (order G.table) (free_module G 1)
+      (sum_coordinates G) i E P E'
+      (subst (λ N. IsEchelonOf (suc (largest_residue G)) (order G.table) N E') m
+      (subst (λ p. IsEchelonOf p (order G.table) M E') (sym (residues G)) e))
 
   -- the rows of the moves by the elements below g
   abbrev rest : (g : ℕ) → g ≤ order G.table → List (List ℕ) → List (List ℕ)
@@ -88,20 +109,29 @@ module _ (G : PGroup) where
   abbrev all : List (List ℕ) → List (List ℕ)
   all E = moves (group G) (free_module G 1) (sum_coordinates G) E
 
-  pub moves-start : (E : List (List ℕ)) (g : ℕ) (l : g ≤ order G.table) → g ≡ order G.table → [] ++ rest g l E ≡ all E
+  pub moves-start : (E : List (List ℕ)) (g : ℕ) (l : g ≤ order G.table) → g ≡ order G.table
+      → [] ++ rest g l E ≡ all E
   moves-start E g l e = go g e l
     where
       go : (g : ℕ) → g ≡ order G.table → (l : g ≤ order G.table) → rest g l E ≡ all E
       go g e l = ap (λ gs. moves_by (group G) (free_module G 1) (sum_coordinates G) gs E)
-          (same-down e l (let z : order G.table ≤ order G.table = omega arith in z) ∙ sym (below-is-down (order G.table) (let z : order G.table ≤ order G.table = omega arith in z)))
+          (same-down e l (let z : order G.table ≤ order G.table = omega arith in z)
+          ∙ sym (below-is-down (order G.table)
+          (let z : order G.table ≤ order G.table = omega arith in z)))
 
   -- the moves by one more element
-  pub moves-step : (E before after : List (List ℕ)) (g k : ℕ) (l : g < order G.table) (b : g ≤ order G.table) (m : k ≤ order G.table) → k ≡ suc g
+  pub moves-step : (E before after : List (List ℕ)) (g k : ℕ) (l : g < order G.table) (b : g ≤ order G.table)
+      (m : k ≤ order G.table) → k ≡ suc g
       → after ≡ before ++ map (move_row (group G) (free_module G 1) (sum_coordinates G) (g, l)) E
       → before ++ rest k m E ≡ all E → after ++ rest g b E ≡ all E
-  moves-step E before after g k l b m e a r = ap (λ rows. rows ++ rest g b E) a ∙ append_assoc before (map (move_row (group G) (free_module G 1) (sum_coordinates G) (g, l)) E) (rest g b E)
-      ∙ ap (λ rows. before ++ rows) (ap (λ gs. moves_by (group G) (free_module G 1) (sum_coordinates G) gs E) (down-next e l b m)) ∙ r
+  moves-step E before after g k l b m e a r = ap (λ rows. rows ++ rest g b E) a
+      ∙ append_assoc before (map (move_row (group G) (free_module G 1) (sum_coordinates G) (g, l)) E)
+      (rest g b E)
+      ∙ ap (λ rows. before ++ rows) (ap (λ gs. moves_by (group G) (free_module G 1) (sum_coordinates G) gs E)
+      (down-next e l b m)) ∙ r
 
-  pub moves-end : (E before : List (List ℕ)) (g : ℕ) (l : g ≤ order G.table) → g ≡ 0 → before ++ rest g l E ≡ all E → before ≡ all E
-  moves-end E before g l e r = sym (append-nil before) ∙ ap (λ gs. before ++ moves_by (group G) (free_module G 1) (sum_coordinates G) gs E)
+  pub moves-end : (E before : List (List ℕ)) (g : ℕ) (l : g ≤ order G.table) → g ≡ 0
+      → before ++ rest g l E ≡ all E → before ≡ all E
+  moves-end E before g l e r = sym (append-nil before)
+      ∙ ap (λ gs. before ++ moves_by (group G) (free_module G 1) (sum_coordinates G) gs E)
       (sym (same-down {n = order G.table} e l (let z : 0 ≤ order G.table = omega arith in z))) ∙ r

@@ -26,15 +26,18 @@ use Rattle.group_algebra.specs.Tables.{HasShape, AreMembers, TakesSumsToLayers, 
 use Rattle.group_algebra.proofs.Members.{translate-is}
 use Rattle.group_algebra.proofs.ElementRows.{one, layers-of-sums, element-coefficients, product-row, times-one-is}
 
-pub each-pushed : (P : ℕ → List ℕ → Type 0) (rows : List (List ℕ)) (x : List ℕ) → EachRow P rows → P (length rows) x → EachRow P (rows ++ x ∷ [])
+pub each-pushed : (P : ℕ → List ℕ → Type 0) (rows : List (List ℕ)) (x : List ℕ) → EachRow P rows
+    → P (length rows) x → EachRow P (rows ++ x ∷ [])
 each-pushed P rows x h p i l = go (cases_lt i (length rows))
   where
     go : (i < length rows) ⊎ (length rows ≤ i) → P i (row (rows ++ x ∷ []) i)
     go (inl m) = subst (P i) (sym (row_before_push rows x i m)) (h i m)
-    go (inr m) = let e : length rows ≡ i = (let c : length (rows ++ x ∷ []) ≡ length rows + 1 = length_push rows x in omega (arith, c, l, m)) in
+    go (inr m) = let e : length rows ≡ i =
+        (let c : length (rows ++ x ∷ []) ≡ length rows + 1 = length_push rows x in omega (arith, c, l, m)) in
         subst (P i) (sym (get_or_push rows x [] i e)) (subst (λ k. P k x) e p)
 
-pub shape-pushed : (G : PGroup) (k : ℕ) (m m' : MatrixValue) (x : List ℕ) → HasShape G k m → m' ≡ record m { rows = m.rows ++ x ∷ [] } → HasShape G (k + 1) m'
+pub shape-pushed : (G : PGroup) (k : ℕ) (m m' : MatrixValue) (x : List ℕ) → HasShape G k m
+    → m' ≡ record m { rows = m.rows ++ x ∷ [] } → HasShape G (k + 1) m'
 shape-pushed G k m m' x H e = record {
   prime = ap (λ y. y.p) e ∙ H.prime;
   width = ap (λ y. y.width) e ∙ H.width;
@@ -51,9 +54,11 @@ each-appended P rows ys h g i l = go (cases_lt i (length rows))
     go (inr m) = let e : length rows + (i - length rows) ≡ i = omega (arith, m) in
         subst (λ k. P k (row (rows ++ ys) k)) e
         (subst (P (length rows + (i - length rows))) (sym (get_or-append-add rows ys (i - length rows) []))
-        (g (i - length rows) (let c : length (rows ++ ys) ≡ length rows + length ys = length-append rows ys in omega (arith, c, l, m))))
+        (g (i - length rows) (let c : length
+        (rows ++ ys) ≡ length rows + length ys = length-append rows ys in omega (arith, c, l, m))))
 
-pub shape-appended : (G : PGroup) (k n : ℕ) (m m' : MatrixValue) (ys : List (List ℕ)) → HasShape G k m → length ys ≡ n
+pub shape-appended : (G : PGroup) (k n : ℕ) (m m' : MatrixValue) (ys : List (List ℕ)) → HasShape G k m
+    → length ys ≡ n
     → m' ≡ record m { rows = m.rows ++ ys } → HasShape G (k + n) m'
 shape-appended G k n m m' ys H len e = record {
   prime = ap (λ y. y.p) e ∙ H.prime;
@@ -66,12 +71,14 @@ pub parts : (n k g k' g' : ℕ) → g < n → g' < n → k * n + g ≡ k' * n + 
 parts n k g k' g' l l' e = go (cases_lt k k') (cases_lt k' k)
   where
     less : (a b c d : ℕ) → c < n → a < b → a * n + c < b * n + d
-    less a b c d m o = let z : (a + 1) * n ≤ b * n = mul-le-mul_right n (let y : a + 1 ≤ b = omega (arith, o) in y) in omega (arith, z, m)
+    less a b c d m o = let z : (a + 1) * n ≤ b * n =
+        mul-le-mul_right n (let y : a + 1 ≤ b = omega (arith, o) in y) in omega (arith, z, m)
 
     go : (k < k') ⊎ (k' ≤ k) → (k' < k) ⊎ (k ≤ k') → (k ≡ k') × (g ≡ g')
     go (inl m) h = absurd (let z : k * n + g < k' * n + g' = less k k' g g' l m in omega (arith, z, e))
     go (inr m) (inl o) = absurd (let z : k' * n + g' < k * n + g = less k' k g' g l' o in omega (arith, z, e))
-    go (inr m) (inr o) = let z : k ≡ k' = omega (arith, m, o) in let y : k * n ≡ k' * n = ap (λ x. x * n) z in (z, omega (arith, y, e))
+    go (inr m) (inr o) = let z : k ≡ k' = omega (arith, m, o) in let y : k * n ≡ k' * n = ap (λ x. x * n) z in
+        (z, omega (arith, y, e))
 
 -- the row and the column of a position
 pub split : (n i : ℕ) → 0 < n → i < n * n → (i ≡ i / n * n + i % n) × (i / n < n) × (i % n < n)
@@ -89,21 +96,25 @@ module _ (G : PGroup) where
   n = order G.table
 
   -- the members of the layer basis span the unit rows
-  pub units-in-span : (B W : List (List ℕ)) → B ≡ layer_basis (layers G) → length W ≡ n → ((k : ℕ) → k < n → row W k ≡ unit_row n k) → AreInSpan G.table.p B W
+  pub units-in-span : (B W : List (List ℕ)) → B ≡ layer_basis (layers G) → length W ≡ n
+      → ((k : ℕ) → k < n → row W k ≡ unit_row n k) → AreInSpan G.table.p B W
   units-in-span B W e len units i l =
       let m : i < n = omega (arith, l, len) in
       subst (λ E. IsInSpan G.table.p E (entry (row W i))) (sym e)
       (subst (λ p. IsInSpan p (layer_basis (layers G)) (entry (row W i))) (residues G)
       (subst (λ x. IsInSpan (suc (largest_residue G)) (layer_basis (layers G)) (entry x)) (sym (units i m))
-      (basis-spans (largest_residue G) (field G) (group G) (sum_coordinates G) (layers G) (layers_are G) (unit_row n i)
+      (basis-spans (largest_residue G) (field G) (group G) (sum_coordinates G) (layers G) (layers_are G)
+      (unit_row n i)
       (unit-is-row (suc (largest_residue G)) n i (field G).above_one m))))
 
   pub sums-to-layers : (B W U none : List (List ℕ)) → B ≡ layer_basis (layers G) → length W ≡ n
       → ((k : ℕ) → k < n → row W k ≡ unit_row n k) → ArePreimages G.table.p B none W U → TakesSumsToLayers G U
   sums-to-layers B W U none e len units P v a s A S =
       layers-of-sums G U W none a s (combination_row G.table.p n (entry s) U) v len units at-basis A S
-      (combined s U (combination_row G.table.p n (entry s) U) (let z : suc (largest_residue G) ≡ G.table.p = residues G in omega (arith, z))
-      (λ i l. subst (λ w. IsRow G.table.p w (row U i)) count (P.each i (let z : i < length W = omega (arith, l, P.count) in z)).is_row)
+      (combined s U (combination_row G.table.p n (entry s) U)
+      (let z : suc (largest_residue G) ≡ G.table.p = residues G in omega (arith, z))
+      (λ i l. subst (λ w. IsRow G.table.p w (row U i)) count
+      (P.each i (let z : i < length W = omega (arith, l, P.count) in z)).is_row)
       (P.count ∙ len) refl)
     where
       count : length B ≡ n
@@ -114,7 +125,8 @@ module _ (G : PGroup) where
           (P.each i (let z : i < length W = omega (arith, l, len) in z))
 
   pub element-row : (U : List (List ℕ)) (g : ℕ) (s r : List ℕ) → TakesSumsToLayers G U
-      → AreSumCoordinates G.table.p n (unit_row n g) s → r ≡ combination_row G.table.p n (entry s) U → IsElementRow G g r
+      → AreSumCoordinates G.table.p n (unit_row n g) s → r ≡ combination_row G.table.p n (entry s) U
+      → IsElementRow G g r
   element-row U g s r T S c b e = c ∙ T (element G b) (unit_row n g) s
       (subst (λ k. AreCoefficients G (unit_row n k) (element G b)) (sym e) (element-coefficients G b)) S
 
@@ -122,7 +134,8 @@ module _ (G : PGroup) where
       → row E g.0 ≡ row_of G 1 ((free_module G 1).act g (one G))
   elements-at E len H g = H g.0 (let l : g.0 < n = g.1 in omega (arith, l, len)) g refl
 
-  pub translate-row : (members E : List (List ℕ)) (i k g : ℕ) (t r : List ℕ) → AreMembers G members → length E ≡ n
+  pub translate-row : (members E : List (List ℕ)) (i k g : ℕ) (t r : List ℕ) → AreMembers G members
+      → length E ≡ n
       → EachRow (IsElementRow G) E → i ≡ k * n + g → g < n → IsTranslate G.table g (row members k) t
       → IsCombined G.table.p n t (row E) r → IsTranslateRow G i r
   translate-row members E i k g t r A len H e l T C k' g' m d =
@@ -136,8 +149,10 @@ module _ (G : PGroup) where
       ∙ ap (row_of G 1) (times-one-is G ((free_module G 1).act g' (member G k')))
 
   -- W holds the translates of member l
-  pub product-of-members : (members T W : List (List ℕ)) (i k l : ℕ) (r : List ℕ) → AreMembers G members → length T ≡ n * n
-      → EachRow (IsTranslateRow G) T → ((g : ℕ) → g < n → row W g ≡ row T (l * n + g)) → i ≡ l * n + k → k < n → l < n
+  pub product-of-members : (members T W : List (List ℕ)) (i k l : ℕ) (r : List ℕ) → AreMembers G members
+      → length T ≡ n * n
+      → EachRow (IsTranslateRow G) T → ((g : ℕ) → g < n → row W g ≡ row T (l * n + g)) → i ≡ l * n + k → k < n
+      → l < n
       → IsCombined G.table.p n (row members k) (row W) r → IsProductRow G i r
   product-of-members members T W i k l r A len H W-is e b c C k' l' m o d =
       product-row G (row members k') (member G k') (member G l') (row W) r (A k' m) at

@@ -4,7 +4,8 @@ use Rattle.group_table.specs.Tables.{GroupTable, IsInverse, order, product}
 use Rattle.linear_algebra.specs.Modular.{IsCongruent, sum_below}
 use Rattle.linear_algebra.specs.Rows.{entry, IsRow}
 
--- the n numbers x are the sum coordinates of the member with the coefficients a: the sum, and then the coefficients but the first
+-- the n numbers x are the sum coordinates of the member with the coefficients a: the sum, and then the
+-- coefficients but the first
 pub record AreSumCoordinates (p n : ℕ) (a x : List ℕ) : Type 0 where
   pub coefficients : IsRow p n a
   pub coordinates : IsRow p n x

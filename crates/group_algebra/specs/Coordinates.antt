@@ -1,5 +1,7 @@
--- The group algebra kG in sum coordinates, its radical layers, and the free modules kG^b in layer coordinates.
--- The sum coordinates, the layers and the layer coordinates are members of existence proofs. There is one family of layers (`one_layers_law` of `radical_layers`),
+-- The group algebra kG in sum coordinates, its radical layers, and the free modules kG^b in layer
+-- coordinates.
+-- The sum coordinates, the layers and the layer coordinates are members of existence proofs. There is one
+-- family of layers (`one_layers_law` of `radical_layers`),
 -- and sum and layer coordinates are fixed by what they must satisfy.
 use Rattle.std.specs.Prelude.{◌≡◌, ℕ, suc, List}
 use Rattle.linear_algebra.specs.Rows.{entry, row, IsRow}
@@ -16,7 +18,8 @@ module _ (G : PGroup) where
   abbrev pub free_module : (b : ℕ) → Module (suc (largest_residue G)) (monoid (group G))
   free_module b = Table (largest_residue G) (group G) b
 
-  -- the sum coordinates of a member of kG: the sum of its coefficients, and then the coefficients of the elements 1, 2 and so on
+  -- the sum coordinates of a member of kG: the sum of its coefficients, and then the coefficients of the
+  -- elements 1, 2 and so on
   abbrev pub sum_coordinates : RowForm (order_of G) (free_module 1)
   sum_coordinates = (sum_coordinates_exist G).0
 
@@ -26,7 +29,8 @@ module _ (G : PGroup) where
 
   -- the layer coordinates of the members of kG^b, for each b
   abbrev pub layer_coordinates : Coordinates (largest_residue G) (group G)
-  layer_coordinates b = (layer_claims_of G sum_coordinates layers (layers_exist G sum_coordinates).1).coordinates b
+  layer_coordinates b = (layer_claims_of G sum_coordinates layers
+      (layers_exist G sum_coordinates).1).coordinates b
 
   -- the layer coordinates of the table v of kG^b, and the table with the layer coordinates x
   abbrev pub row_of : (b : ℕ) → (free_module b).of → List ℕ

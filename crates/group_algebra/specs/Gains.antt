@@ -11,15 +11,20 @@ stepped rows first step k = row rows (first + k * step)
 -- block i gains f, member by member, and the other blocks stay
 pub record BlockGains (p : ℕ) (sizes : List ℕ) (rank i : ℕ) (f : ℕ → ℕ) (old new : List ℕ) : Type 0 where
   pub is_row : IsRow p (size_of sizes * rank) new
-  pub gained : (j : ℕ) → j < size_of sizes → IsCongruent p (entry new (place_of sizes rank i j)) (entry old (place_of sizes rank i j) + f j)
-  pub kept : (m j : ℕ) → m < rank → m ≢ i → j < size_of sizes → entry new (place_of sizes rank m j) ≡ entry old (place_of sizes rank m j)
+  pub gained : (j : ℕ) → j < size_of sizes
+      → IsCongruent p (entry new (place_of sizes rank i j)) (entry old (place_of sizes rank i j) + f j)
+  pub kept : (m j : ℕ) → m < rank → m ≢ i → j < size_of sizes
+      → entry new (place_of sizes rank m j) ≡ entry old (place_of sizes rank m j)
 
 -- entry j of c times the image of block i of v under the map that takes member k to R_k
 abbrev pub image_entry : List ℕ → ℕ → (ℕ → List ℕ) → ℕ → List ℕ → ℕ → ℕ → ℕ
-image_entry sizes rank R c v i j = c * sum_below (size_of sizes) (λ k. entry v (place_of sizes rank i k) * entry (R k) j)
+image_entry sizes rank R c v i j = c * sum_below (size_of sizes)
+    (λ k. entry v (place_of sizes rank i k) * entry (R k) j)
 
 -- each block gains c times the image of the block of v
-pub record GainsImage (p : ℕ) (sizes : List ℕ) (rank : ℕ) (R : ℕ → List ℕ) (c : ℕ) (v old new : List ℕ) : Type 0 where
+pub record GainsImage (p : ℕ) (sizes : List ℕ) (rank : ℕ) (R : ℕ
+    → List ℕ) (c : ℕ) (v old new : List ℕ) : Type 0 where
   pub is_row : IsRow p (size_of sizes * rank) new
   pub each : (i j : ℕ) → i < rank → j < size_of sizes
-      → IsCongruent p (entry new (place_of sizes rank i j)) (entry old (place_of sizes rank i j) + image_entry sizes rank R c v i j)
+      → IsCongruent p (entry new (place_of sizes rank i j))
+      (entry old (place_of sizes rank i j) + image_entry sizes rank R c v i j)

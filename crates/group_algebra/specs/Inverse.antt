@@ -15,5 +15,7 @@ module _ (G : PGroup) where
 
   -- on rows of the length of kG each gives back what the other was given
   pub record AreInverse : Type 0 where
-    pub back : (a x b : List ℕ) → IsRow (prime_of G) (order_of G) a → AreLayersOf a x → AreCoefficientsOf x b → b ≡ a
-    pub forth : (x a y : List ℕ) → IsRow (prime_of G) (order_of G) x → AreCoefficientsOf x a → AreLayersOf a y → y ≡ x
+    pub back : (a x b : List ℕ) → IsRow (prime_of G) (order_of G) a → AreLayersOf a x → AreCoefficientsOf x b
+        → b ≡ a
+    pub forth : (x a y : List ℕ) → IsRow (prime_of G) (order_of G) x → AreCoefficientsOf x a → AreLayersOf a y
+        → y ≡ x

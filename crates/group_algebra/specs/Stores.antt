@@ -5,8 +5,10 @@ use Rattle.p_groups.specs.PGroups.{PGroup, order_of}
 use Rattle.group_algebra.specs.Coordinates.{sizes}
 use Rattle.group_algebra.specs.Tables.{HasShape, AreMembers, IsElementRow, IsTranslateRow, IsProductRow, EachRow}
 
--- the table of a p-group of at most 256 elements, the sizes of its layers, and the rows of members, elements, translates and products
-pub record IsStore (G : PGroup) (layer_sizes : List ℕ) (members elements translates products : MatrixValue) : Type 0 where
+-- the table of a p-group of at most 256 elements, the sizes of its layers, and the rows of members, elements,
+-- translates and products
+pub record IsStore (G : PGroup) (layer_sizes : List ℕ)
+    (members elements translates products : MatrixValue) : Type 0 where
   pub small : order_of G ≤ 256
   pub sizes_are : layer_sizes ≡ sizes G
   pub member_shape : HasShape G (order_of G) members

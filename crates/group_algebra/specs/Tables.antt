@@ -39,7 +39,8 @@ EachRow P rows = (i : ℕ) → i < length rows → P i (row rows i)
 -- combinations of the rows with sum coordinates give the layer coordinates of the same member
 abbrev pub TakesSumsToLayers : PGroup → List (List ℕ) → Type 0
 TakesSumsToLayers G rows =
-    (v : (free_module G 1).of) (a s : List ℕ) → AreCoefficients G a v → AreSumCoordinates (prime_of G) (order_of G) a s
+    (v : (free_module G 1).of) (a s : List ℕ) → AreCoefficients G a v
+    → AreSumCoordinates (prime_of G) (order_of G) a s
     → combination_row (prime_of G) (order_of G) (entry s) rows ≡ row_of G 1 v
 
 -- x holds the layer coordinates of the element at its position

@@ -13,7 +13,10 @@ invariant-loop-i l = record {
   made_rows : IsMatrix l.v.p (length l.u.entries) (lists l.made);
   maps : (generators : List (List ℕ))
       → IsCombination l.v.p (entry l.u.entries) generators (entry l.v.entries)
-      → ((i : ℕ) → i < length l.fn.rows → IsCombination l.v.p (entry (row (lists l.fn.made) i)) generators (entry (row (lists l.fn.rows) i)))
-      → (i : ℕ) → i < length l.fn.rows → IsCombination l.v.p (entry (row (lists l.made) i)) generators (entry (row (lists l.rows) i));
-  kept : (i s : ℕ) → i < length l.fn.rows → entry l.u.entries s ≡ 0 → entry (row (lists l.made) i) s ≡ entry (row (lists l.fn.made) i) s;
+      → ((i : ℕ) → i < length l.fn.rows → IsCombination l.v.p (entry (row (lists l.fn.made) i)) generators
+      (entry (row (lists l.fn.rows) i)))
+      → (i : ℕ) → i < length l.fn.rows → IsCombination l.v.p (entry (row (lists l.made) i)) generators
+      (entry (row (lists l.rows) i));
+  kept : (i s : ℕ) → i < length l.fn.rows → entry l.u.entries s ≡ 0
+      → entry (row (lists l.made) i) s ≡ entry (row (lists l.fn.made) i) s;
 }

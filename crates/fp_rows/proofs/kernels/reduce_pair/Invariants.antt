@@ -11,8 +11,10 @@ invariant-loop-i l = record {
   reduced : IsReducedUpTo l.fn.v.p (length l.fn.v.entries) (lists l.rows) l.fn.v.entries l.v.entries l.i;
   made_is : IsRow l.fn.v.p (length l.fn.u.entries) l.u.entries;
   maps : (generators : List (List ℕ))
-      → ((i : ℕ) → i < length (lists l.rows) → IsCombination l.fn.v.p (entry (row (lists l.made) i)) generators (entry (row (lists l.rows) i)))
+      → ((i : ℕ) → i < length (lists l.rows)
+      → IsCombination l.fn.v.p (entry (row (lists l.made) i)) generators (entry (row (lists l.rows) i)))
       → IsCombination l.fn.v.p (entry l.fn.u.entries) generators (entry l.fn.v.entries)
       → IsCombination l.fn.v.p (entry l.u.entries) generators (entry l.v.entries);
-  kept : (s : ℕ) → ((i : ℕ) → i < length (lists l.made) → entry (row (lists l.made) i) s ≡ 0) → entry l.u.entries s ≡ entry l.fn.u.entries s;
+  kept : (s : ℕ) → ((i : ℕ) → i < length (lists l.made) → entry (row (lists l.made) i) s ≡ 0)
+      → entry l.u.entries s ≡ entry l.fn.u.entries s;
 }

@@ -13,10 +13,14 @@ invariant_of-kernel c =
     let P : ℕ = c.args.m.now.p in
     let rows : List (List ℕ) = c.args.m.now.rows in
     let d : IsElimination P c.args.m.now.width rows 0 c.in_ok-e.e = c.in_ok-e.ensures in
-    let K : lists c.reverse.new.self.items ≡ reverse (lists c.in_ok-e.e.kernel.items) = ap lists c.reverse.ensures.items ∙ lists-reverse c.in_ok-e.e.kernel.items in
+    let K : lists c.reverse.new.self.items ≡ reverse (lists c.in_ok-e.e.kernel.items) =
+    ap lists c.reverse.ensures.items ∙ lists-reverse c.in_ok-e.e.kernel.items in
     record {
       matrix = rw (K, c.prime-prime.ensures, c.rows-n.ensures.count) d.solved.kernel_rows;
-      over = rw (c.reverse.ensures.items, c.prime-prime.ensures) (over-reverse P c.in_ok-e.e.kernel.items d.kernel_over);
+      over = rw (
+        c.reverse.ensures.items,
+        c.prime-prime.ensures,
+      ) (over-reverse P c.in_ok-e.e.kernel.items d.kernel_over);
       echelon = rw K d.solved.kernel_echelon;
       pivots_are = c.reverse-2.ensures.items ∙ d.kernel_pivots_are ∙ ap (map pivot) (sym K);
     }
@@ -26,7 +30,8 @@ returns-clause-kernel c =
     let P : ℕ = c.args.m.now.p in
     let rows : List (List ℕ) = c.args.m.now.rows in
     let d : IsElimination P c.args.m.now.width rows 0 c.in_ok-e.e = c.in_ok-e.ensures in
-    let K : lists c.reverse.new.self.items ≡ reverse (lists c.in_ok-e.e.kernel.items) = ap lists c.reverse.ensures.items ∙ lists-reverse c.in_ok-e.e.kernel.items in
+    let K : lists c.reverse.new.self.items ≡ reverse (lists c.in_ok-e.e.kernel.items) =
+    ap lists c.reverse.ensures.items ∙ lists-reverse c.in_ok-e.e.kernel.items in
     let field : IsFieldModulo P = rw c.prime-prime.ensures at (prime_field c.prime-prime.result) in
     rw K (solved_kernel field d.solved)
 
@@ -35,7 +40,8 @@ returns-clause-image c =
     let P : ℕ = c.args.m.now.p in
     let rows : List (List ℕ) = c.args.m.now.rows in
     let d : IsElimination P c.args.m.now.width rows 0 c.in_ok-e.e = c.in_ok-e.ensures in
-    let K : lists c.reverse.new.self.items ≡ reverse (lists c.in_ok-e.e.kernel.items) = ap lists c.reverse.ensures.items ∙ lists-reverse c.in_ok-e.e.kernel.items in
+    let K : lists c.reverse.new.self.items ≡ reverse (lists c.in_ok-e.e.kernel.items) =
+    ap lists c.reverse.ensures.items ∙ lists-reverse c.in_ok-e.e.kernel.items in
     solved_image d.solved
 
 pub returns-clause-preimages : goal.returns-clause-preimages
@@ -43,5 +49,6 @@ returns-clause-preimages c =
     let P : ℕ = c.args.m.now.p in
     let rows : List (List ℕ) = c.args.m.now.rows in
     let d : IsElimination P c.args.m.now.width rows 0 c.in_ok-e.e = c.in_ok-e.ensures in
-    let K : lists c.reverse.new.self.items ≡ reverse (lists c.in_ok-e.e.kernel.items) = ap lists c.reverse.ensures.items ∙ lists-reverse c.in_ok-e.e.kernel.items in
+    let K : lists c.reverse.new.self.items ≡ reverse (lists c.in_ok-e.e.kernel.items) =
+    ap lists c.reverse.ensures.items ∙ lists-reverse c.in_ok-e.e.kernel.items in
     rw K (solved_preimages d.solved)

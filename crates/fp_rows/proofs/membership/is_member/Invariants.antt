@@ -7,4 +7,5 @@ use Rattle.fp_rows.specs.Refs.{entries_of}
 use Rattle.fp_rows.proofs.membership.is_member.Given as goal
 
 abbrev pub invariant-loop-j : goal.invariant-loop-j
-invariant-loop-j l = (j : ℕ) → j < l.j → IsCongruent (prime_value l.p) (entry (entries_of l.v) j) (combination (λ i. entry (entries_of l.v) (pivot (row (lists l.rows) i))) (lists l.rows) j)
+invariant-loop-j l = (j : ℕ) → j < l.j → IsCongruent (prime_value l.p) (entry (entries_of l.v) j)
+    (combination (λ i. entry (entries_of l.v) (pivot (row (lists l.rows) i))) (lists l.rows) j)

@@ -9,5 +9,7 @@ use Rattle.fp_rows.proofs.membership.value_at.Given as goal
 abbrev pub invariant-loop-i : goal.invariant-loop-i
 invariant-loop-i l = record {
   below : l.sum < prime_value l.fn.p;
-  value : IsCongruent (prime_value l.fn.p) l.sum (sum_below l.i (λ i. entry (entries_of l.v) (pivot (row (lists l.rows) i)) * entry (row (lists l.rows) i) l.j));
+  value : IsCongruent (prime_value l.fn.p) l.sum
+      (sum_below l.i (λ i. entry (entries_of l.v) (pivot (row (lists l.rows) i)) * entry
+      (row (lists l.rows) i) l.j));
 }

@@ -25,27 +25,47 @@ pub loop-i-preserved : goal.loop-i-preserved
 loop-i-preserved c =
     let P : ℕ = prime_value c.args.p in
     let one : 1 < P = prime_above_one c.args.p in
-    let l : c.loop-i.i < length c.args.s.now.image.rows = omega (arith, c.loop-i-test.true, c.rows-i-end.ensures.count) in
+    let l : c.loop-i.i < length c.args.s.now.image.rows =
+    omega (arith, c.loop-i-test.true, c.rows-i-end.ensures.count) in
     let r : List ℕ = row c.args.s.now.preimages.rows c.loop-i.i in
     let rr : IsRow P c.args.n r = rw (c.requires.primes.1, c.requires.widths.1) at c.row.ensures.is_row in
-    let e : c.add.new.self.entries ≡ add_multiple P c.get-c.result c.loop-i.u.entries r = rw (c.add.ensures, c.loop-i.invariant.prime, c.row.ensures.entries) refl in
-    let g : c.get-c.result ≡ entry (entries_of c.args.target) (pivot (row c.args.s.now.image.rows c.loop-i.i)) = c.get-c.ensures.value ∙ ap (entry (entries_of c.args.target)) c.pivot.ensures.place in
+    let e : c.add.new.self.entries ≡ add_multiple P c.get-c.result c.loop-i.u.entries r =
+    rw (c.add.ensures, c.loop-i.invariant.prime, c.row.ensures.entries) refl in
+    let g : c.get-c.result ≡ entry (entries_of c.args.target)
+    (pivot (row c.args.s.now.image.rows c.loop-i.i)) = c.get-c.ensures.value
+    ∙ ap (entry (entries_of c.args.target)) c.pivot.ensures.place in
     record {
       prime = rw c.add.ensures c.loop-i.invariant.prime;
-      is_row = rw e (add_multiple_is_row c.get-c.result c.loop-i.u.entries r (omega arith) c.loop-i.invariant.is_row rr);
-      maps = λ rows n h. rw (e, add-one, g) (more_made (entry (entries_of c.args.target) (pivot (row c.args.s.now.image.rows c.loop-i.i))) rows c.loop-i.u.entries r
-          (λ j. sum_below c.loop-i.i (λ i. entry (entries_of c.args.target) (pivot (row c.args.s.now.image.rows i)) * entry (row c.args.s.now.image.rows i) j))
-          (entry (row c.args.s.now.image.rows c.loop-i.i)) c.loop-i.invariant.is_row rr (c.loop-i.invariant.maps rows n h) (h.each c.loop-i.i l).maps);
-      zeros = λ rows j n h b. rw e (zero_added P c.get-c.result c.loop-i.u.entries r (pivot (row c.args.s.now.kernel.rows j)) (rr.length_is ∙ sym c.loop-i.invariant.is_row.length_is)
-          ((h.each c.loop-i.i l).zero_at_pivots j b) (λ x y. c.loop-i.invariant.is_row.below x (omega (arith, y, c.loop-i.invariant.is_row.length_is))) ∙ c.loop-i.invariant.zeros rows j n h b);
+      is_row = rw e (add_multiple_is_row c.get-c.result c.loop-i.u.entries r
+          (omega arith) c.loop-i.invariant.is_row rr);
+      maps = λ rows n h. rw (
+        e,
+        add-one,
+        g,
+      ) (more_made (entry (entries_of c.args.target)
+          (pivot (row c.args.s.now.image.rows c.loop-i.i))) rows c.loop-i.u.entries r
+          (λ j. sum_below c.loop-i.i (λ i. entry (entries_of c.args.target)
+          (pivot (row c.args.s.now.image.rows i)) * entry (row c.args.s.now.image.rows i) j))
+          (entry (row c.args.s.now.image.rows c.loop-i.i)) c.loop-i.invariant.is_row rr
+          (c.loop-i.invariant.maps rows n h) (h.each c.loop-i.i l).maps);
+      zeros = λ rows j n h b. rw e (zero_added P c.get-c.result c.loop-i.u.entries r
+          (pivot (row c.args.s.now.kernel.rows j)) (rr.length_is ∙ sym c.loop-i.invariant.is_row.length_is)
+          ((h.each c.loop-i.i l).zero_at_pivots j b)
+          (λ x y. c.loop-i.invariant.is_row.below x
+          (omega (arith, y, c.loop-i.invariant.is_row.length_is)))
+          ∙ c.loop-i.invariant.zeros rows j n h b);
     }
 
 pub returns-clause-preimage : goal.returns-clause-preimage
 returns-clause-preimage c = λ rows n image h span.
     let P : ℕ = prime_value c.args.p in
-    let all : c.loop-i.i ≡ length c.args.s.now.image.rows = omega (arith, c.loop-i-test.false, c.rows-i-end.ensures.count, c.loop-i.auto.i-end) in
+    let all : c.loop-i.i ≡ length c.args.s.now.image.rows =
+    omega (arith, c.loop-i-test.false, c.rows-i-end.ensures.count, c.loop-i.auto.i-end) in
     record {
       is_row = rw n c.loop-i.invariant.is_row;
-      maps = record { each = λ j. congruent_trans ((c.loop-i.invariant.maps rows n h).each j) (rw all (member_at (entries_of c.args.target) image.echelon (in_span_trans image.spans span) j)) };
+      maps = record {
+        each = λ j. congruent_trans ((c.loop-i.invariant.maps rows n h).each j)
+            (rw all (member_at (entries_of c.args.target) image.echelon (in_span_trans image.spans span) j));
+      };
       zero_at_pivots = λ j b. c.loop-i.invariant.zeros rows j n h b;
     }

@@ -25,8 +25,13 @@ returns-clause-coefficients c =
       c.sum-rest.ensures.value,
       c.part.ensures.modulus,
       c.requires.modulus,
-      later-sum x row c.requires.some (entries_of c.part.result) (rw (← c.len.ensures.count) c.part.ensures.entries),
+      later-sum x row c.requires.some (entries_of c.part.result)
+          (rw (← c.len.ensures.count) c.part.ensures.entries),
     ) (congruent_mod _) in
     rw (c.set.ensures, copy) (coefficients-are x row c.requires.some c.sum-rest.result c.add_product.result
     c.add_product.ensures.below rest
-    (rw (c.add_product.ensures.value, c.value.ensures, c.get.ensures.value) (less-and-plus (entry x 0) c.sum-rest.result (omega (arith, above)))))
+    (rw (
+      c.add_product.ensures.value,
+      c.value.ensures,
+      c.get.ensures.value,
+    ) (less-and-plus (entry x 0) c.sum-rest.result (omega (arith, above)))))

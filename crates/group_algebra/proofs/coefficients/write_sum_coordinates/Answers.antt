@@ -17,4 +17,5 @@ returns-clause-coordinates c =
     (added_to_zeros (modulus_of c.args.a) a c.args.a.below) in
     let sum : IsCongruent (modulus_of c.args.a) c.sum.result (sum_below (length a) (entry a)) =
     rw c.sum.ensures.value (congruent_mod _) in
-    rw (c.set.ensures, copy) (sum-coordinates-are a (ref_is_row c.args.a) c.requires.some c.sum.result c.sum.ensures.below sum)
+    rw (c.set.ensures, copy) (sum-coordinates-are a
+    (ref_is_row c.args.a) c.requires.some c.sum.result c.sum.ensures.below sum)

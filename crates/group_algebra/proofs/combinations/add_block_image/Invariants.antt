@@ -13,5 +13,6 @@ invariant-loop-k l =
     × (l.out.p ≡ l.fn.out.p)
     × (length l.out.entries ≡ length l.fn.out.entries)
     × BlockGains l.fn.out.p l.places l.rank l.block
-    (λ j. l.c * sum_below l.k (λ k. entry (entries_of l.v) (place_of l.places l.rank l.block k) * entry (stepped l.images.rows.now.rows l.images.first l.images.step k) j))
+    (λ j. l.c * sum_below l.k (λ k. entry (entries_of l.v) (place_of l.places l.rank l.block k) * entry
+    (stepped l.images.rows.now.rows l.images.first l.images.step k) j))
     l.fn.out.entries l.out.entries

@@ -12,5 +12,8 @@ invariant-loop-block l =
     × IsRow l.fn.out.p (size_of l.places * l.rank) l.out.entries
     × ((i j : ℕ) → i < l.block → j < size_of l.places
     → IsCongruent l.fn.out.p (entry l.out.entries (place_of l.places l.rank i j))
-    (entry l.fn.out.entries (place_of l.places l.rank i j) + image_entry l.places l.rank (stepped l.images.rows.now.rows l.images.first l.images.step) l.c (entries_of l.v) i j))
-    × ((i j : ℕ) → l.block ≤ i → i < l.rank → j < size_of l.places → entry l.out.entries (place_of l.places l.rank i j) ≡ entry l.fn.out.entries (place_of l.places l.rank i j))
+    (entry l.fn.out.entries (place_of l.places l.rank i j) + image_entry l.places l.rank
+    (stepped l.images.rows.now.rows l.images.first l.images.step) l.c (entries_of l.v) i j))
+    × ((i j : ℕ) → l.block ≤ i → i < l.rank → j < size_of l.places
+    → entry l.out.entries (place_of l.places l.rank i j) ≡ entry l.fn.out.entries
+    (place_of l.places l.rank i j))

@@ -10,7 +10,8 @@ use Rattle.group_algebra.proofs.layers.push_layer.Goals as goal
 
 pub loop-position-init : goal.loop-position-init
 loop-position-init c =
-    let e : iter_rest c.into_iter-position-iterator.result ≡ c.args.taken.now = c.into_iter-position-iterator.ensures.into_iter_gives.0 in
+    let e : iter_rest c.into_iter-position-iterator.result ≡ c.args.taken.now =
+    c.into_iter-position-iterator.ensures.into_iter_gives.0 in
     record {
       prime = refl;
       width = refl;
@@ -20,9 +21,11 @@ loop-position-init c =
 
 pub row-requires : goal.row-requires
 row-requires c =
-    let e : iter_rest c.loop-position.position-iterator ≡ c.in-Some.position.now ∷ iter_rest c.next.new.self = c.in-Some.ensures.steps in
+    let e : iter_rest c.loop-position.position-iterator ≡ c.in-Some.position.now ∷ iter_rest c.next.new.self =
+    c.in-Some.ensures.steps in
     let P : List ℕ → Type 0 = λ ps. (i : ℕ) → i < length ps → get_or ps i 0 < length c.args.list.now.rows in
-    let inside : P (c.in-Some.position.now ∷ iter_rest c.next.new.self) = subst P e c.loop-position.invariant.inside in
+    let inside : P (c.in-Some.position.now ∷ iter_rest c.next.new.self) =
+    subst P e c.loop-position.invariant.inside in
     inside 0 (omega arith)
 
 pub loop-position-preserved : goal.loop-position-preserved
@@ -52,7 +55,8 @@ returns c =
     let I = c.loop-position.invariant in
     let none : iter_rest c.loop-position.position-iterator ≡ [] = empty _ c.in-None.ensures.steps.0 in
     let rows : c.loop-position.rows.rows ≡ c.args.rows.now.rows ++ rows_at E c.args.taken.now =
-    sym (append-nil c.loop-position.rows.rows) ∙ ap (λ (ps : List ℕ). c.loop-position.rows.rows ++ rows_at E ps) (sym none) ∙ I.to_come in
+    sym (append-nil c.loop-position.rows.rows)
+    ∙ ap (λ (ps : List ℕ). c.loop-position.rows.rows ++ rows_at E ps) (sym none) ∙ I.to_come in
     same c.loop-position.rows I.prime I.width rows
   where
     empty : (xs : List ℕ) → length xs ≡ 0 → xs ≡ []

@@ -8,6 +8,8 @@ abbrev pub invariant-loop-position : goal.invariant-loop-position
 invariant-loop-position l = record {
   prime : l.rows.p ≡ l.fn.rows.p;
   width : l.rows.width ≡ l.fn.rows.width;
-  to_come : l.rows.rows ++ rows_at l.list.rows (iter_rest l.position-iterator) ≡ l.fn.rows.rows ++ rows_at l.list.rows l.taken;
-  inside : (i : ℕ) → i < length (iter_rest l.position-iterator) → get_or (iter_rest l.position-iterator) i 0 < length l.list.rows;
+  to_come : l.rows.rows ++ rows_at l.list.rows
+      (iter_rest l.position-iterator) ≡ l.fn.rows.rows ++ rows_at l.list.rows l.taken;
+  inside : (i : ℕ) → i < length (iter_rest l.position-iterator)
+      → get_or (iter_rest l.position-iterator) i 0 < length l.list.rows;
 }

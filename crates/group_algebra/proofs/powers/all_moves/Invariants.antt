@@ -11,7 +11,8 @@ invariant-loop-g l =
     ((l.m.p ≡ l.group.table.p) × (l.m.width ≡ order l.group.table))
     × (l.g ≤ order l.group.table)
     × ((b : l.g ≤ order l.group.table)
-    → l.m.rows ++ moves_by (group l.group) (free_module l.group 1) (sum_coordinates l.group) (down l.g b) l.list.rows
+    → l.m.rows ++ moves_by (group l.group) (free_module l.group 1) (sum_coordinates l.group)
+    (down l.g b) l.list.rows
     ≡ moves (group l.group) (free_module l.group 1) (sum_coordinates l.group) l.list.rows)
 
 abbrev pub decreases-loop-g : goal.decreases-loop-g

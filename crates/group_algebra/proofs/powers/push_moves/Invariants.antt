@@ -17,6 +17,9 @@ invariant-loop-row l = record {
   kept : (l.m.p ≡ l.fn.m.p) × (l.m.width ≡ l.fn.m.width);
   moves : (b : l.g < order l.group.table)
       → l.m.rows
-      ≡ l.fn.m.rows ++ map (move_row (group l.group) (free_module l.group 1) (sum_coordinates l.group) (l.g, b))
+      ≡ l.fn.m.rows ++ map (move_row (group l.group) (free_module l.group 1) (sum_coordinates l.group) (
+        l.g,
+        b,
+      ))
       (take (passed l.list l.row-iterator) l.list.rows);
 }

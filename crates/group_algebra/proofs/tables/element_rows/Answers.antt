@@ -20,8 +20,10 @@ push-requires-clause-same_width c =
     let M : IsMatrix G.table.p (order G.table) c.args.units.now.rows =
     rw (c.requires.units.prime, c.requires.units.width) at c.rows-units.ensures.matrix in
     ap length (c.view-in-loop-g-2.ensures.entries
-    ∙ (rw (c.requires.units.prime, c.requires.units.width) at (ap (λ (r : RowValue). r.entries) c.combine.ensures)))
-    ∙ (combination_row-is_row G.table.p (order G.table) (positive G) _ _ M).length_is ∙ sym c.loop-g.invariant.1.width
+    ∙ (rw (c.requires.units.prime, c.requires.units.width) at
+    (ap (λ (r : RowValue). r.entries) c.combine.ensures)))
+    ∙ (combination_row-is_row G.table.p (order G.table) (positive G) _ _ M).length_is
+    ∙ sym c.loop-g.invariant.1.width
 
 pub loop-g-preserved : goal.loop-g-preserved
 loop-g-preserved c =
@@ -31,19 +33,39 @@ loop-g-preserved c =
     let s : List ℕ = c.write_sum_coordinates.new.out.entries in
     let unit : entries_of c.view.result ≡ unit_row n c.loop-g.g =
     rw (c.view.ensures.entries, c.set_unit.ensures, c.loop-g.invariant.2.1) in
-    let p : c.set_unit.new.self.p ≡ P = ap (λ (r : RowValue). r.p) c.set_unit.ensures ∙ c.loop-g.invariant.2.0 in
+    let p : c.set_unit.new.self.p ≡ P = ap (λ (r : RowValue). r.p) c.set_unit.ensures
+    ∙ c.loop-g.invariant.2.0 in
     let S : AreSumCoordinates P n (unit_row n c.loop-g.g) s =
-    rw (c.view.ensures.modulus, p, unit, length-unit_row n c.loop-g.g) at c.write_sum_coordinates.ensures.coordinates in
+    rw (
+      c.view.ensures.modulus,
+      p,
+      unit,
+      length-unit_row n c.loop-g.g,
+    ) at c.write_sum_coordinates.ensures.coordinates in
     let e : c.combine.new.out.entries ≡ combination_row P n (entry s) U =
-    rw (c.view-in-loop-g.ensures.entries, c.requires.units.prime, c.requires.units.width) at (ap (λ (r : RowValue). r.entries) c.combine.ensures) in
-    let M : IsMatrix P n U = rw (c.requires.units.prime, c.requires.units.width) at c.rows-units.ensures.matrix in
-    let r : IsRow P n c.combine.new.out.entries = rw e (combination_row-is_row P n (positive c.args.group.now) (entry s) U M) in (
+    rw (
+      c.view-in-loop-g.ensures.entries,
+      c.requires.units.prime,
+      c.requires.units.width,
+    ) at (ap (λ (r : RowValue). r.entries) c.combine.ensures) in
+    let M : IsMatrix P n U = rw (
+      c.requires.units.prime,
+      c.requires.units.width,
+    ) at c.rows-units.ensures.matrix in
+    let r : IsRow P n c.combine.new.out.entries =
+    rw e (combination_row-is_row P n (positive c.args.group.now) (entry s) U M) in (
       c.loop-g.invariant.0,
-      shape-pushed c.args.group.now c.loop-g.g c.loop-g.m c.push.new.self (entries_of c.view-in-loop-g-2.result) c.loop-g.invariant.1 c.in_ok-push.ensures.pushed,
-      (p, ap (λ (r : RowValue). length r.entries) c.set_unit.ensures ∙ length-unit_row _ c.loop-g.g ∙ c.loop-g.invariant.2.1),
+      shape-pushed c.args.group.now c.loop-g.g c.loop-g.m c.push.new.self
+          (entries_of c.view-in-loop-g-2.result) c.loop-g.invariant.1 c.in_ok-push.ensures.pushed,
+      (
+        p,
+        ap (λ (r : RowValue). length r.entries) c.set_unit.ensures ∙ length-unit_row _ c.loop-g.g
+            ∙ c.loop-g.invariant.2.1,
+      ),
       (c.write_sum_coordinates.ensures.prime ∙ c.loop-g.invariant.3.0, S.coordinates.length_is),
       (ap (λ (r : RowValue). r.p) c.combine.ensures ∙ c.loop-g.invariant.4.0, r.length_is),
-      rw c.in_ok-push.ensures.pushed (each-pushed (IsElementRow c.args.group.now) c.loop-g.m.rows (entries_of c.view-in-loop-g-2.result) c.loop-g.invariant.5
+      rw c.in_ok-push.ensures.pushed (each-pushed (IsElementRow c.args.group.now) c.loop-g.m.rows
+          (entries_of c.view-in-loop-g-2.result) c.loop-g.invariant.5
           (rw (c.loop-g.invariant.1.rows, c.view-in-loop-g-2.ensures.entries)
           (element-row c.args.group.now U c.loop-g.g s c.combine.new.out.entries c.requires.rows S e))),
     )

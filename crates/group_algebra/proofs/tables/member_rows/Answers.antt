@@ -25,13 +25,15 @@ write_coefficients-requires-clause-some c =
     let t : IsRowTurn c.args.basis.now (length c.loop-row.m.rows) c.in-Some.row.now c.next.new.self =
     row-turn _ _ _ c.loop-row.row-iterator _ c.loop-row.invariant.left c.in-Some.ensures.steps in
     subst (λ n. 0 < n) (sym (ap length c.view.ensures.entries
-    ∙ turn-width c.into_iter-row-iterator.ensures.into_iter_gives.matrix t ∙ c.requires.basis.width)) c.args.group.now.law.law.some
+    ∙ turn-width c.into_iter-row-iterator.ensures.into_iter_gives.matrix t
+    ∙ c.requires.basis.width)) c.args.group.now.law.law.some
 
 pub push-requires-clause-same_width : goal.push-requires-clause-same_width
 push-requires-clause-same_width c =
     let t : IsRowTurn c.args.basis.now (length c.loop-row.m.rows) c.in-Some.row.now c.next.new.self =
     row-turn _ _ _ c.loop-row.row-iterator _ c.loop-row.invariant.left c.in-Some.ensures.steps in
-    ap length c.view-in-loop-row.ensures.entries ∙ c.write_coefficients.ensures.coefficients.coefficients.length_is
+    ap length c.view-in-loop-row.ensures.entries
+    ∙ c.write_coefficients.ensures.coefficients.coefficients.length_is
     ∙ ap length c.view.ensures.entries ∙ turn-width c.into_iter-row-iterator.ensures.into_iter_gives.matrix t
     ∙ c.requires.basis.width ∙ sym c.loop-row.invariant.shape.width
 
@@ -44,20 +46,26 @@ loop-row-preserved c =
     row-turn _ _ _ c.loop-row.row-iterator _ I.left c.in-Some.ensures.steps in
     let e : entries_of c.view.result ≡ row c.args.basis.now.rows k = c.view.ensures.entries ∙ t.entries in
     let len : length (entries_of c.view.result) ≡ n =
-    ap length c.view.ensures.entries ∙ turn-width c.into_iter-row-iterator.ensures.into_iter_gives.matrix t ∙ c.requires.basis.width in
-    let S : AreSumCoordinates c.args.group.now.table.p n c.write_coefficients.new.out.entries (row c.args.basis.now.rows k) =
+    ap length c.view.ensures.entries ∙ turn-width c.into_iter-row-iterator.ensures.into_iter_gives.matrix t
+    ∙ c.requires.basis.width in
+    let S : AreSumCoordinates c.args.group.now.table.p n c.write_coefficients.new.out.entries
+    (row c.args.basis.now.rows k) =
     rw (I.is_prime, len, e) at c.write_coefficients.ensures.coefficients in
     let count : length c.push.new.self.rows ≡ k + 1 =
-    ap (λ (m : MatrixValue). length m.rows) c.in_ok-push.ensures.pushed ∙ length_push c.loop-row.m.rows (entries_of c.view-in-loop-row.result) in
+    ap (λ (m : MatrixValue). length m.rows) c.in_ok-push.ensures.pushed
+    ∙ length_push c.loop-row.m.rows (entries_of c.view-in-loop-row.result) in
     record {
       is_prime = I.is_prime;
       left = subst (λ i. AreLeft c.args.basis.now i c.next.new.self) (sym count) t.left;
       shape = subst (λ i. HasShape c.args.group.now i c.push.new.self) (sym count)
-          (shape-pushed c.args.group.now k c.loop-row.m c.push.new.self (entries_of c.view-in-loop-row.result) I.shape c.in_ok-push.ensures.pushed);
+          (shape-pushed c.args.group.now k c.loop-row.m c.push.new.self
+          (entries_of c.view-in-loop-row.result) I.shape c.in_ok-push.ensures.pushed);
       prime = c.write_coefficients.ensures.prime ∙ I.prime;
       length_is = S.coefficients.length_is;
-      rows = rw c.in_ok-push.ensures.pushed (each-pushed (λ i x. AreSumCoordinates c.args.group.now.table.p n x (row c.args.basis.now.rows i))
-          c.loop-row.m.rows (entries_of c.view-in-loop-row.result) I.rows (rw c.view-in-loop-row.ensures.entries S));
+      rows = rw c.in_ok-push.ensures.pushed
+          (each-pushed (λ i x. AreSumCoordinates c.args.group.now.table.p n x (row c.args.basis.now.rows i))
+          c.loop-row.m.rows (entries_of c.view-in-loop-row.result) I.rows
+          (rw c.view-in-loop-row.ensures.entries S));
     }
 
 pub returns-clause-members : goal.returns-clause-members
@@ -66,5 +74,7 @@ returns-clause-members c k l =
     let all : length c.loop-row.m.rows ≡ length c.args.basis.now.rows =
     row-end c.args.basis.now _ _ I.left c.in-None.ensures.steps.0 in
     let m : k < length c.loop-row.m.rows = omega (arith, l, all, c.requires.basis.rows) in
-    subst (λ rows. AreCoefficients c.args.group.now (row c.loop-row.m.rows k) ((sum_coordinates c.args.group.now).table (row rows k)))
-    c.requires.rows (coefficients-of c.args.group.now (row c.loop-row.m.rows k) (row c.args.basis.now.rows k) (I.rows k m))
+    subst (λ rows. AreCoefficients c.args.group.now (row c.loop-row.m.rows k)
+    ((sum_coordinates c.args.group.now).table (row rows k)))
+    c.requires.rows (coefficients-of c.args.group.now (row c.loop-row.m.rows k) (row c.args.basis.now.rows k)
+    (I.rows k m))

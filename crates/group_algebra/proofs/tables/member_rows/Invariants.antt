@@ -14,5 +14,6 @@ invariant-loop-row l = record {
   shape : HasShape l.group (length l.m.rows) l.m;
   prime : l.a.p ≡ l.group.table.p;
   length_is : length l.a.entries ≡ order l.group.table;
-  rows : EachRow (λ i x. AreSumCoordinates l.group.table.p (order l.group.table) x (row l.basis.rows i)) l.m.rows;
+  rows : EachRow (λ i x. AreSumCoordinates l.group.table.p (order l.group.table) x
+      (row l.basis.rows i)) l.m.rows;
 }

@@ -15,7 +15,8 @@ pub translates_of-requires : goal.translates_of-requires
 translates_of-requires c =
     let n : ℕ = order c.args.group.now.table in
     let l : c.loop-l.l < n = subst (λ m. c.loop-l.l < m) c.loop-l.invariant.order_is c.loop-l-test.true in
-    let z : (c.loop-l.l + 1) * n ≤ n * n = mul-le-mul_right n (let y : c.loop-l.l + 1 ≤ n = omega (arith, l) in y) in
+    let z : (c.loop-l.l + 1) * n ≤ n * n =
+    mul-le-mul_right n (let y : c.loop-l.l + 1 ≤ n = omega (arith, l) in y) in
     record { inside = rw (c.loop-l.invariant.order_is, c.requires.translates.rows) z }
 
 pub loop-l-preserved : goal.loop-l-preserved
@@ -34,13 +35,15 @@ loop-l-preserved c =
     let count : length W ≡ n = c.in_ok-moved.ensures.count ∙ I.order_is in
     let inside : l < n = subst (λ m. l < m) I.order_is c.loop-l-test.true in
     let W-is : (g : ℕ) → g < n → row W g ≡ row T (l * n + g) =
-    λ g b. c.in_ok-moved.ensures.rows g (subst (λ m. g < m) (sym I.order_is) b) ∙ ap (λ m. row T (l * m + g)) I.order_is in
+    λ g b. c.in_ok-moved.ensures.rows g (subst (λ m. g < m) (sym I.order_is) b)
+    ∙ ap (λ m. row T (l * m + g)) I.order_is in
     let pushed : c.push_combinations.new.m ≡ record c.loop-l.m { rows = c.loop-l.m.rows ++ map f B } =
     rw (p, w) at c.in_ok-push_combinations.ensures in
     let len : length (map f B) ≡ n = length-map B f ∙ c.requires.members.rows in
     record {
       order_is = I.order_is;
-      shape = subst (λ k. HasShape G k c.push_combinations.new.m) (let z : l * n + n ≡ (l + 1) * n = omega arith in z)
+      shape = subst (λ k. HasShape G k c.push_combinations.new.m)
+          (let z : l * n + n ≡ (l + 1) * n = omega arith in z)
           (shape-appended G (l * n) n c.loop-l.m c.push_combinations.new.m (map f B) I.shape len pushed);
       rows = rw pushed (each-appended (IsProductRow G) c.loop-l.m.rows (map f B) I.rows (λ k b.
           let m : k < length B = (let e = length-map B f in omega (arith, b, e)) in

@@ -11,6 +11,7 @@ invariant-loop-c l = record {
   pushed : l.m
       ≡ record l.fn.m {
         rows = l.fn.m.rows
-            ++ map (λ c. combination_row l.rows.p l.rows.width (entry c) l.rows.rows) (take (passed l.coefficients l.c-iterator) l.coefficients.rows);
+            ++ map (λ c. combination_row l.rows.p l.rows.width (entry c) l.rows.rows)
+            (take (passed l.coefficients l.c-iterator) l.coefficients.rows);
       };
 }

@@ -17,30 +17,43 @@ push-requires-clause-same_width c =
     let M : IsMatrix G.table.p (order G.table) c.args.elements.now.rows =
     rw (c.requires.elements.prime, c.requires.elements.width) at c.rows-elements.ensures.matrix in
     ap length (c.view-in-loop-i.ensures.entries
-    ∙ (rw (c.requires.elements.prime, c.requires.elements.width) at (ap (λ (r : RowValue). r.entries) c.combine.ensures)))
-    ∙ (combination_row-is_row G.table.p (order G.table) (positive G) _ _ M).length_is ∙ sym c.loop-i.invariant.1.width
+    ∙ (rw (c.requires.elements.prime, c.requires.elements.width) at
+    (ap (λ (r : RowValue). r.entries) c.combine.ensures)))
+    ∙ (combination_row-is_row G.table.p (order G.table) (positive G) _ _ M).length_is
+    ∙ sym c.loop-i.invariant.1.width
 
 pub loop-i-preserved : goal.loop-i-preserved
 loop-i-preserved c =
     let n : c.order-n.result ≡ order c.args.group.now.table = c.loop-i.invariant.0.0 in
     let some : 0 < order c.args.group.now.table = c.args.group.now.law.law.some in
-    let inside : c.loop-i.i < order c.args.group.now.table * order c.args.group.now.table = rw n at c.loop-i-test.true in
-    let s : (c.loop-i.i ≡ c.loop-i.i / order c.args.group.now.table * order c.args.group.now.table + c.loop-i.i % order c.args.group.now.table)
-    × (c.loop-i.i / order c.args.group.now.table < order c.args.group.now.table) × (c.loop-i.i % order c.args.group.now.table < order c.args.group.now.table)
+    let inside : c.loop-i.i < order c.args.group.now.table * order c.args.group.now.table =
+    rw n at c.loop-i-test.true in
+    let s : (c.loop-i.i ≡ c.loop-i.i / order c.args.group.now.table * order c.args.group.now.table +
+    c.loop-i.i % order c.args.group.now.table)
+    × (c.loop-i.i / order c.args.group.now.table < order c.args.group.now.table)
+    × (c.loop-i.i % order c.args.group.now.table < order c.args.group.now.table)
     = split (order c.args.group.now.table) c.loop-i.i some inside in
-    let T : IsTranslate c.args.group.now.table (c.loop-i.i % order c.args.group.now.table) (row c.args.members.now.rows (c.loop-i.i / order c.args.group.now.table)) c.write_translate.new.out.entries
+    let T : IsTranslate c.args.group.now.table (c.loop-i.i % order c.args.group.now.table)
+    (row c.args.members.now.rows (c.loop-i.i / order c.args.group.now.table))
+    c.write_translate.new.out.entries
     = rw (c.row.ensures.entries, n, c.as_group.ensures) at c.write_translate.ensures.translate in
     let E = c.requires.elements in
-    let C : IsCombined c.args.group.now.table.p (order c.args.group.now.table) c.write_translate.new.out.entries (row c.args.elements.now.rows) c.combine.new.out.entries =
+    let C : IsCombined c.args.group.now.table.p
+    (order c.args.group.now.table) c.write_translate.new.out.entries
+    (row c.args.elements.now.rows) c.combine.new.out.entries =
     combined c.write_translate.new.out.entries c.args.elements.now.rows _ (positive c.args.group.now)
     (rw (E.prime, E.width) at c.rows-elements.ensures.matrix) E.rows
     (rw (c.view.ensures.entries, E.prime, E.width) at (ap (λ (r : RowValue). r.entries) c.combine.ensures)) in (
       c.loop-i.invariant.0,
-      shape-pushed c.args.group.now c.loop-i.i c.loop-i.m c.push.new.self (entries_of c.view-in-loop-i.result) c.loop-i.invariant.1 c.in_ok-push.ensures.pushed,
+      shape-pushed c.args.group.now c.loop-i.i c.loop-i.m c.push.new.self
+          (entries_of c.view-in-loop-i.result) c.loop-i.invariant.1 c.in_ok-push.ensures.pushed,
       (c.write_translate.ensures.prime ∙ c.loop-i.invariant.2.0, T.is_row.length_is),
       (ap (λ (r : RowValue). r.p) c.combine.ensures ∙ c.loop-i.invariant.3.0, C.is_row.length_is),
-      rw c.in_ok-push.ensures.pushed (each-pushed (IsTranslateRow c.args.group.now) c.loop-i.m.rows (entries_of c.view-in-loop-i.result) c.loop-i.invariant.4
+      rw c.in_ok-push.ensures.pushed (each-pushed (IsTranslateRow c.args.group.now) c.loop-i.m.rows
+          (entries_of c.view-in-loop-i.result) c.loop-i.invariant.4
           (rw (c.loop-i.invariant.1.rows, c.view-in-loop-i.ensures.entries)
-          (translate-row c.args.group.now c.args.members.now.rows c.args.elements.now.rows c.loop-i.i (c.loop-i.i / order c.args.group.now.table) (c.loop-i.i % order c.args.group.now.table)
-          c.write_translate.new.out.entries c.combine.new.out.entries c.requires.member_rows c.requires.elements.rows c.requires.element_rows s.0 s.2 T C))),
+          (translate-row c.args.group.now c.args.members.now.rows c.args.elements.now.rows c.loop-i.i
+          (c.loop-i.i / order c.args.group.now.table) (c.loop-i.i % order c.args.group.now.table)
+          c.write_translate.new.out.entries c.combine.new.out.entries c.requires.member_rows
+          c.requires.elements.rows c.requires.element_rows s.0 s.2 T C))),
     )

@@ -13,6 +13,7 @@ loop-g-preserved c =
       width = ap (λ (m : MatrixValue). m.width) c.in_ok-push.ensures.pushed ∙ I.width;
       count = ap (λ (m : MatrixValue). length m.rows) c.in_ok-push.ensures.pushed
           ∙ length_push c.loop-g.m.rows (entries_of c.row.result) ∙ ap (λ k. k + 1) I.count;
-      rows = rw c.in_ok-push.ensures.pushed (rows-pushed (λ k x. x ≡ row c.args.translates.now.rows (c.args.l * c.args.n + k))
+      rows = rw c.in_ok-push.ensures.pushed
+          (rows-pushed (λ k x. x ≡ row c.args.translates.now.rows (c.args.l * c.args.n + k))
           c.loop-g.m.rows c.loop-g.g (entries_of c.row.result) I.count c.row.ensures.entries I.rows);
     }

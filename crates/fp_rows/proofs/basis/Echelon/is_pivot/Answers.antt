@@ -11,7 +11,8 @@ use Rattle.fp_rows.proofs.basis.Echelon.is_pivot.Goals as goal
 pub returns : goal.returns
 returns c =
     c.is_ok.ensures.value
-    ∙ pivot-searched (lists c.self.inside.rows.items) c.self.inside.pivots.items c.args.j c.binary_search.result
+    ∙ pivot-searched (lists c.self.inside.rows.items) c.self.inside.pivots.items c.args.j
+    c.binary_search.result
     c.self.invariant.echelon c.self.invariant.pivots_are
     (subst (λ xs. IsBinarySearchResult (λ y. nat_cmp y c.args.j) xs c.binary_search.result)
     c.deref.ensures.value c.binary_search.ensures.position)

@@ -6,9 +6,22 @@ use Rattle.fp_rows.proofs.ListLemmas.{kept_pivot}
 use Rattle.fp_rows.proofs.basis.Echelon.pivot.Goals as goal
 
 pub returns-clause-inside : goal.returns-clause-inside
-returns-clause-inside c = let l : c.args.i < length (lists c.self.inside.rows.items) = rw (← c.self.view_is) at c.requires in
-    let q : get_or c.self.inside.pivots.items c.args.i 0 ≡ pivot (row (lists c.self.inside.rows.items) c.args.i) = kept_pivot (lists c.self.inside.rows.items) c.self.inside.pivots.items c.args.i c.self.invariant.pivots_are l in
-    let z : pivot (row (lists c.self.inside.rows.items) c.args.i) < c.self.inside.width = (let n = c.self.invariant.echelon.not_zero c.args.i l in let w = (c.self.invariant.matrix c.args.i l).length_is in omega (arith, n, w)) in
-    let m : c.args.i < length c.self.inside.pivots.items = (let n = ap length c.self.invariant.pivots_are in omega (arith, l, n, length-map (lists c.self.inside.rows.items) pivot)) in
-    let r : c.index.result.now ≡ get_or c.self.inside.pivots.items c.args.i 0 = c.index.ensures ∙ get_or_default c.self.inside.pivots.items c.args.i c.index.result.now 0 m in
+returns-clause-inside c = let l : c.args.i < length (lists c.self.inside.rows.items) =
+    rw (← c.self.view_is) at c.requires in
+    let q : get_or c.self.inside.pivots.items c.args.i 0 ≡ pivot
+    (row (lists c.self.inside.rows.items) c.args.i) =
+    kept_pivot (lists c.self.inside.rows.items) c.self.inside.pivots.items c.args.i
+    c.self.invariant.pivots_are l in
+    let z : pivot (row (lists c.self.inside.rows.items) c.args.i) < c.self.inside.width =
+    (let n = c.self.invariant.echelon.not_zero c.args.i l in let w =
+    (c.self.invariant.matrix c.args.i l).length_is in omega (arith, n, w)) in
+    let m : c.args.i < length c.self.inside.pivots.items =
+    (let n = ap length c.self.invariant.pivots_are in omega (
+      arith,
+      l,
+      n,
+      length-map (lists c.self.inside.rows.items) pivot,
+    )) in
+    let r : c.index.result.now ≡ get_or c.self.inside.pivots.items c.args.i 0 = c.index.ensures
+    ∙ get_or_default c.self.inside.pivots.items c.args.i c.index.result.now 0 m in
     rw (← c.self.view_is) (omega (arith, r, q, z))

@@ -15,7 +15,12 @@ first_place-requires c = record {
 pub returns : goal.returns
 returns c = rw (← c.self.view_is) (go (cases_lt c.first_place.result c.self.inside.len))
   where
-    go : (c.first_place.result < c.self.inside.len) ⊎ (c.self.inside.len ≤ c.first_place.result) → c.first_place.result ≡ pivot (places c.self.inside.words.items 0 c.self.inside.len)
-    go (inl l) = sym (first_bit c.self.inside.words.items c.self.inside.len c.first_place.result l (rw c.deref.ensures.value at c.first_place.ensures.before) (rw c.deref.ensures.value at (c.first_place.ensures.here l)))
-    go (inr l) = let e : c.first_place.result ≡ c.self.inside.len = omega (arith, l, c.first_place.ensures.within) in
-        e ∙ sym (no_bit c.self.inside.words.items c.self.inside.len (λ j m. (rw c.deref.ensures.value at c.first_place.ensures.before) j (omega arith)))
+    go : (c.first_place.result < c.self.inside.len) ⊎ (c.self.inside.len ≤ c.first_place.result)
+        → c.first_place.result ≡ pivot (places c.self.inside.words.items 0 c.self.inside.len)
+    go (inl l) = sym (first_bit c.self.inside.words.items c.self.inside.len c.first_place.result l
+        (rw c.deref.ensures.value at c.first_place.ensures.before)
+        (rw c.deref.ensures.value at (c.first_place.ensures.here l)))
+    go (inr l) = let e : c.first_place.result ≡ c.self.inside.len =
+        omega (arith, l, c.first_place.ensures.within) in
+        e ∙ sym (no_bit c.self.inside.words.items c.self.inside.len
+        (λ j m. (rw c.deref.ensures.value at c.first_place.ensures.before) j (omega arith)))

@@ -21,14 +21,16 @@ loop-k-preserved c =
     let u : ℕ → ℕ = entry (entries_of c.args.u) in
     let rows : List (List ℕ) = c.args.self.now.rows in
     let old : List ℕ = c.loop-k.out.entries in
-    let new : c.add_row.new.self.entries ≡ add_multiple c.args.self.now.p (u c.loop-k.k) old (row rows c.loop-k.k) =
+    let new : c.add_row.new.self.entries ≡ add_multiple c.args.self.now.p (u c.loop-k.k) old
+    (row rows c.loop-k.k) =
     rw (c.add_row.ensures, c.loop-k.invariant.prime, c.get.ensures.value, t.entries) refl in
     let some : 0 < c.args.self.now.p = omega (arith, c.args.u.above_one, c.requires.primes.0) in
     record {
       left = t.left;
       prime = ap (λ (r : RowValue). r.p) c.add_row.ensures ∙ c.loop-k.invariant.prime;
       sum = rw new
-          (partial-step u rows c.loop-k.k old some c.iter-row-items.ensures.matrix t.inside c.loop-k.invariant.sum);
+          (partial-step u rows c.loop-k.k old some c.iter-row-items.ensures.matrix t.inside
+          c.loop-k.invariant.sum);
     }
 
 pub returns : goal.returns
@@ -36,7 +38,8 @@ returns c =
     let u : ℕ → ℕ = entry (entries_of c.args.u) in
     let rows : List (List ℕ) = c.args.self.now.rows in
     let some : 0 < c.args.self.now.p = omega (arith, c.args.u.above_one, c.requires.primes.0) in
-    ap₂ (λ (p : ℕ) (es : List ℕ). record { p = p; entries = es }) (c.loop-k.invariant.prime ∙ sym c.requires.primes.1)
+    ap₂ (λ (p : ℕ) (es : List ℕ). record { p = p; entries = es }) (c.loop-k.invariant.prime
+    ∙ sym c.requires.primes.1)
     (partial-end u rows c.loop-k.out.entries some c.iter-row-items.ensures.matrix
     (subst (λ k. IsPartialCombination c.args.self.now.p c.args.self.now.width u rows k c.loop-k.out.entries)
     (row-end _ _ _ c.loop-k.invariant.left c.in-None.ensures.steps.0) c.loop-k.invariant.sum))

@@ -14,5 +14,6 @@ invariant_of-self c =
     let ys : List ℕ = cells_of c.r.inside.cells in
     let positive : 0 < p = (let o = prime_above_one c.self.inside.prime in omega (arith, o)) in
     let r : IsRow p (length xs) ys = rw (← c.self.view_is, ← c.r.view_is) at c.requires.row in
-    let sum : IsRow p (length (add_multiple p c.args.c xs ys)) (add_multiple p c.args.c xs ys) = row_at_length (add_multiple_is_row c.args.c xs ys positive c.self.invariant.row r) in
+    let sum : IsRow p (length (add_multiple p c.args.c xs ys)) (add_multiple p c.args.c xs ys) =
+    row_at_length (add_multiple_is_row c.args.c xs ys positive c.self.invariant.row r) in
     record { row = rw c.add_cells.ensures.sum sum; packed = c.add_cells.ensures.packed }

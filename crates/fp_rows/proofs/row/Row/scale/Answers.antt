@@ -14,6 +14,7 @@ invariant_of-self c =
     let positive : 0 < p = (let o = prime_above_one c.self.inside.prime in omega (arith, o)) in
     let s : IsRow p (length (map (λ x. c.args.c * x % p) xs)) (map (λ x. c.args.c * x % p) xs) = record {
       length_is = refl;
-      below = λ j l. rw (get_or-map (λ x. c.args.c * x % p) xs j 0 0 (rw length-map at l)) (mod-lt (c.args.c * entry xs j) positive);
+      below = λ j l. rw (get_or-map (λ x. c.args.c * x % p) xs j 0 0 (rw length-map at l))
+          (mod-lt (c.args.c * entry xs j) positive);
     } in
     record { row = rw c.scale.ensures.scaled s; packed = c.scale.ensures.packed }

@@ -5,4 +5,7 @@ use Rattle.fp_rows.proofs.row.Row.set_unit.Goals as goal
 
 pub set-requires-clause-below : goal.set-requires-clause-below
 set-requires-clause-below c =
-    rw (ap (λ (v : RowValue). v.p) c.clear.ensures, ← c.prime-prime.ensures) (prime_above_one c.prime-prime.result)
+    rw (
+      ap (λ (v : RowValue). v.p) c.clear.ensures,
+      ← c.prime-prime.ensures,
+    ) (prime_above_one c.prime-prime.result)

@@ -12,32 +12,57 @@ use Rattle.group_algebra.proofs.algebra.Algebra.act.Goals as goal
 
 pub add_image-requires-clause-lengths : goal.add_image-requires-clause-lengths
 add_image-requires-clause-lengths c =
-    let size : size_of c.self.inside.places ≡ order c.self.inside.group.table = ap size_of c.self.invariant.sizes_are ∙ size-is c.self.inside.group in
-    let v : length (entries_of c.args.v) ≡ order c.self.inside.group.table * c.args.rank = rw (← c.self.view_is) at c.requires.length in
-    (v ∙ ap (λ k. k * c.args.rank) (sym size), (ap (λ r. length r.entries) c.clear.ensures ∙ length-replicate (length c.args.out.now.entries) 0 ∙ (rw (← c.self.view_is) at c.requires.out_length)) ∙ ap (λ k. k * c.args.rank) (sym size))
+    let size : size_of c.self.inside.places ≡ order c.self.inside.group.table =
+    ap size_of c.self.invariant.sizes_are ∙ size-is c.self.inside.group in
+    let v : length (entries_of c.args.v) ≡ order c.self.inside.group.table * c.args.rank =
+    rw (← c.self.view_is) at c.requires.length in (
+      v ∙ ap (λ k. k * c.args.rank) (sym size),
+      (ap (λ r. length r.entries) c.clear.ensures ∙ length-replicate (length c.args.out.now.entries) 0
+          ∙ (rw (← c.self.view_is) at c.requires.out_length)) ∙ ap (λ k. k * c.args.rank) (sym size),
+    )
 
 pub add_image-requires-clause-small : goal.add_image-requires-clause-small
 add_image-requires-clause-small c =
-    let size : size_of c.self.inside.places ≡ order c.self.inside.group.table = ap size_of c.self.invariant.sizes_are ∙ size-is c.self.inside.group in
-    let v : length (entries_of c.args.v) ≡ order c.self.inside.group.table * c.args.rank = rw (← c.self.view_is) at c.requires.length in
-    subst (λ k. k < 2 ^ 64) (v ∙ ap (λ k. k * c.args.rank) (sym size)) (rw c.len-length.ensures.count at c.len-length.type_inv)
+    let size : size_of c.self.inside.places ≡ order c.self.inside.group.table =
+    ap size_of c.self.invariant.sizes_are ∙ size-is c.self.inside.group in
+    let v : length (entries_of c.args.v) ≡ order c.self.inside.group.table * c.args.rank =
+    rw (← c.self.view_is) at c.requires.length in
+    subst (λ k. k < 2 ^ 64) (v ∙ ap (λ k. k * c.args.rank) (sym size))
+    (rw c.len-length.ensures.count at c.len-length.type_inv)
 
 pub add_image-requires-clause-width : goal.add_image-requires-clause-width
 add_image-requires-clause-width c =
-    let size : size_of c.self.inside.places ≡ order c.self.inside.group.table = ap size_of c.self.invariant.sizes_are ∙ size-is c.self.inside.group in
+    let size : size_of c.self.inside.places ≡ order c.self.inside.group.table =
+    ap size_of c.self.invariant.sizes_are ∙ size-is c.self.inside.group in
     c.self.invariant.translate_shape.width ∙ sym size
 
 pub add_image-requires-clause-inside : goal.add_image-requires-clause-inside
 add_image-requires-clause-inside c k l =
-    let size : size_of c.self.inside.places ≡ order c.self.inside.group.table = ap size_of c.self.invariant.sizes_are ∙ size-is c.self.inside.group in
-    inside-steps (order c.self.inside.group.table) k c.args.g c.order.result (length c.self.inside.translates.rows) (subst (λ m. k < m) size l) (rw (← c.self.view_is) at c.requires.element) c.order.ensures.value c.self.invariant.translate_shape.rows
+    let size : size_of c.self.inside.places ≡ order c.self.inside.group.table =
+    ap size_of c.self.invariant.sizes_are ∙ size-is c.self.inside.group in
+    inside-steps (order c.self.inside.group.table) k c.args.g c.order.result
+    (length c.self.inside.translates.rows) (subst (λ m. k < m) size l)
+    (rw (← c.self.view_is) at c.requires.element) c.order.ensures.value
+    c.self.invariant.translate_shape.rows
 
 pub returns-clause-moved : goal.returns-clause-moved
 returns-clause-moved c =
-    let p : c.clear.new.self.p ≡ c.self.inside.group.table.p = ap (λ r. r.p) c.clear.ensures ∙ (rw (← c.self.view_is) at c.requires.prime) in
-    let zeros : c.clear.new.self.entries ≡ replicate (order c.self.inside.group.table * c.args.rank) 0 = ap (λ r. r.entries) c.clear.ensures ∙ ap (λ k. replicate k 0) (rw (← c.self.view_is) at c.requires.out_length) in
-    let C : GainsImage c.self.inside.group.table.p c.self.inside.places c.args.rank (stepped c.self.inside.translates.rows c.args.g (order c.self.inside.group.table)) 1 (entries_of c.args.v) (replicate (order c.self.inside.group.table * c.args.rank) 0) c.add_image.new.out.entries
+    let p : c.clear.new.self.p ≡ c.self.inside.group.table.p = ap (λ r. r.p) c.clear.ensures
+    ∙ (rw (← c.self.view_is) at c.requires.prime) in
+    let zeros : c.clear.new.self.entries ≡ replicate (order c.self.inside.group.table * c.args.rank) 0 =
+    ap (λ r. r.entries) c.clear.ensures
+    ∙ ap (λ k. replicate k 0) (rw (← c.self.view_is) at c.requires.out_length) in
+    let C : GainsImage c.self.inside.group.table.p c.self.inside.places c.args.rank
+    (stepped c.self.inside.translates.rows c.args.g (order c.self.inside.group.table)) 1
+    (entries_of c.args.v) (replicate
+    (order c.self.inside.group.table * c.args.rank) 0) c.add_image.new.out.entries
     = rw (p, zeros, c.order.ensures.value) at c.add_image.ensures.gains in
-    let r : IsRow c.self.inside.group.table.p (order c.self.inside.group.table * c.args.rank) (entries_of c.args.v) = row-of-ref (entries_of c.args.v) (rw (← c.self.view_is) at c.requires.length) (rw (← c.self.view_is) at c.requires.modulus) c.args.v.below in
-    rw (← c.self.view_is) (λ b. acted c.self.inside.group c.self.inside.translates.rows c.self.invariant.translate_shape.rows c.self.invariant.translates_are c.args.rank (c.args.g, b) c.self.inside.places
+    let r : IsRow c.self.inside.group.table.p (order c.self.inside.group.table * c.args.rank)
+    (entries_of c.args.v) = row-of-ref (entries_of c.args.v) (rw (← c.self.view_is) at c.requires.length)
+    (rw (← c.self.view_is) at c.requires.modulus) c.args.v.below in
+    rw (← c.self.view_is) (λ b. acted c.self.inside.group c.self.inside.translates.rows
+    c.self.invariant.translate_shape.rows c.self.invariant.translates_are c.args.rank (
+      c.args.g,
+      b,
+    ) c.self.inside.places
     (entries_of c.args.v) c.add_image.new.out.entries c.self.invariant.sizes_are r C)

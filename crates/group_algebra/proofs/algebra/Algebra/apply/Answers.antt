@@ -47,13 +47,15 @@ loop-index-preserved c =
       prime = c.add_product.ensures.prime ∙ c.loop-index.invariant.prime;
       length_is = ap (λ (x : List ℕ). length x) (c.add_product.ensures.gained (block G (length rows) x k) B)
           ∙ ((layer_coordinates G b).row-is _).length_is;
-      sum = sum-step G b rows x k c.loop-index.out.entries (entries_of c.view.result) _ c.loop-index.invariant.sum
+      sum = sum-step G b rows x k c.loop-index.out.entries
+          (entries_of c.view.result) _ c.loop-index.invariant.sum
           (c.view.ensures.entries ∙ t.entries) (c.add_product.ensures.gained (block G (length rows) x k) B);
     }
 
 pub returns-clause-value : goal.returns-clause-value
 returns-clause-value c =
-    sum-end c.args.self.now c.args.rank c.args.rows.now.rows (entries_of c.args.v) c.loop-index.out.entries c.loop-index.index
+    sum-end c.args.self.now c.args.rank c.args.rows.now.rows
+    (entries_of c.args.v) c.loop-index.out.entries c.loop-index.index
     (row-of-ref (entries_of c.args.v) c.requires.argument c.requires.primes.0 c.args.v.below)
     (row-end c.args.rows.now c.loop-index.index _ c.loop-index.invariant.left c.in-None.ensures.steps.0)
     c.loop-index.invariant.sum

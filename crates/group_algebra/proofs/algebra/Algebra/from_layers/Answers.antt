@@ -14,11 +14,14 @@ returns-clause-coefficients c =
     let G : PGroup = c.self.inside.group in
     let H = c.self.invariant.member_shape in
     let x : List ℕ = entries_of c.args.v in
-    let C : IsCombined G.table.p (order G.table) x (row c.self.inside.members.rows) c.combine.new.out.entries =
+    let C : IsCombined G.table.p (order G.table) x
+    (row c.self.inside.members.rows) c.combine.new.out.entries =
     combined x c.self.inside.members.rows _ (positive G)
     (rw (H.prime, H.width) at c.rows-members.ensures.matrix) H.rows
     (rw (H.prime, H.width) at (ap (λ (r : RowValue). r.entries) c.combine.ensures)) in
     let r : IsRow G.table.p (order G.table) x =
-    row-of-ref x (rw (← c.self.view_is) at c.requires.length) (rw (← c.self.view_is) at c.requires.modulus) c.args.v.below in
-    rw (← c.self.view_is) (coefficients-of-row G x c.combine.new.out.entries (row c.self.inside.members.rows) r
+    row-of-ref x (rw (← c.self.view_is) at c.requires.length)
+    (rw (← c.self.view_is) at c.requires.modulus) c.args.v.below in
+    rw (← c.self.view_is) (coefficients-of-row G x c.combine.new.out.entries
+    (row c.self.inside.members.rows) r
     c.self.invariant.members_are C)

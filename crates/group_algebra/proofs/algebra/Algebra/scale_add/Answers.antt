@@ -4,8 +4,14 @@ use Rattle.group_algebra.proofs.BlockSums.{only-block-of-row}
 use Rattle.group_algebra.proofs.algebra.Algebra.scale_add.Goals as goal
 
 pub add_product-requires-clause-fits : goal.add_product-requires-clause-fits
-add_product-requires-clause-fits c = omega (arith, c.len-length.type_inv, c.len-length.ensures.count, c.requires.factor_length)
+add_product-requires-clause-fits c = omega (
+  arith,
+  c.len-length.type_inv,
+  c.len-length.ensures.count,
+  c.requires.factor_length,
+)
 
 pub returns-clause-gained : goal.returns-clause-gained
 returns-clause-gained c =
-    c.add_product.ensures.gained (entries_of c.args.a) (only-block-of-row c.args.self.now (entries_of c.args.a) c.requires.factor_length)
+    c.add_product.ensures.gained (entries_of c.args.a)
+    (only-block-of-row c.args.self.now (entries_of c.args.a) c.requires.factor_length)

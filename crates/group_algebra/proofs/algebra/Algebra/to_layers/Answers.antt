@@ -15,11 +15,13 @@ returns-clause-layers c =
     let G : PGroup = c.self.inside.group in
     let H = c.self.invariant.element_shape in
     let p : c.args.out.now.p ≡ G.table.p = rw (← c.self.view_is) at c.requires.prime in
-    let C : IsCombined G.table.p (order G.table) (entries_of c.args.a) (row c.self.inside.elements.rows) c.combine.new.out.entries =
+    let C : IsCombined G.table.p (order G.table) (entries_of c.args.a)
+    (row c.self.inside.elements.rows) c.combine.new.out.entries =
     combined (entries_of c.args.a) c.self.inside.elements.rows _ (positive G)
     (rw (H.prime, H.width) at c.rows-elements.ensures.matrix) H.rows
     (rw (H.prime, H.width) at (ap (λ (r : RowValue). r.entries) c.combine.ensures)) in
     rw (← c.self.view_is) (λ v A.
-    product-row G (entries_of c.args.a) v (one G) (row c.self.inside.elements.rows) c.combine.new.out.entries A
+    product-row G (entries_of c.args.a) v (one G)
+    (row c.self.inside.elements.rows) c.combine.new.out.entries A
     (elements-at G c.self.inside.elements.rows H.rows c.self.invariant.elements_are) C
     ∙ ap (row_of G 1) (times-one-is G v))
