@@ -185,7 +185,8 @@ impl Algebra {
         ensures gained { out.new.entries
             ≡ row_of self.now rank
             ((free_module self.now rank).add (table_of self.now rank out.old.entries)
-            (product_with self.now rank (table_of self.now 1 (entries_of a.entry)) (table_of self.now rank (entries_of v.entry)))) }
+            (product_with self.now rank (table_of self.now 1 (entries_of a.entry))
+            (table_of self.now rank (entries_of v.entry)))) }
     {
         let _length = a.len();
         self.add_product(
@@ -234,11 +235,13 @@ impl Algebra {
         requires length { length (entries_of v) ≡ order_of self.now * rank }
         requires out_length { length out.old.entries ≡ order_of self.now * rank }
         ensures prime { out.new.p ≡ out.old.p }
-        ensures gained { (b : List ℕ) → IsBlock self.now a.entry.count a.entry.index (entries_of a.entry.row) b
+        ensures gained { (b : List ℕ)
+            → IsBlock self.now a.entry.count a.entry.index (entries_of a.entry.row) b
             → out.new.entries
             ≡ row_of self.now rank
             ((free_module self.now rank).add (table_of self.now rank out.old.entries)
-            (product_with self.now rank (table_of self.now 1 b) (table_of self.now rank (entries_of v.entry)))) }
+            (product_with self.now rank (table_of self.now 1 b)
+            (table_of self.now rank (entries_of v.entry)))) }
     {
         let _length = v.len();
         prove!(out.len() == v.len());

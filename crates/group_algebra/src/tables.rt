@@ -131,7 +131,10 @@ fn push_combinations(
     requires coefficient_count { coefficients.now.width ≡ length rows.now.rows }
     requires same_width { m.old.width ≡ rows.now.width }
     ensures { OnOk result (m.new
-        ≡ record m.old { rows = m.old.rows ++ map (λ c. combination_row rows.now.p rows.now.width (entry c) rows.now.rows) coefficients.now.rows }) }
+        ≡ record m.old {
+          rows = m.old.rows
+              ++ map (λ c. combination_row rows.now.p rows.now.width (entry c) rows.now.rows) coefficients.now.rows;
+        }) }
 {
     let _rows = rows.rows();
     let mut out = Row::zero(alloc, m.prime(), m.width())?;

@@ -1,6 +1,5 @@
 ghost use Rattle.std.specs.Prelude.{◌≡◌, ◌<◌, ◌*◌, All, IfOk, length, vec_len};
 ghost use Rattle.group_table.specs.Prime.{prime_value};
-ghost use Rattle.group_table.specs.Tables.{order as order_of};
 ghost use Rattle.p_groups.specs.PGroups.{order_of, prime_of};
 
 use super::*;
@@ -163,7 +162,7 @@ fn layers_of(
     algebra: &Algebra,
     coefficients: &[u8],
 ) -> Result<Row, Fail>
-    ensures { IfOk result (λ r. (r.p ≡ prime_of algebra.now) × (length r.entries ≡ order_of algebra.now.table)) }
+    ensures { IfOk result (λ r. (r.p ≡ prime_of algebra.now) × (length r.entries ≡ order_of algebra.now)) }
 {
     let p = algebra.group().prime();
     let n = algebra.group().order() as usize;
@@ -177,7 +176,7 @@ fn layers_of(
 
 // The coefficients of the member with these layer coordinates.
 fn coefficients_of(alloc: Global, algebra: &Algebra, layers: &Row) -> Result<Row, Fail>
-    requires { (layers.now.p ≡ prime_of algebra.now) × (length layers.now.entries ≡ order_of algebra.now.table) }
+    requires { (layers.now.p ≡ prime_of algebra.now) × (length layers.now.entries ≡ order_of algebra.now) }
 {
     let mut out = Row::zero(
         alloc,
@@ -274,7 +273,8 @@ fn adds_products_to_two_blocks(rt: HostRuntime) -> Result<(), Fail> {
     Ok(())
 }
 
-// The value at v of the map to kG that takes the first basis element to the first row and the second to the second.
+// The value at v of the map to kG that takes the first basis element to the first row, and the second to
+// the second.
 fn applied(
     rt: &impl Abort,
     alloc: Global,
