@@ -11,17 +11,6 @@ use Rattle.radical_layers.specs.Placing.{place_of, size_of}
 use Rattle.group_algebra.specs.Gains.{BlockGains}
 use Rattle.group_algebra.proofs.PlaceLemmas.{place-inside-of, place-differs-of}
 
--- one more row of a combination
-pub combination-next : {p w : ℕ} (old out r : List ℕ) (f : ℕ → ℕ → ℕ) (k x : ℕ) → IsRow p w out → IsRow p w r
-    → ((j : ℕ) → IsCongruent p (entry out j) (entry old j + sum_below k (λ i. f i j)))
-    → ((j : ℕ) → x * entry r j ≡ f k j)
-    → (j : ℕ) → IsCongruent p (entry (add_multiple p x out r) j)
-    (entry old j + sum_below (k + 1) (λ i. f i j))
-combination-next old out r f k x ro rr h e j = congruent_trans (entry_congruent x out r ro rr j)
-    (congruent_trans (congruent_add (h j) (congruent_eq (e j)))
-    (congruent_eq (rw add-one (let z : entry old j + sum_below k (λ i. f i j) + f k j ≡ entry old j +
-    (sum_below k (λ i. f i j) + f k j) = omega arith in z))))
-
 pub set-row : {p w : ℕ} (out : List ℕ) (i x : ℕ) → IsRow p w out → i < w → x < p
     → IsRow p w (slice_set out i x)
 set-row {p} {w} out i x r l m = record {

@@ -15,12 +15,6 @@ pushed-image before f rows i x l e =
     ∙ ap (λ ys. before ++ ys) (ap (λ y. map f (take i rows) ++ y ∷ []) e
     ∙ sym (map-append f (take i rows) (row rows i ∷ [])) ∙ ap (map f) (sym (take_more rows i [] l)))
 
--- a unit row with its 1 put back to 0
-pub unit-back : (n i : ℕ) → i < n → slice_set (unit_row n i) i 0 ≡ replicate n 0
-unit-back n i l = set-set (replicate n 0) i 1 0
-    ∙ ap (λ a. slice_set (replicate n 0) i a) (sym (get_or-replicate n i 0 0 l))
-    ∙ set-get_or (replicate n 0) i 0
-
 -- one more row with a property each
 pub rows-pushed : (P : ℕ → List ℕ → Type 0) (rows : List (List ℕ)) (i : ℕ) (x : List ℕ) → length rows ≡ i
     → P i x → ((k : ℕ) → k < i → P k (row rows k))

@@ -19,19 +19,16 @@ use std::alloc::Global;
 use std::marker::Model;
 
 /// The group algebra kG of a p-group G over the field of p elements, seen as G.
-/// Its elements and those of the free modules kG^rank are rows in layer coordinates: the coefficients in the
-/// layer basis,
+/// Its elements and those of the free modules kG^rank are rows in layer coordinates: the coefficients in the layer basis,
 /// at the places given by `place`.
 #[derive(Drop)]
 pub struct Algebra {
     group: PGroup,
     places: Places,
-    // The coefficients of the members of the layer basis, and the layer coordinates of the elements of the
-    // group.
+    // The coefficients of the members of the layer basis, and the layer coordinates of the elements of the group.
     members: Matrix,
     elements: Matrix,
-    // The layer coordinates of g times member k at the position k n + g, and of member k times member l at k
-    // n + l.
+    // The layer coordinates of g times member k at the position k n + g, and of member k times member l at k n + l.
     translates: Matrix,
     products: Matrix,
 }
@@ -88,8 +85,7 @@ impl Algebra {
         &self.group
     }
 
-    /// How many radical layers there are: the least number of factors of the augmentation ideal with the
-    /// product 0.
+    /// How many radical layers there are: the least number of factors of the augmentation ideal with the product 0.
     pub fn layers(&self) -> usize
         ensures { result ≡ (layers self.now).count }
     {
@@ -104,8 +100,7 @@ impl Algebra {
         self.places.size(i)
     }
 
-    /// The place of a member of the layer basis in a block of kG^rank: layer by layer, in a layer block by
-    /// block,
+    /// The place of a member of the layer basis in a block of kG^rank: layer by layer, in a layer block by block,
     /// in a block by position. Blocks and members count from 0.
     pub fn place(&self, rank: usize, block: usize, member: usize) -> usize
         requires block { block < rank }
@@ -124,8 +119,7 @@ impl Algebra {
         requires length { length (entries_of v) ≡ order_of self.now * rank }
         ensures value { (b : block < rank)
             → result
-            ≡ (block-sum (largest_residue self.now) (group_of self.now) rank
-            (table_of self.now rank (entries_of v.entry)) (block, b)).0 }
+            ≡ (block-sum (largest_residue self.now) (group_of self.now) rank (table_of self.now rank (entries_of v.entry)) (block, b)).0 }
         ensures below { result < prime_of self.now }
     {
         v.get(block)
@@ -152,8 +146,7 @@ impl Algebra {
         requires length { length (entries_of v) ≡ order_of self.now }
         requires out_length { length out.old.entries ≡ order_of self.now }
         ensures prime { out.new.p ≡ out.old.p }
-        ensures coefficients { AreCoefficients self.now out.new.entries
-            (table_of self.now 1 (entries_of v.entry)) }
+        ensures coefficients { AreCoefficients self.now out.new.entries (table_of self.now 1 (entries_of v.entry)) }
     {
         let _members = self.members.rows();
         self.members.combine(v, out);
@@ -169,10 +162,7 @@ impl Algebra {
         ensures prime { out.new.p ≡ out.old.p }
         ensures moved { (b : g < order_of self.now)
             → out.new.entries
-            ≡ row_of self.now rank ((free_module self.now rank).act (
-              g,
-              b,
-            ) (table_of self.now rank (entries_of v.entry))) }
+            ≡ row_of self.now rank ((free_module self.now rank).act (g, b) (table_of self.now rank (entries_of v.entry))) }
     {
         let _length = v.len();
         let images = Images {
@@ -245,8 +235,8 @@ impl Algebra {
         requires length { length (entries_of v) ≡ order_of self.now * rank }
         requires out_length { length out.old.entries ≡ order_of self.now * rank }
         ensures prime { out.new.p ≡ out.old.p }
-        ensures gained { (b : List ℕ) → IsBlock self.now a.entry.count a.entry.index
-            (entries_of a.entry.row) b
+        ensures gained { (b : List ℕ)
+            → IsBlock self.now a.entry.count a.entry.index (entries_of a.entry.row) b
             → out.new.entries
             ≡ row_of self.now rank
             ((free_module self.now rank).add (table_of self.now rank out.old.entries)

@@ -28,8 +28,7 @@ fn add_to_block(
     requires length { length out.old.entries ≡ size_of places.now * rank }
     requires small { size_of places.now * rank < 2 ^ 64 }
     ensures prime { out.new.p ≡ out.old.p }
-    ensures gains { BlockGains out.old.p places.now rank block
-        (λ j. c * entry (entries_of r.entry) j) out.old.entries out.new.entries }
+    ensures gains { BlockGains out.old.p places.now rank block (λ j. c * entry (entries_of r.entry) j) out.old.entries out.new.entries }
 {
     prove!(r.len() <= out.len());
     if c == 0 {
@@ -41,8 +40,7 @@ fn add_to_block(
     }
 }
 
-/// Where a linear map of the group algebra takes the members of the layer basis: to every step-th row, from
-/// the first on.
+/// Where a linear map of the group algebra takes the members of the layer basis: to every step-th row, from the first on.
 #[derive(Clone, Copy)]
 pub(crate) struct Images<'a> {
     pub(crate) rows: &'a Matrix,
@@ -76,17 +74,14 @@ fn add_block_image(
     requires primes { (modulus_of v ≡ out.old.p) × (images.rows.now.p ≡ out.old.p) }
     requires block { block < rank }
     requires factor { c < out.old.p }
-    requires lengths { (length (entries_of v) ≡ size_of places.now * rank)
-        × (length out.old.entries ≡ size_of places.now * rank) }
+    requires lengths { (length (entries_of v) ≡ size_of places.now * rank) × (length out.old.entries ≡ size_of places.now * rank) }
     requires small { size_of places.now * rank < 2 ^ 64 }
     requires width { images.rows.now.width ≡ size_of places.now }
-    requires inside { (k : ℕ) → k < size_of places.now
-        → images.first + k * images.step < length images.rows.now.rows }
+    requires inside { (k : ℕ) → k < size_of places.now → images.first + k * images.step < length images.rows.now.rows }
     requires few { length images.rows.now.rows ≤ 65536 }
     ensures prime { out.new.p ≡ out.old.p }
     ensures gains { BlockGains out.old.p places.now rank block
-        (image_entry places.now rank (stepped images.entry.rows.now.rows images.entry.first images.entry.step)
-        c (entries_of v.entry) block)
+        (image_entry places.now rank (stepped images.entry.rows.now.rows images.entry.first images.entry.step) c (entries_of v.entry) block)
         out.old.entries out.new.entries }
 {
     prove!(out.len() == v.len());
@@ -109,16 +104,13 @@ pub(crate) fn add_image(
 )
     requires primes { (modulus_of v ≡ out.old.p) × (images.rows.now.p ≡ out.old.p) }
     requires factor { c < out.old.p }
-    requires lengths { (length (entries_of v) ≡ size_of places.now * rank)
-        × (length out.old.entries ≡ size_of places.now * rank) }
+    requires lengths { (length (entries_of v) ≡ size_of places.now * rank) × (length out.old.entries ≡ size_of places.now * rank) }
     requires small { size_of places.now * rank < 2 ^ 64 }
     requires width { images.rows.now.width ≡ size_of places.now }
-    requires inside { (k : ℕ) → k < size_of places.now
-        → images.first + k * images.step < length images.rows.now.rows }
+    requires inside { (k : ℕ) → k < size_of places.now → images.first + k * images.step < length images.rows.now.rows }
     requires few { length images.rows.now.rows ≤ 65536 }
     ensures prime { out.new.p ≡ out.old.p }
-    ensures gains { GainsImage out.old.p places.now rank
-        (stepped images.entry.rows.now.rows images.entry.first images.entry.step) c (entries_of v.entry)
+    ensures gains { GainsImage out.old.p places.now rank (stepped images.entry.rows.now.rows images.entry.first images.entry.step) c (entries_of v.entry)
         out.old.entries out.new.entries }
 {
     prove!(out.len() == v.len());

@@ -32,8 +32,7 @@ pub(crate) fn member_rows(alloc: Global, group: &PGroup, basis: &Matrix) -> Resu
     Ok(m)
 }
 
-/// The rows that take sum coordinates to layer coordinates: the combinations of the members that give the
-/// unit rows.
+/// The rows that take sum coordinates to layer coordinates: the combinations of the members that give the unit rows.
 pub(crate) fn unit_preimages(
     alloc: Global,
     group: &PGroup,
@@ -133,8 +132,8 @@ fn push_combinations(
     requires same_width { m.old.width ≡ rows.now.width }
     ensures { OnOk result (m.new
         ≡ record m.old {
-          rows = m.old.rows ++ map
-              (λ c. combination_row rows.now.p rows.now.width (entry c) rows.now.rows) coefficients.now.rows;
+          rows = m.old.rows
+              ++ map (λ c. combination_row rows.now.p rows.now.width (entry c) rows.now.rows) coefficients.now.rows;
         }) }
 {
     let _rows = rows.rows();

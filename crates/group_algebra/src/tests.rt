@@ -1,6 +1,5 @@
 ghost use Rattle.std.specs.Prelude.{◌≡◌, ◌<◌, ◌*◌, All, IfOk, length, vec_len};
 ghost use Rattle.group_table.specs.Prime.{prime_value};
-ghost use Rattle.group_table.specs.Tables.{order as order_of};
 ghost use Rattle.p_groups.specs.PGroups.{order_of, prime_of};
 
 use super::*;
@@ -10,8 +9,7 @@ use std::alloc::{AllocError, Global};
 use std::process::Abort;
 use std::test::Fail;
 
-// The group of the p^n elements x^i y^j, i below m and j below q, numbered i + m j: x^m is 1, y^q is x^turn,
-// and y x is x y or x^-1 y.
+// The group of the p^n elements x^i y^j, i below m and j below q, numbered i + m j: x^m is 1, y^q is x^turn, and y x is x y or x^-1 y.
 #[derive(Clone, Copy)]
 struct Shape {
     p: Prime,
@@ -130,8 +128,7 @@ fn assert_layers(
     Ok(())
 }
 
-// The dimensions are the coefficients of the product of the (1 + t^i + .. + t^(i (p - 1)))^(e_i), e_i the
-// Jennings numbers of the group:
+// The dimensions are the coefficients of the product of the (1 + t^i + .. + t^(i (p - 1)))^(e_i), e_i the Jennings numbers of the group:
 // e_1 = 1 for C2; 1, 1 for C4; 2, 1 for the groups of order 8; 2 for C3 x C3.
 #[test]
 fn finds_the_radical_layers(rt: HostRuntime) -> Result<(), Fail> {
@@ -165,8 +162,7 @@ fn layers_of(
     algebra: &Algebra,
     coefficients: &[u8],
 ) -> Result<Row, Fail>
-    ensures { IfOk result (λ r. (r.p ≡ prime_of algebra.now)
-        × (length r.entries ≡ order_of algebra.now.table)) }
+    ensures { IfOk result (λ r. (r.p ≡ prime_of algebra.now) × (length r.entries ≡ order_of algebra.now)) }
 {
     let p = algebra.group().prime();
     let n = algebra.group().order() as usize;
@@ -180,8 +176,7 @@ fn layers_of(
 
 // The coefficients of the member with these layer coordinates.
 fn coefficients_of(alloc: Global, algebra: &Algebra, layers: &Row) -> Result<Row, Fail>
-    requires { (layers.now.p ≡ prime_of algebra.now)
-        × (length layers.now.entries ≡ order_of algebra.now.table) }
+    requires { (layers.now.p ≡ prime_of algebra.now) × (length layers.now.entries ≡ order_of algebra.now) }
 {
     let mut out = Row::zero(
         alloc,
@@ -278,8 +273,8 @@ fn adds_products_to_two_blocks(rt: HostRuntime) -> Result<(), Fail> {
     Ok(())
 }
 
-// The value at v of the map to kG that takes the first basis element to the first row and the second to the
-// second.
+// The value at v of the map to kG that takes the first basis element to the first row, and the second to
+// the second.
 fn applied(
     rt: &impl Abort,
     alloc: Global,
