@@ -12,7 +12,7 @@ use std::process::Abort;
 use std::test::Fail;
 
 fn extended(rt: &impl Abort, resolution: &mut Resolution, count: u32) -> Result<(), Fail>
-    ensures { IfOk result (λ _. resolution.new.group ≡ resolution.old.group) }
+    ensures { resolution.new.group ≡ resolution.old.group }
 {
     for _d in 0..count {
         assert!(rt; resolution.last() < 24);
@@ -84,20 +84,27 @@ fn shows(r: RowRef<'_>, entries: &[u8]) -> bool {
     r.len() == entries.len() && (0..r.len()).all(|i| r.get(i) == entries[i])
 }
 
+// The lift of basis class 0 of degree 1, made before the resolution grows from degree 1 to degree 6.
+fn lifted_before(rt: &impl Abort, alloc: Global, resolution: &mut Resolution) -> Result<Lift, Fail>
+    ensures { IfOk result (λ l. l.group ≡ resolution.new.group) }
+{
+    assert!(rt; resolution.last() == 1);
+    let class = basis(rt, alloc, resolution, 1, 0)?;
+    let lift = Lift::new(alloc, resolution, 1, class.view())?;
+    extended(rt, resolution, 5)?;
+    Ok(lift)
+}
+
 #[test]
 fn extends_over_a_grown_resolution(rt: HostRuntime) -> Result<(), Fail> {
     let mut resolution = resolved(&rt, rt.alloc(), SmallGroup::Two, 1)?;
-    let class = basis(&rt, rt.alloc(), &resolution, 1, 0)?;
-    assert_eq!(rt; resolution.last(), 1);
-    let mut lift = Lift::new(rt.alloc(), &resolution, 1, class.view())?;
-    extended(&rt, &mut resolution, 5)?;
-    assert_eq!(rt; resolution.last(), 6);
+    let mut lift = lifted_before(&rt, rt.alloc(), &mut resolution)?;
+    assert!(rt; resolution.last() == 6 && lift.degree() == 1);
     lift.extend_to(&resolution, 5)?;
     lift.extend_to(&resolution, 2)?;
-    assert_eq!(rt; (lift.degree(), lift.height()), (1, 5));
-    assert!(rt; shows(lift.class(), &[1]));
-    let p = product_with(&rt, rt.alloc(), &resolution, 5, 0, &lift)?;
-    assert!(rt; shows(p.view(), &[1]));
+    assert!(rt; lift.height() == 5 && shows(lift.class(), &[1]));
+    let product = product_with(&rt, rt.alloc(), &resolution, 5, 0, &lift)?;
+    assert!(rt; shows(product.view(), &[1]));
     Ok(())
 }
 
