@@ -3,8 +3,9 @@
 
 use crate::{Status, run};
 use coho_io::{MemFiles, MemSink};
-use gc_poly::{Gens, read_poly, write_text};
+use gc_poly::{Gens, write_text};
 use group_table::Prime;
+use polynomial_reader::read_poly;
 use std::alloc::Global;
 use std::test::Fail;
 
