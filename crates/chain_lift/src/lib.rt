@@ -18,6 +18,4 @@ pub use embedding_laws::{
 pub use lift::Lift;
 
 #[cfg(test)]
-mod embedding_tests;
-#[cfg(test)]
 mod tests;
