@@ -1,0 +1,5 @@
+pub mod Lifted
+pub mod Comparison
+pub mod Classes
+pub mod ClassMap
+pub mod Stages
