@@ -1,10 +1,10 @@
 -- The classes of a minimal complex and the cocycles of the bar complex.
-use Rattle.std.specs.Prelude.{◌≡◌, ℕ, zero, suc, refl, [], ◌↔◌}
+use Rattle.std.specs.Prelude.{◌≡◌, ℕ, zero, suc, refl, List, [], ◌↔◌}
 use Rattle.std.proofs.Common.{sym, ◌∙◌, ap, ap₂, subst}
 use mathlib.Core.Path.{fun_ext}
 use Rattle.group_modules.specs.Module.{Monoid, Module, sub, lin}
-use Rattle.group_modules.proofs.Laws.{lin-sub, map-zero, sub-self, sub-eq}
-use Rattle.group_modules.specs.Field.{Fp, residue}
+use Rattle.group_modules.proofs.Laws.{lin-add, lin-sub, map-zero, sub-self, sub-eq}
+use Rattle.group_modules.specs.Field.{Fp, residue, plus}
 use Rattle.bar_complex.specs.Tuples.{Tuple, entries, tuple}
 use Rattle.bar_complex.specs.Boundary.{boundary}
 use Rattle.bar_complex.specs.Cochains.{Cochain, IsNormalised, IsCocycle, IsNormalisedCocycle, IsCoboundary, AreCohomologous}
@@ -58,6 +58,10 @@ module _ {q : ℕ} {G : Monoid} (S : MinimalStages q G) where
     λ k. injective d v c (near-trans q G d (bar d v) u (bar d c) k (near-sym q G d (bar d c) u h)),
     λ e. subst (λ c. AreCohomologous q G d (bar d c) u) (sym e) h,
   )
+
+  pub bar-add : (d : ℕ) (a c : Class S d) (xs : List G.elem)
+      → bar d (λ i. plus q (a i) (c i)) xs ≡ plus q (bar d a xs) (bar d c xs)
+  bar-add d a c xs = lin-add K a c (S.terms d (comparison S d (tuple G.one d xs)))
 
   -- the bar cochain of a class is a coboundary only for the class 0
   pub only-coboundary : (d : ℕ) (c : Class S d) → IsCoboundary q G d (bar d c) → c ≡ (λ i. residue q 0)

@@ -1,0 +1,13 @@
+pub mod Theta
+pub mod Products
+pub mod Reverse
+pub mod Reversal
+pub mod GradedCocycles
+pub mod CupCoboundaries
+pub mod Cocycles
+pub mod Graded
+pub mod Classes
+pub mod Inverses
+pub mod Odd
+pub mod CupLaws
+pub mod Laws
