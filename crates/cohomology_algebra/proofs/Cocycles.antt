@@ -9,6 +9,7 @@ use Rattle.group_modules.proofs.MapLaws.{terms-unit}
 use Rattle.group_modules.specs.Resolutions.{rank}
 use Rattle.radical_layers.specs.Coordinates.{Coordinates}
 use Rattle.resolution_stages.specs.Definitions.{StageRows}
+use Rattle.resolution_stages.specs.Claims.{ResolutionClaims}
 use Rattle.chain_maps.specs.Lifts.{Class}
 use Rattle.chain_maps.specs.Vectors.{extended}
 use Rattle.chain_maps.specs.Multiply.{multiply}
@@ -16,7 +17,10 @@ use Rattle.chain_maps.proofs.Vectors.{extended-at, extended-past}
 use Rattle.bar_complex.specs.Cochains.{cup, Cochain, AreCohomologous, IsNormalisedCocycle}
 use Rattle.bar_complex.proofs.Cohomologous.{near-refl, near-sym, near-trans, near-add, near-normal, near-cocycle}
 use Rattle.bar_comparison.specs.Comparison.{bar_cocycle}
-use Rattle.bar_comparison.specs.Claims.{ComparisonClaims}
+use Rattle.bar_comparison.proofs.Comparison.{MinimalStages}
+use Rattle.bar_comparison.proofs.Classes as classes
+use Rattle.bar_comparison.proofs.ClassMap.{class-map-claims}
+use Rattle.bar_comparison.proofs.Stages.{stages}
 use Rattle.cup_products.specs.Classes.{GradedClass, mul, cocycle_of}
 use Rattle.cup_products.specs.Claims.{ProductClaims, CupClaims}
 use Rattle.cup_products.proofs.Laws.{cup-claims}
@@ -28,10 +32,13 @@ use Rattle.graded_algebra.proofs.Cohomology.{IsCohomology}
 use Rattle.cohomology_algebra.specs.Claims.{IsOfDegree, cohomology, vector_cocycle}
 use Rattle.cohomology_algebra.proofs.Vectors.{class_of, class-one, class-product, vector-class}
 
-module _ {n : ℕ} (q : ℕ) (Γ : Group n) (K : Coordinates q Γ) (S : StageRows) (C : ComparisonClaims q Γ K S)
+module _ {n : ℕ} (q : ℕ) (Γ : Group n) (K : Coordinates q Γ) (S : StageRows) (R : ResolutionClaims q Γ K S)
     (P : ProductClaims q Γ K S) where
   abbrev G : Monoid
   G = monoid Γ
+
+  abbrev M : MinimalStages q G
+  M = stages q Γ K S R
 
   abbrev k : ℕ → Vector q → Cochain q G
   k d v = vector_cocycle q Γ K S d v
@@ -40,7 +47,7 @@ module _ {n : ℕ} (q : ℕ) (Γ : Group n) (K : Coordinates q Γ) (S : StageRow
   r d = rank q Γ S.ranks d
 
   closed : (d : ℕ) (x : Vector q) → IsNormalisedCocycle q (monoid Γ) d (k d x)
-  closed d x = (C.normalised d (λ i. x i.0), C.cocycle d (λ i. x i.0))
+  closed d x = (classes.bar-normal M d (λ i. x i.0), classes.bar-cocycle M d (λ i. x i.0))
 
   -- a cochain that differs by a coboundary from the cocycle of a vector
   closed-near : (d : ℕ) (x : Vector q) (w : Cochain q G) → AreCohomologous q G d (k d x) w
@@ -68,17 +75,17 @@ module _ {n : ℕ} (q : ℕ) (Γ : Group n) (K : Coordinates q Γ) (S : StageRow
       → AreCohomologous q G d (k d x) (k d y)
       → x ≡ y
   injective d x y i j h =
-      sym (vector-class q Γ K S d x i) ∙ ap (extended (r d)) (C.injective d (λ i. x i.0) (λ i. y i.0) h)
+      sym (vector-class q Γ K S d x i) ∙ ap (extended (r d)) (classes.injective M d (λ i. x i.0) (λ i. y i.0) h)
       ∙ vector-class q Γ K S d y j
 
   surjective : (d : ℕ) (u : Cochain q G) → IsNormalisedCocycle q (monoid Γ) d u
       → (x : Vector q) × IsOfDegree q Γ K S d x × AreCohomologous q G d u (k d x)
   surjective d u z =
-      let c : Class q Γ K S d = (C.surjective d u z.0 z.1).0 in (
+      let c : Class q Γ K S d = (classes.surjective M d u z.0 z.1).0 in (
         extended (r d) c,
         (λ i l. extended-past (r d) c i l),
         subst (λ (e : Class q Γ K S d). AreCohomologous q G d u (bar_cocycle q Γ K S d e))
-            (sym (fun_ext (λ i. extended-at (r d) c i))) (C.surjective d u z.0 z.1).1,
+            (sym (fun_ext (λ i. extended-at (r d) c i))) (classes.surjective M d u z.0 z.1).1,
       )
 
   abbrev Cups : CupClaims q Γ
@@ -92,8 +99,8 @@ module _ {n : ℕ} (q : ℕ) (Γ : Group n) (K : Coordinates q Γ) (S : StageRow
     close-add = λ d u v u' v' h j. near-add q G d u u' v v' h j;
     close-mul = λ d e u v x h. Cups.left d e u v (k e x) (closed e x) h;
     one = one-near;
-    zero = λ d. fun_ext (C.zero d);
-    add = λ d x y. fun_ext (C.sum d (λ i. x i.0) (λ i. y i.0));
+    zero = λ d. fun_ext ((class-map-claims q Γ K S).zero d);
+    add = λ d x y. fun_ext ((class-map-claims q Γ K S).sum d (λ i. x i.0) (λ i. y i.0));
     mul = product-near;
   }
 

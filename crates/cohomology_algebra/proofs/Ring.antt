@@ -8,11 +8,10 @@ use Rattle.group_modules.specs.Resolutions.{rank}
 use Rattle.linear_algebra.specs.Modular.{IsFieldModulo}
 use Rattle.radical_layers.specs.Coordinates.{Coordinates}
 use Rattle.resolution_stages.specs.Definitions.{StageRows, AreStages}
+use Rattle.resolution_stages.specs.Claims.{ResolutionClaims}
 use Rattle.resolution_stages.proofs.FromDefinitions.{resolution-claims}
 use Rattle.chain_maps.specs.Multiply.{multiply}
 use Rattle.bar_complex.specs.Cochains.{Cochain, AreCohomologous, IsNormalisedCocycle}
-use Rattle.bar_comparison.specs.Claims.{ComparisonClaims}
-use Rattle.bar_comparison.proofs.Stages.{comparison-claims}
 use Rattle.cup_products.specs.Claims.{ProductClaims}
 use Rattle.cup_products.proofs.Laws.{product-claims}
 use Rattle.graded_polynomials.specs.Polynomials.{Polynomial}
@@ -33,11 +32,11 @@ use Rattle.cohomology_algebra.proofs.Cocycles.{compared, cohomology-is}
 
 module _ {n : ℕ} (q : ℕ) (Γ : Group n) (K : Coordinates q Γ) (S : StageRows) (F : IsFieldModulo (suc q))
     (A : AreStages q Γ K S) where
-  abbrev C : ComparisonClaims q Γ K S
-  C = comparison-claims q Γ K S (resolution-claims q F Γ K S A)
+  abbrev R : ResolutionClaims q Γ K S
+  R = resolution-claims q F Γ K S A
 
   abbrev P : ProductClaims q Γ K S
-  P = product-claims q Γ K S F (resolution-claims q F Γ K S A)
+  P = product-claims q Γ K S F R
 
   abbrev L : AlgebraClaims q Γ K S
   L = graded-commutative q Γ K S P
@@ -49,7 +48,7 @@ module _ {n : ℕ} (q : ℕ) (Γ : Group n) (K : Coordinates q Γ) (S : StageRow
   images-are : (gs : List (Generator (Vector q)))
       → images (Vector q) (Cochain q (monoid Γ)) (cohomology q Γ K S) (cochains (Below n) q)
       (vector_cocycle q Γ K S)
-      (AreCohomologous q (monoid Γ)) (compared q Γ K S C P) gs ≡ cocycle_generators q Γ K S gs
+      (AreCohomologous q (monoid Γ)) (compared q Γ K S R P) gs ≡ cocycle_generators q Γ K S gs
   images-are [] = refl
   images-are (g ∷ gs) =
       ap (λ hs. record { degree = g.degree; class = vector_cocycle q Γ K S g.degree g.class } ∷ hs)
@@ -89,6 +88,6 @@ module _ {n : ℕ} (q : ℕ) (Γ : Group n) (K : Coordinates q Γ) (S : StageRow
           (cochains-presented q (Vector q) (Cochain q (monoid Γ)) (cohomology q Γ K S) (cochains (Below n) q)
           (IsOfDegree q Γ K S) L
           (vector_cocycle q Γ K S) (IsNormalisedCocycle q (monoid Γ)) (AreCohomologous q (monoid Γ))
-          (cohomology-is q Γ K S C P) m gs rs inside
+          (cohomology-is q Γ K S R P) m gs rs inside
           classes-presented);
     }
