@@ -5,10 +5,11 @@ use mathlib.Core.Path.{fun_ext}
 use Rattle.group_modules.specs.Module.{Monoid, sub, lin}
 use Rattle.group_modules.proofs.Laws.{lin-add}
 use Rattle.group_modules.specs.Field.{Below, Fp}
+use Rattle.group_modules.specs.Tables.{Group, monoid}
 use Rattle.bar_complex.specs.Tuples.{Tuple, entries}
 use Rattle.bar_complex.specs.Boundary.{boundary}
 use Rattle.bar_comparison.proofs.Comparison.{MinimalStages, Class, bar_cocycle}
-use Rattle.class_restriction.proofs.Restrict.{Hom, entries-one, lin-entries, boundary-entries, restrict, between, between-null, restriction, restriction-zero, embed}
+use Rattle.class_restriction.proofs.Restrict.{Homomorphism, entries-one, lin-entries, boundary-entries, restrict, between, between-null, restriction, restriction-zero, embed}
 use Rattle.class_restriction.proofs.Restrict as tuples
 use Rattle.cup_products.proofs.Reverse.{Inverse}
 use Rattle.bar_complex.specs.Cochains.{cup, Cochain, AreCohomologous}
@@ -31,7 +32,13 @@ drop-map f zero xs = refl
 drop-map f (suc j) [] = refl
 drop-map f (suc j) (x ∷ xs) = drop-map f j xs
 
-module _ {E G : Monoid} (φ : Hom E G) where
+module _ {m n : ℕ} {Δ : Group m} {Γ : Group n} (φ : Homomorphism Δ Γ) where
+  abbrev E : Monoid
+  E = monoid Δ
+
+  abbrev G : Monoid
+  G = monoid Γ
+
   pub map-entries : (d : ℕ) (t : Tuple E.elem d) → entries d (tuples.entries φ d t) ≡ map φ.to (entries d t)
   map-entries zero t = refl
   map-entries (suc d) t = ap (λ xs. φ.to t.0 ∷ xs) (map-entries d t.1)

@@ -5,6 +5,9 @@ use mathlib.Core.Path.{fun_ext}
 use Rattle.group_modules.specs.Module.{Monoid, Module, sub, times, IsLinear, Term, lin}
 use Rattle.group_modules.proofs.Laws.{map-zero, map-sub, map-lin, zero-add, sub-eq, then-linear}
 use Rattle.group_modules.specs.Field.{Below, Fp, residue}
+use Rattle.group_modules.specs.Tables.{Group, monoid}
+use Rattle.chain_maps_along.specs.Along.{IsHomomorphism}
+use Rattle.chain_maps_along.proofs.Modules.{one-to-one, module_along, linear-along}
 use Rattle.bar_complex.specs.Tuples.{Tuple, HasIdentity}
 use Rattle.bar_complex.specs.Boundary.{signed, put, faces, boundary, coboundary}
 use Rattle.bar_complex.proofs.FormalBoundary.{bar-complex}
@@ -12,34 +15,28 @@ use Rattle.bar_complex.proofs.Complexes.{Vanishes, Exact, IsChainMap, Agree, hom
 use Rattle.bar_comparison.proofs.Lifted.{lifted, lifted-map, Starts}
 use Rattle.bar_comparison.proofs.Comparison.{MinimalStages, Class, pair, pair-linear, stage-complex, stage-boundary, comparison, comparison-map, bar_cocycle, row-minimal}
 
-pub record Hom (E G : Monoid) : Type 0 where
-  pub to : E.elem → G.elem
-  pub to-one : to E.one ≡ G.one
-  pub to-mul : (g h : E.elem) → to (E.mul g h) ≡ G.mul (to g) (to h)
+-- a homomorphism of groups
+pub record Homomorphism {m n : ℕ} (Δ : Group m) (Γ : Group n) : Type 0 where
+  pub to : Below m → Below n
+  pub to-mul : IsHomomorphism Δ Γ to
 
-module _ {E G : Monoid} (φ : Hom E G) where
+module _ {m n : ℕ} {Δ : Group m} {Γ : Group n} (φ : Homomorphism Δ Γ) where
+  abbrev pub E : Monoid
+  E = monoid Δ
+
+  abbrev pub G : Monoid
+  G = monoid Γ
+
+  pub to-one : φ.to Δ.one ≡ Γ.one
+  to-one = one-to-one Δ Γ φ.to φ.to-mul
+
   -- M with E acting through φ
   abbrev pub along : {p : ℕ} → Module p G → Module p E
-  along M = record {
-    of = M.of;
-    is_set = M.is_set;
-    zero = M.zero;
-    add = M.add;
-    neg = M.neg;
-    act = λ g x. M.act (φ.to g) x;
-    add-assoc = M.add-assoc;
-    add-comm = M.add-comm;
-    add-zero = M.add-zero;
-    add-neg = M.add-neg;
-    times-p = M.times-p;
-    act-add = λ g x y. M.act-add (φ.to g) x y;
-    act-one = λ x. ap (λ g. M.act g x) φ.to-one ∙ M.act-one x;
-    act-mul = λ g h x. ap (λ g. M.act g x) (φ.to-mul g h) ∙ M.act-mul (φ.to g) (φ.to h) x;
-  }
+  along M = module_along Δ Γ φ.to φ.to-mul M
 
-  abbrev pub along-linear : {p : ℕ} (M N : Module p G) (f : M.of → N.of) → IsLinear M N f
+  pub along-linear : {p : ℕ} (M N : Module p G) (f : M.of → N.of) → IsLinear M N f
       → IsLinear (along M) (along N) f
-  along-linear M N f l = record { on-add = l.on-add; on-act = λ g x. l.on-act (φ.to g) x }
+  along-linear M N f l = linear-along Δ Γ φ.to φ.to-mul M N f l
 
   abbrev pub along-exact : {q : ℕ} → Exact q G → Exact q E
   along-exact {q} Y = record {
@@ -63,7 +60,7 @@ module _ {E G : Monoid} (φ : Hom E G) where
 
   pub entries-one : (d : ℕ) (t : Tuple E.elem d) → HasIdentity E d t → HasIdentity G d (entries d t)
   entries-one zero t n = n
-  entries-one (suc d) t (inl e) = inl (ap φ.to e ∙ φ.to-one)
+  entries-one (suc d) t (inl e) = inl (ap φ.to e ∙ to-one)
   entries-one (suc d) t (inr n) = inr (entries-one d t.1 n)
 
   abbrev pub entry-terms : (d : ℕ) → List (Term E (Tuple E.elem d)) → List (Term G (Tuple G.elem d))
@@ -84,15 +81,15 @@ module _ {E G : Monoid} (φ : Hom E G) where
   put-entries q d g [] = refl
   put-entries q d g (t ∷ ts) =
       ap₂ (λ x xs. x ∷ xs)
-      (λ i. record { coef = t.coef; elem = φ.to-one i; base = (φ.to-mul g t.elem i, entries d t.base) })
+      (λ i. record { coef = t.coef; elem = to-one i; base = (φ.to-mul g t.elem i, entries d t.base) })
       (put-entries q d g ts)
 
   faces-entries : (q d : ℕ) (s : Bool) (g : E.elem) (t : Tuple E.elem d)
       → entry-terms d (faces q E d s g t) ≡ faces q G d s (φ.to g) (entries d t)
-  faces-entries q zero s g t = λ i. record { coef = signed q s; elem = φ.to-one i; base = tt } ∷ []
+  faces-entries q zero s g t = λ i. record { coef = signed q s; elem = to-one i; base = tt } ∷ []
   faces-entries q (suc d) s g t =
       ap₂ (λ x xs. x ∷ xs)
-      (λ i. record { coef = signed q s; elem = φ.to-one i; base = (φ.to-mul g t.0 i, entries d t.1) })
+      (λ i. record { coef = signed q s; elem = to-one i; base = (φ.to-mul g t.0 i, entries d t.1) })
       (put-entries q d g (faces q E d (not s) t.0 t.1)
       ∙ ap (map (put q G d (φ.to g))) (faces-entries q d (not s) t.0 t.1))
 

@@ -75,7 +75,8 @@ module _ {n : ℕ} (q : ℕ) (Γ : Group n) (K : Coordinates q Γ) (S : StageRow
       → AreCohomologous q G d (k d x) (k d y)
       → x ≡ y
   injective d x y i j h =
-      sym (vector-class q Γ K S d x i) ∙ ap (extended (r d)) (classes.injective M d (λ i. x i.0) (λ i. y i.0) h)
+      sym (vector-class q Γ K S d x i) ∙ ap (extended (r d))
+      (classes.injective M d (λ i. x i.0) (λ i. y i.0) h)
       ∙ vector-class q Γ K S d y j
 
   surjective : (d : ℕ) (u : Cochain q G) → IsNormalisedCocycle q (monoid Γ) d u
