@@ -202,7 +202,7 @@ module _ {q : ℕ} {G : Monoid} (S : MinimalStages q G) where
         ∙ sym (S.terms-sum d (S.row d i));
   }
 
-  round-agree : Agree stage-complex S.exact round S.unit
+  pub round-agree : Agree stage-complex S.exact round S.unit
   round-agree i = ap S.exact.augment ((S.exact.at 0).act-one S.one ∙ sym (S.only-one i))
 
   pub pair-linear : (d : ℕ) (c : Class d) → IsLinear (S.exact.at d) (Fp q G) (pair d c)

@@ -3,3 +3,4 @@ pub mod Comparison
 pub mod Classes
 pub mod ClassMap
 pub mod Stages
+pub mod Homotopies

@@ -13,12 +13,19 @@ ghost use Rattle.resolution_stages.specs.Definitions.{StageRows, AreStages};
 ghost use Rattle.chain_maps.specs.Lifts.{Class};
 ghost use Rattle.bar_complex.specs.Cochains.{Cochain, IsNormalisedCocycle, IsCoboundary, AreCohomologous};
 ghost use Rattle.bar_comparison.specs.Comparison.{bar_cocycle};
+ghost use Rattle.bar_comparison.specs.HomotopyClaims.{HomotopyClaims};
 ghost use Rattle.bar_comparison.specs.Claims.{ComparisonClaims, ClassMapClaims};
 
 /// The comparison map is a chain map, and 0 where an entry is the identity.
 pub fn comparison_law()
     ensures { (n q : ℕ) (Γ : Group n) (K : Coordinates q Γ) (S : StageRows) → IsFieldModulo (suc q)
         → AreStages q Γ K S → ComparisonClaims q Γ K S }
+{}
+
+/// There is a chain map back, and both ways round are homotopic to the identity.
+pub fn homotopy_law()
+    ensures { (n q : ℕ) (Γ : Group n) (K : Coordinates q Γ) (S : StageRows) → IsFieldModulo (suc q)
+        → AreStages q Γ K S → HomotopyClaims q Γ K S }
 {}
 
 /// The class map, which sends a class to its cocycle, is linear.

@@ -1,10 +1,11 @@
 -- Complexes, chain maps, and the homotopy between two chain maps into a complex with a contraction.
 use Rattle.std.specs.Prelude.{◌≡◌, ℕ, zero, suc, List}
 use Rattle.std.proofs.Common.{◌∙◌, ap, ap₂}
-use Rattle.group_modules.specs.Module.{Monoid, Module, sub, IsLinear, Term, lin}
+use Rattle.group_modules.specs.Module.{Monoid, Module, ops, sub, IsLinear, Term, lin}
 use Rattle.group_modules.proofs.Laws.{lin-sub, map-sub, map-lin, sub-self, sub-zero, sub-back}
 use mathlib.Core.Path.{fun_ext}
 use Rattle.group_modules.specs.Field.{Below, Fp, residue}
+use Rattle.bar_complex.specs.Homotopies as homotopies
 
 -- u is 0 at each basis element that counts as 0
 abbrev pub Vanishes : {p : ℕ} {G : Monoid} (M : Module p G) {X : Type 0} → (X → Type 0) → (X → M.of) → Type 0
@@ -51,13 +52,10 @@ module _ {q : ℕ} {G : Monoid} (X : FreeComplex (suc q) G) (Y : Exact q G) wher
 
   -- what is left to lift: f(x) - g(x) - h(boundary of x)
   abbrev pub rest : Maps → Maps → (d : ℕ) → X.basis d → (Y.at d).of
-  rest f g zero x = sub (Y.at 0) (f 0 x) (g 0 x)
-  rest f g (suc d) x =
-      sub (Y.at (suc d)) (sub (Y.at (suc d)) (f (suc d) x) (g (suc d) x))
-      (lin (Y.at (suc d)) (λ y. Y.lift d (rest f g d y)) (X.boundary d x))
+  rest f g = homotopies.rest X.basis X.boundary (λ d. ops (Y.at d)) (λ d. sub (Y.at d)) Y.lift f g
 
   abbrev pub homotopy : Maps → Maps → (d : ℕ) → X.basis d → (Y.at (suc d)).of
-  homotopy f g d x = Y.lift d (rest f g d x)
+  homotopy f g = homotopies.homotopy X.basis X.boundary (λ d. ops (Y.at d)) (λ d. sub (Y.at d)) Y.lift f g
 
   module _ (f g : Maps) (cf : IsChainMap f) (cg : IsChainMap g) where
     rest-null : (d : ℕ) → Vanishes (Y.at d) (X.null d) (rest f g d)

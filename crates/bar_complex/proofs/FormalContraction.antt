@@ -1,17 +1,18 @@
 -- The contraction of formal sums.
-use Rattle.std.specs.Prelude.{◌≡◌, ℕ, zero, suc, refl, [], ◌∷◌, ◌++◌, ◌*◌, ◌+◌}
+use Rattle.std.specs.Prelude.{◌≡◌, ℕ, zero, suc, refl, [], ◌∷◌, ◌++◌, ◌*◌, ◌+◌, List}
 use Rattle.std.proofs.Common.{sym, ◌∙◌, ap, ap₂, arith}
-use Rattle.group_modules.specs.Module.{Monoid, Module, times}
+use Rattle.group_modules.specs.Module.{Monoid, Module, Term, sub, times, lin}
+use Rattle.group_modules.specs.Operations.{linear}
 use Rattle.group_modules.specs.Field.{Below, Fp, residue, plus}
-use Rattle.group_modules.proofs.Laws.{map-times, act-times, times-zero, times-add, times-sum, sub-back}
+use Rattle.group_modules.proofs.Laws.{map-times, act-times, times-zero, times-add, times-sum, sub-back, neg-unique}
 use Rattle.group_modules.proofs.SumLaws.{lin-append}
 use Rattle.linear_algebra.proofs.Residues.{times-residue}
 use Rattle.bar_complex.specs.Tuples.{Tuple}
 use Rattle.bar_complex.specs.Boundary.{boundary}
 use Rattle.bar_complex.specs.Cochains.{IsZeroAtIdentity}
-use Rattle.bar_complex.specs.Contraction.{Chain, multiple, chain_boundary, contraction, collapsed, AreSame}
+use Rattle.bar_complex.specs.Contraction.{Chain, multiple, chains, chain_minus, single, chain_boundary, contraction, collapsed, AreSame}
 use Rattle.bar_complex.specs.Contraction as formal
-use Rattle.bar_complex.proofs.FreeModules.{term, sum, move}
+use Rattle.bar_complex.proofs.FreeModules.{term, sum, move, move-one}
 use Rattle.bar_complex.proofs.Contraction.{Bar, cons, bd, D, D-cons, D-cons-zero, D-D, collapse}
 use Rattle.bar_complex.proofs.FormalBoundary.{value, value-boundary}
 
@@ -61,7 +62,7 @@ module _ (q : ℕ) (G : Monoid) where
       (value-multiple d c g x)
       ∙ sym (times-add M c (move G g (times M.add M.zero a.coef y)) (move G g (v d x)))
 
-  value-chain : (d : ℕ) (x : Chain q G (suc d)) → v d (chain_boundary q G d x) ≡ D (suc q) G d (v (suc d) x)
+  pub value-chain : (d : ℕ) (x : Chain q G (suc d)) → v d (chain_boundary q G d x) ≡ D (suc q) G d (v (suc d) x)
   value-chain d [] = refl
   value-chain d (a ∷ x) =
       let M : Module (suc q) G = B d in
@@ -75,7 +76,7 @@ module _ (q : ℕ) (G : Monoid) where
       (term (G.mul a.elem G.one) a.base)))
       (value-chain d x)
 
-  value-contraction : (d : ℕ) (x : Chain q G d)
+  pub value-contraction : (d : ℕ) (x : Chain q G d)
       → v (suc d) (contraction q G d x) ≡ cons (suc q) G d (v d x)
   value-contraction d [] = refl
   value-contraction d (a ∷ x) =
@@ -95,8 +96,41 @@ module _ (q : ℕ) (G : Monoid) where
       ∙ sym (map-times M M (collapse (suc q) G) (λ y w. refl) a.coef (term (G.mul a.elem G.one) a.base)))
       (value-collapsed x)
 
+  value-times : (d k : ℕ) (x : Chain q G d)
+      → v d (times (λ y w. y ++ w) [] k x) ≡ times (B d).add (B d).zero k (v d x)
+  value-times d zero x = refl
+  value-times d (suc k) x =
+      lin-append (B d) (λ t. term G.one t) x (times (λ y w. y ++ w) [] k x)
+      ∙ ap ((B d).add (v d x)) (value-times d k x)
+
+  pub value-linear : {X : Type 0} (d : ℕ) (f : X → Chain q G d) (ts : List (Term G X))
+      → v d (linear (chains q G d) f ts) ≡ lin (B d) (λ x. v d (f x)) ts
+  value-linear d f [] = refl
+  value-linear d f (t ∷ ts) =
+      let M : Module (suc q) G = B d in
+      let x : Chain q G d = multiple q G d 1 t.elem (f t.base) in
+      lin-append M (λ t. term G.one t) (times (λ y w. y ++ w) [] t.coef x) (linear (chains q G d) f ts)
+      ∙ ap₂ M.add
+      (value-times d t.coef x
+      ∙ ap (times M.add M.zero t.coef)
+      (value-multiple d 1 t.elem (f t.base) ∙ M.add-zero (move G t.elem (v d (f t.base)))))
+      (value-linear d f ts)
+
+  pub value-minus : (d : ℕ) (x y : Chain q G d) → v d (chain_minus q G d x y) ≡ sub (B d) (v d x) (v d y)
+  value-minus d x y =
+      let M : Module (suc q) G = B d in
+      lin-append M (λ t. term G.one t) x (multiple q G d q G.one y)
+      ∙ ap (M.add (v d x))
+      (value-multiple d q G.one y ∙ ap (times M.add M.zero q) (move-one G (v d y))
+      ∙ neg-unique M (v d y) (times M.add M.zero q (v d y)) (M.times-p (v d y)))
+
+  pub value-single : (d : ℕ) (t : Tuple G.elem d) → v d (single q G d t) ≡ term G.one t
+  value-single d t =
+      let M : Module (suc q) G = B d in
+      M.add-zero _ ∙ M.add-zero _ ∙ ap (λ g. term g t) (G.mul-one G.one)
+
   -- formal sums for one element of the bar complex are the same
-  same : (d : ℕ) (x y : Chain q G d) → v d x ≡ v d y → AreSame q G d x y
+  pub same : (d : ℕ) (x y : Chain q G d) → v d x ≡ v d y → AreSame q G d x y
   same d x y e f z = value-at d f z x ∙ ap (at d f z) e ∙ sym (value-at d f z y)
 
   pub boundary-twice : (d : ℕ) (x : Chain q G (suc (suc d)))

@@ -2,6 +2,7 @@
 -- Groups", I.5).
 use Rattle.std.specs.Prelude.{◌≡◌, ℕ, zero, suc, List, [], ◌∷◌, ◌++◌, ◌*◌, map}
 use Rattle.group_modules.specs.Module.{Monoid, Term}
+use Rattle.group_modules.specs.Operations.{Ops}
 use Rattle.group_modules.specs.Field.{Below, residue, plus}
 use Rattle.bar_complex.specs.Tuples.{Tuple}
 use Rattle.bar_complex.specs.Boundary.{boundary}
@@ -15,6 +16,18 @@ module _ (q : ℕ) (G : Monoid) where
   -- c g times a formal sum
   abbrev pub multiple : (d : ℕ) → ℕ → G.elem → Chain d → Chain d
   multiple d c g x = map (λ a. record { coef = c * a.coef; elem = G.mul g a.elem; base = a.base }) x
+
+  -- x - y, where -1 is p - 1
+  abbrev pub chain_minus : (d : ℕ) → Chain d → Chain d → Chain d
+  chain_minus d x y = x ++ multiple d q G.one y
+
+  -- the formal sums of degree d, with their sums and the action of the group
+  abbrev pub chains : ℕ → Ops G.elem
+  chains d = record { of = Chain d; zero = []; add = λ x y. x ++ y; act = λ g x. multiple d 1 g x }
+
+  -- the tuple t as a formal sum
+  abbrev pub single : (d : ℕ) → Tuple G.elem d → Chain d
+  single d t = record { coef = 1; elem = G.one; base = t } ∷ []
 
   -- the boundary of a formal sum, linear over the group algebra
   abbrev pub chain_boundary : (d : ℕ) → Chain (suc d) → Chain d
