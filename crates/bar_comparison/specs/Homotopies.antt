@@ -17,8 +17,8 @@ use Rattle.bar_complex.specs.Homotopies.{homotopy}
 use Rattle.bar_comparison.specs.Comparison.{comparison}
 
 module _ {n : ℕ} (q : ℕ) (Γ : Group n) (K : Coordinates q Γ) (S : StageRows) where
-  -- where the basis goes: 1 to the empty tuple, and a basis element of higher degree to the contraction of the
-  -- value at its boundary
+  -- where the basis goes: 1 to the empty tuple, and a basis element of higher degree to the contraction of
+  -- the value at its boundary
   abbrev pub back : (d : ℕ) → Below (rank q Γ S.ranks d) → Chain q (monoid Γ) d
   back =
       steps (λ d. Below (rank q Γ S.ranks d)) (row_terms q Γ K S) (chains q (monoid Γ))

@@ -22,8 +22,8 @@ module _ {n : ℕ} (q : ℕ) (Γ : Group n) (K : Coordinates q Γ) (S : StageRow
     pub back_chain_map : (d : ℕ) (i : Below (rank q Γ S.ranks (suc d)))
         → AreSame q (monoid Γ) d (chain_boundary q (monoid Γ) d (back q Γ K S (suc d) i))
         (to_bar q Γ K S d (row_table q Γ K S d i))
-    -- on the stages, the boundary of h and h of the boundary make the way to the bar complex and back less the
-    -- identity
+    -- on the stages, the boundary of h and h of the boundary make the way to the bar complex and back less
+    -- the identity
     pub stages_start : (i : Below (rank q Γ S.ranks 0))
         → stages.boundary q Γ K S 0 (stage_homotopy q Γ K S 0 i)
         ≡ sub (free q Γ K S 0) (to_stages q Γ K S 0 (back q Γ K S 0 i)) (unit q Γ (rank q Γ S.ranks 0) i)

@@ -62,7 +62,8 @@ module _ (q : ℕ) (G : Monoid) where
       (value-multiple d c g x)
       ∙ sym (times-add M c (move G g (times M.add M.zero a.coef y)) (move G g (v d x)))
 
-  pub value-chain : (d : ℕ) (x : Chain q G (suc d)) → v d (chain_boundary q G d x) ≡ D (suc q) G d (v (suc d) x)
+  pub value-chain : (d : ℕ) (x : Chain q G (suc d))
+      → v d (chain_boundary q G d x) ≡ D (suc q) G d (v (suc d) x)
   value-chain d [] = refl
   value-chain d (a ∷ x) =
       let M : Module (suc q) G = B d in

@@ -47,8 +47,9 @@ module _ (q : ℕ) (G : Monoid) where
   value d f [] = residue q 0
   value d f (a ∷ x) = plus q (residue q (a.coef * (f a.elem a.base).0)) (value d f x)
 
-  -- x and y are the same in the normalised bar complex: each function that is 0 where an entry of the tuple is
-  -- the identity has the same value at both
+  -- x and y are the same in the normalised bar complex: each function that is 0 where an entry of the tuple
+  -- is the identity has the same value at both
   abbrev pub AreSame : (d : ℕ) → (x y : Chain d) → Type 0
-  AreSame d x y = (f : G.elem → Tuple G.elem d → Below (suc q)) → ((g : G.elem) → IsZeroAtIdentity q G d (f g))
+  AreSame d x y =
+      (f : G.elem → Tuple G.elem d → Below (suc q)) → ((g : G.elem) → IsZeroAtIdentity q G d (f g))
       → value d f x ≡ value d f y

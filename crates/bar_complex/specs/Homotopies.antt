@@ -2,8 +2,8 @@
 use Rattle.std.specs.Prelude.{ℕ, zero, suc, List}
 use Rattle.group_modules.specs.Operations.{Ops, Term, linear}
 
--- the first complex by bases and the boundaries of their members, as formal sums; the second by the operations
--- of its modules, with differences and a contraction s; and the maps f and g by their values at the bases
+-- the first complex by bases and the boundaries of their members, as formal sums; the second by the
+-- operations of its modules, with differences and a contraction s; f and g by their values at the bases
 module _ {E : Type 0} (basis : ℕ → Type 0) (boundary : (d : ℕ) → basis (suc d) → List (Term E (basis d)))
     (M : ℕ → Ops E) (minus : (d : ℕ) → (M d).of → (M d).of → (M d).of)
     (s : (d : ℕ) → (M d).of → (M (suc d)).of) (f g : (d : ℕ) → basis d → (M d).of) where
