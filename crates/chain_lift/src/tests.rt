@@ -95,13 +95,24 @@ fn lifted_before(rt: &impl Abort, alloc: Global, resolution: &mut Resolution) ->
     Ok(lift)
 }
 
+// Makes the maps of a lift of a class of degree 1 up to a height.
+fn raise(rt: &impl Abort, resolution: &Resolution, lift: &mut Lift, height: u32) -> Result<(), Fail>
+    requires { resolution.now.group ≡ lift.old.group }
+    ensures { lift.new.group ≡ lift.old.group }
+{
+    assert!(rt; height <= 24);
+    assert_eq!(rt; lift.degree(), 1);
+    assert!(rt; 1 + height <= resolution.last());
+    lift.extend_to(resolution, height)?;
+    Ok(())
+}
+
 #[test]
 fn extends_over_a_grown_resolution(rt: HostRuntime) -> Result<(), Fail> {
     let mut resolution = resolved(&rt, rt.alloc(), SmallGroup::Two, 1)?;
     let mut lift = lifted_before(&rt, rt.alloc(), &mut resolution)?;
-    assert!(rt; resolution.last() == 6 && lift.degree() == 1);
-    lift.extend_to(&resolution, 5)?;
-    lift.extend_to(&resolution, 2)?;
+    raise(&rt, &resolution, &mut lift, 5)?;
+    raise(&rt, &resolution, &mut lift, 2)?;
     assert!(rt; lift.height() == 5 && shows(lift.class(), &[1]));
     let product = product_with(&rt, rt.alloc(), &resolution, 5, 0, &lift)?;
     assert!(rt; shows(product.view(), &[1]));
@@ -125,6 +136,23 @@ fn product(
     product_with(rt, alloc, resolution, 1, i, &lift)
 }
 
+// The sum of the products of basis classes i and k of degree 1, for these pairs.
+fn sum_of_products(
+    rt: &impl Abort,
+    alloc: Global,
+    resolution: &Resolution,
+    pairs: &[(usize, usize)],
+) -> Result<Row, Fail> {
+    let mut sum = zero(alloc, resolution, 2)?;
+    for (i, k) in pairs {
+        let term = product(rt, alloc, resolution, *i, *k)?;
+        assert!(rt; term.len() == sum.len());
+        assert!(rt; resolution.algebra().group().prime().value() > 1);
+        sum.add(1, term.view());
+    }
+    Ok(sum)
+}
+
 // Whether the products of basis classes i and k of degree 1, for these pairs, add up to 0.
 fn vanishes(
     rt: &impl Abort,
@@ -133,13 +161,7 @@ fn vanishes(
     pairs: &[(usize, usize)],
 ) -> Result<bool, Fail> {
     let resolution = resolved(rt, alloc, kind, 2)?;
-    let mut sum = zero(alloc, &resolution, 2)?;
-    for (i, k) in pairs {
-        let term = product(rt, alloc, &resolution, *i, *k)?;
-        assert!(rt; term.len() == sum.len());
-        assert!(rt; resolution.algebra().group().prime().value() > 1);
-        sum.add(1, term.view());
-    }
+    let sum = sum_of_products(rt, alloc, &resolution, pairs)?;
     Ok((0..sum.len()).all(|i| sum.get(i) == 0))
 }
 
