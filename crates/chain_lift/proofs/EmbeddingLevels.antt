@@ -1,5 +1,5 @@
 -- The maps that the map of an embedding keeps, and the next one.
-use Rattle.std.proofs.Common.{◌≡◌, ℕ, zero, suc, ◌+◌, ◌-◌, ◌*◌, ◌^◌, ◌<◌, ◌≤◌, ◌⊎◌, List, [], ◌∷◌, ◌++◌, length, get_or, take, inl, inr, arith, ap, ap₂, sym, ◌∙◌}
+use Rattle.std.proofs.Common.{◌≡◌, ℕ, zero, suc, ◌+◌, ◌-◌, ◌*◌, ◌^◌, ◌<◌, ◌≤◌, ◌⊎◌, List, [], ◌∷◌, ◌++◌, length, map, get_or, take, inl, inr, arith, ap, ap₂, sym, ◌∙◌}
 use Rattle.std.proofs.lemmas.Bool.{cases_lt}
 use Rattle.std.proofs.lemmas.List.{get_or_append_left, get_or_push, length_push, length-take-le, get_or-take}
 use mathlib.Core.Path.{subst}
@@ -15,14 +15,16 @@ use Rattle.min_res.proofs.StageReadings.{above-zero, source-width, prime}
 use Rattle.chain_maps_along.specs.Along.{IsHomomorphism}
 use Rattle.chain_lift.specs.declared.level.Level.{Level}
 use Rattle.chain_lift.specs.MapsAlong.{IsMapAlong}
-use Rattle.chain_lift.specs.Embeddings.{elementary, elementary_over, embedding}
+use Rattle.chain_lift.specs.Embeddings.{elementary, elementary_over, embedding, restrict_row}
 use Rattle.chain_lift.specs.EmbeddingValues.{EmbedValue}
+use Rattle.group_cocycles.specs.Cocycles.{cocycle_of, IsClassOf}
 use Rattle.chain_lift.specs.EmbeddingStores.{IsEmbedLevel, IsEmbedStore}
 use Rattle.chain_lift.specs.EmbeddingRows.{AreImages, FitAlong, listed, value_along}
 use Rattle.chain_lift.specs.RowMaps.{image_row, section_of}
 use Rattle.chain_lift.proofs.Stages.{image-is-row}
 use Rattle.chain_lift.proofs.EmbeddingElements.{homomorphism, images-are, listed-is}
 use Rattle.chain_lift.proofs.EmbeddingMaps.{next-map}
+use Rattle.chain_lift.proofs.RestrictedClasses.{restricted-class}
 
 -- the map at a place
 pub level-at : (v : EmbedValue) (s : NumberedSubgroup) (levels : List Level) → IsEmbedStore v s levels
@@ -38,6 +40,20 @@ pub rows-at : (v w : EmbedValue) (s : NumberedSubgroup) (levels : List Level) �
     → IsMapAlong w.group (elementary_over w.group (length w.basis)) (embedding w.group w.basis) d l.rows
 rows-at v w s levels e S d l m k = (level-at w s levels (subst (λ x. IsEmbedStore x s levels) e S) d l m
     k).rows_are
+
+-- the restriction to the subgroup is the class of the restricted cocycle, for an equal value
+pub class-at : (v w : EmbedValue) (s : NumberedSubgroup) (levels : List Level) → v ≡ w
+    → IsEmbedStore v s levels → (d : ℕ) (x : List ℕ)
+    → IsClassOf (elementary w.group (length w.basis)) d
+    (λ xs. cocycle_of w.group d x (map (embedding w.group w.basis) xs)) (restrict_row w.group w.basis d x)
+class-at v w s levels e S d x = subst IsRestricted e
+    (restricted-class v.group (elementary_over v.group (length v.basis)) (embedding v.group v.basis)
+    (subst (λ bs. IsHomomorphism (group (elementary v.group (length bs))) (group v.group)
+    (embedding v.group bs)) S.basis (homomorphism v.group s S.subgroup)) d x)
+  where
+    IsRestricted : EmbedValue → Type 0
+    IsRestricted u = IsClassOf (elementary u.group (length u.basis)) d
+        (λ xs. cocycle_of u.group d x (map (embedding u.group u.basis) xs)) (restrict_row u.group u.basis d x)
 
 -- the subgroup lists the elements, for an equal basis
 pub images-at : (G : PGroup) (basis : List ℕ) (s : NumberedSubgroup) → IsSubgroupOf G.table s → s.basis

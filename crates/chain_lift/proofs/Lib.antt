@@ -9,3 +9,5 @@ pub mod EmbeddingRows
 pub mod EmbeddingMaps
 pub mod EmbeddingElements
 pub mod EmbeddingLevels
+pub mod CupProducts
+pub mod RestrictedClasses

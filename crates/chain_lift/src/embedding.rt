@@ -1,11 +1,12 @@
 //! Maps of resolutions along the embeddings of elementary abelian subgroups, and restrictions of classes.
 
-ghost use Rattle.chain_lift.specs.Embeddings.{elementary, restrict_row};
+ghost use Rattle.chain_lift.specs.Embeddings.{elementary, embedding, restrict_row};
 ghost use Rattle.chain_lift.specs.EmbeddingStores.{IsEmbedLevel};
 ghost use Rattle.elementary_subgroups.specs.Bases.{IsSubgroupOf};
 ghost use Rattle.fp_rows.specs.Refs.{entries_of, modulus_of};
+ghost use Rattle.group_cocycles.specs.Cocycles.{cocycle_of, IsClassOf};
 ghost use Rattle.min_res.specs.Stages.{rank_of};
-ghost use Rattle.std.specs.Prelude.{◌≡◌, ◌≤◌, ◌<◌, max, suc, length, IfOk, OnErr, OnOk};
+ghost use Rattle.std.specs.Prelude.{◌≡◌, ◌≤◌, ◌<◌, max, suc, length, map, IfOk, OnErr, OnOk};
 ghost use Rattle.p_groups.specs.PGroups.{prime_of};
 
 use crate::embedding_maps::next_rows_along;
@@ -179,7 +180,9 @@ impl EmbedMap {
         Ok(())
     }
 
-    /// Writes the restriction to the subgroup of a class of degree d, which is at most the height.
+    /// Writes the restriction to the subgroup of a class of degree d, which is at most the height: the one class
+    /// whose cocycle differs by a coboundary from that of the class at tuples of the subgroup (Brown, "Cohomology
+    /// of Groups", III.8).
     pub fn restrict(&self, d: u32, class: RowRef<'_>, out: &mut Row)
         requires degree { d ≤ self.now.height }
         requires prime { modulus_of class ≡ prime_of self.now.group }
@@ -190,6 +193,9 @@ impl EmbedMap {
         ensures prime { out.new.p ≡ out.old.p }
         ensures value { out.new.entries ≡ restrict_row self.now.group self.now.basis d
             (entries_of class.entry) }
+        ensures cocycle { IsClassOf (elementary self.now.group (length self.now.basis)) d
+            (λ xs. cocycle_of self.now.group d (entries_of class.entry)
+            (map (embedding self.now.group self.now.basis) xs)) out.new.entries }
     {
         let level = &self.levels[d as usize];
         write_pairings(class, &level.rows, out);

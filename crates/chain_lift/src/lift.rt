@@ -3,6 +3,7 @@
 ghost use Rattle.chain_lift.specs.Products.{product_row};
 ghost use Rattle.chain_lift.specs.Stores.{IsLevel};
 ghost use Rattle.fp_rows.specs.Refs.{entries_of, modulus_of};
+ghost use Rattle.group_cocycles.specs.Cocycles.{cocycle_of, cup, IsClassOf};
 ghost use Rattle.min_res.specs.Stages.{rank_of};
 ghost use Rattle.std.specs.Prelude.{◌≡◌, ◌≤◌, ◌<◌, ◌+◌, max, suc, length, IfOk, OnErr, OnOk};
 ghost use Rattle.p_groups.specs.PGroups.{prime_of};
@@ -191,7 +192,9 @@ impl Lift {
         Ok(())
     }
 
-    /// Writes the product of a class a of degree j, which is at most the height, and the class of the lift.
+    /// Writes the product of a class a of degree j, which is at most the height, and the class of the lift: the
+    /// one class whose cocycle differs by a coboundary from the cup product of theirs (Brown, "Cohomology of
+    /// Groups", V.3).
     pub fn product(&self, j: u32, a: RowRef<'_>, out: &mut Row)
         requires degree { j ≤ self.now.height }
         requires prime { modulus_of a ≡ prime_of self.now.group }
@@ -201,6 +204,9 @@ impl Lift {
         ensures prime { out.new.p ≡ out.old.p }
         ensures value { out.new.entries
             ≡ product_row self.now.group j self.now.degree (entries_of a.entry) self.now.class }
+        ensures cup_product { IsClassOf self.now.group (j + self.now.degree)
+            (cup self.now.group j (cocycle_of self.now.group j (entries_of a.entry))
+            (cocycle_of self.now.group self.now.degree self.now.class)) out.new.entries }
     {
         let level = &self.levels[j as usize];
         write_pairings(a, &level.rows, out);

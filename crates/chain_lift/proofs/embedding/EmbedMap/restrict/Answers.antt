@@ -1,4 +1,4 @@
-use Rattle.std.proofs.Common.{◌≡◌, ◌≤◌, ◌*◌, ◌<◌, suc, length, get_or, arith, ap, sym, ◌∙◌}
+use Rattle.std.proofs.Common.{◌≡◌, ◌≤◌, ◌*◌, ◌<◌, suc, length, get_or, map, arith, ap, sym, ◌∙◌}
 use Rattle.std.proofs.Math.Nat.{mul-le-mul_left}
 use mathlib.Core.Path.{subst}
 use Rattle.group_table.specs.Tables.{order}
@@ -6,13 +6,14 @@ use Rattle.linear_algebra.specs.Rows.{entry, IsRow}
 use Rattle.fp_rows.specs.Refs.{entries_of}
 use Rattle.p_groups.specs.PGroups.{largest_residue}
 use Rattle.p_groups.proofs.Fields.{residues}
+use Rattle.group_cocycles.specs.Cocycles.{cocycle_of, IsClassOf}
 use Rattle.min_res.specs.Stages.{rank_of}
 use Rattle.chain_lift.specs.declared.level.Level.{Level}
 use Rattle.chain_lift.specs.EmbeddingValues.{EmbedValue}
 use Rattle.chain_lift.specs.EmbeddingStores.{IsEmbedStore}
 use Rattle.chain_lift.specs.MapsAlong.{IsMapAlong}
-use Rattle.chain_lift.specs.Embeddings.{elementary_over, embedding}
-use Rattle.chain_lift.proofs.EmbeddingLevels.{rows-at}
+use Rattle.chain_lift.specs.Embeddings.{elementary, elementary_over, embedding}
+use Rattle.chain_lift.proofs.EmbeddingLevels.{rows-at, class-at}
 use Rattle.chain_lift.proofs.EmbeddingMaps.{restriction-is}
 use Rattle.chain_lift.proofs.embedding.EmbedMap.restrict.Goals as goal
 
@@ -70,3 +71,11 @@ returns-clause-value c =
     c.index-level.result.now.rows _ M r
     (c.write_pairings.ensures.length ∙ c.requires.out_length ∙ sym M.count)
     c.write_pairings.ensures.value
+
+pub returns-clause-cocycle : goal.returns-clause-cocycle
+returns-clause-cocycle c =
+    subst (λ x. IsClassOf (elementary c.args.self.now.group (length c.args.self.now.basis)) c.args.d
+    (λ xs. cocycle_of c.args.self.now.group c.args.d (entries_of c.args.class)
+    (map (embedding c.args.self.now.group c.args.self.now.basis) xs)) x)
+    (sym (returns-clause-value c))
+    (class-at _ _ _ _ c.self.view_is c.self.invariant c.args.d (entries_of c.args.class))

@@ -1,4 +1,4 @@
-use Rattle.std.proofs.Common.{◌≡◌, ◌≤◌, ◌*◌, ◌<◌, suc, length, arith, ap, sym, ◌∙◌}
+use Rattle.std.proofs.Common.{◌≡◌, ◌≤◌, ◌+◌, ◌*◌, ◌<◌, suc, length, arith, ap, sym, ◌∙◌}
 use Rattle.std.proofs.Math.Nat.{mul-le-mul_left}
 use mathlib.Core.Path.{subst}
 use Rattle.group_table.specs.Tables.{order}
@@ -8,9 +8,11 @@ use Rattle.p_groups.specs.PGroups.{largest_residue}
 use Rattle.p_groups.proofs.Fields.{residues}
 use Rattle.min_res.specs.Stages.{rank_of}
 use Rattle.chain_maps.proofs.Vectors.{ahead-is}
+use Rattle.group_cocycles.specs.Cocycles.{cup, cocycle_of, IsClassOf}
 use Rattle.chain_lift.specs.Stores.{IsLiftStore}
 use Rattle.chain_lift.specs.Maps.{IsLiftMap}
 use Rattle.chain_lift.proofs.Levels.{level-at}
+use Rattle.chain_lift.proofs.CupProducts.{product-class}
 use Rattle.chain_lift.proofs.Pairings.{product-is}
 use Rattle.chain_lift.proofs.lift.Lift.product.Goals as goal
 
@@ -81,3 +83,12 @@ returns-clause-value c =
     (c.write_pairings.ensures.length ∙ c.requires.out_length
     ∙ ap (rank_of c.args.self.now.group) (sym (ahead-is c.args.self.now.degree c.args.j)) ∙ sym M.count)
     c.write_pairings.ensures.value
+
+pub returns-clause-cup_product : goal.returns-clause-cup_product
+returns-clause-cup_product c =
+    subst (λ x. IsClassOf c.args.self.now.group (c.args.j + c.args.self.now.degree)
+    (cup c.args.self.now.group c.args.j (cocycle_of c.args.self.now.group c.args.j (entries_of c.args.a))
+    (cocycle_of c.args.self.now.group c.args.self.now.degree c.args.self.now.class)) x)
+    (sym (returns-clause-value c))
+    (product-class c.args.self.now.group c.args.j c.args.self.now.degree (entries_of c.args.a)
+    c.args.self.now.class)
