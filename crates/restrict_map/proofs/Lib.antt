@@ -1,1 +1,2 @@
 pub mod Restrictions
+pub mod RestrictedClasses

@@ -1,8 +1,10 @@
 -- Tables of restricted classes.
-use Rattle.std.specs.Prelude.{ℕ, List, [], ◌∷◌, map}
+use Rattle.std.specs.Prelude.{ℕ, ◌<◌, List, [], ◌∷◌, length, map, slice_index}
 use Rattle.fp_rows.specs.Values.{RowValue}
 use Rattle.p_groups.specs.PGroups.{PGroup, prime_of}
-use Rattle.chain_lift.specs.Embeddings.{restrict_row}
+use Rattle.group_cocycles.specs.Cocycles.{cocycle_of, IsClassOf}
+use Rattle.chain_lift.specs.Embeddings.{elementary, embedding, restrict_row}
+use Rattle.restrict_map.specs.Classes.{class_at}
 use Rattle.restrict_map.specs.declared.tables.Restricted.{Restricted}
 
 -- the restriction of a class of degree d to the subgroup with this basis, with its degree
@@ -22,3 +24,11 @@ degrees_of t = map (λ r. r.degree) t
 
 abbrev pub classes_of : List Restricted → List RowValue
 classes_of t = map (λ r. r.class) t
+
+-- member i of the table is the one class whose cocycle on the subgroup with this basis differs by a coboundary
+-- from that of class i at tuples of the subgroup, for each i
+abbrev pub AreRestrictedClasses : PGroup → List ℕ → List ℕ → List RowValue → List Restricted → Type 0
+AreRestrictedClasses G basis degrees classes t = (i : ℕ) → i < length classes
+    → IsClassOf (elementary G (length basis)) (slice_index degrees i)
+    (λ xs. cocycle_of G (slice_index degrees i) (class_at classes i).entries (map (embedding G basis) xs))
+    (class_at (classes_of t) i).entries

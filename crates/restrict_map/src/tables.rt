@@ -5,7 +5,7 @@ ghost use Rattle.chain_lift.specs.Embeddings.{elementary};
 ghost use Rattle.elementary_subgroups.specs.Bases.{IsSubgroupOf};
 ghost use Rattle.fp_rows.specs.Refs.{entries_of, modulus_of};
 ghost use Rattle.restrict_map.specs.Classes.{class_at, AreClassesOf};
-ghost use Rattle.restrict_map.specs.Restrictions.{classes_of, degrees_of, restrictions};
+ghost use Rattle.restrict_map.specs.Restrictions.{AreRestrictedClasses, classes_of, degrees_of, restrictions};
 
 use crate::class_list::ClassList;
 use chain_lift::EmbedMap;
@@ -103,7 +103,8 @@ pub fn table(
     requires own { re.now.group ≡ elementary rg.now.group (length e.now.basis) }
     requires classes { AreClassesOf rg.now.group rg.now.last degrees.now classes.now }
     requires within { (i : ℕ) → i < length classes.now → slice_index degrees.now i ≤ re.now.last }
-    ensures { IfOk result (λ t. t ≡ restrictions rg.now.group e.now.basis degrees.now classes.now) }
+    ensures value { IfOk result (λ t. t ≡ restrictions rg.now.group e.now.basis degrees.now classes.now) }
+    ensures cocycles { IfOk result (AreRestrictedClasses rg.now.group e.now.basis degrees.now classes.now) }
 {
     let prime = rg.algebra().group().prime();
     let mut map = EmbedMap::new(alloc, e, re, rg)?;

@@ -7,7 +7,8 @@ use Rattle.chain_lift.specs.EmbeddingValues.{EmbedValue}
 use Rattle.restrict_map.specs.declared.tables.Restricted.{Restricted}
 use Rattle.restrict_map.specs.Classes.{class_at}
 use Rattle.restrict_map.specs.Restrictions.{restricted}
-use Rattle.restrict_map.proofs.Restrictions.{first_restrictions, one-more}
+use Rattle.restrict_map.proofs.Restrictions.{first_restrictions, one-more, all-of-them}
+use Rattle.restrict_map.proofs.RestrictedClasses.{restricted-classes}
 use Rattle.restrict_map.proofs.tables.table.Goals as goal
 
 pub loop-i-preserved : goal.loop-i-preserved
@@ -43,3 +44,11 @@ loop-i-preserved c =
           ∙ ap (first_restrictions G basis c.args.degrees.now c.args.classes.now)
           (let z : suc i ≡ i + 1 = omega arith in z);
     }
+
+pub returns-clause-cocycles : goal.returns-clause-cocycles
+returns-clause-cocycles c =
+    restricted-classes c.args.rg.now.group c.args.e.now c.requires.subgroup c.args.degrees.now
+    c.args.classes.now _ c.requires.classes.count
+    (c.loop-i.invariant.made
+    ∙ all-of-them c.args.rg.now.group c.args.e.now.basis c.args.degrees.now c.args.classes.now c.loop-i.i
+    c.requires.classes.count (omega (arith, c.len-i-end.ensures, c.loop-i-test.false, c.loop-i.auto.i-end)))
