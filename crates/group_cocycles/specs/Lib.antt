@@ -1,1 +1,2 @@
 pub mod Cocycles
+pub mod Rings

@@ -17,3 +17,4 @@ pub mod RelationSteps
 pub mod RowSteps
 pub mod MultipleSteps
 pub mod RelationsOver
+pub mod Cohomology

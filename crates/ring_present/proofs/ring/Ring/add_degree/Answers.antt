@@ -9,11 +9,12 @@ use Rattle.graded_polynomials.specs.Polynomials.{Polynomial}
 use Rattle.gc_poly.specs.Generators.{Generators}
 use Rattle.chain_lift.specs.Values.{LiftValue}
 use Rattle.ring_present.specs.Values.{RingValue, GeneratorValue}
-use Rattle.ring_present.specs.Degrees.{lifted}
+use Rattle.ring_present.specs.Degrees.{classes, lifted}
 use Rattle.ring_present.specs.Prefixes.{IsPrefix}
 use Rattle.ring_present.specs.Refusals.{IsRefusal}
-use Rattle.ring_present.specs.Stores.{IsRingStore}
+use Rattle.ring_present.specs.Stores.{IsRingOf, IsRingStore}
 use Rattle.ring_present.specs.declared.degree.Degree.{Degree}
+use Rattle.ring_present.proofs.Cohomology.{presents-cohomology}
 use Rattle.ring_present.proofs.Shown.{degrees-lifted}
 use Rattle.ring_present.proofs.Stores.{store-same, store-known, lifted-kept, on-err-five, after}
 use Rattle.ring_present.proofs.ring.Ring.add_degree.Goals as goal
@@ -112,3 +113,11 @@ returns-clause-kept c =
     (λ a b l r d. same-view n.gens k.gens n.group k.group n.lifts.items k.lifts.items n.relations.items
     k.relations.items n.degrees.items k.degrees.items b a (lifted-kept n.lifts.items k.lifts.items l) r d
     ∙ c.self.view_is)
+
+pub returns-clause-cohomology : goal.returns-clause-cohomology
+returns-clause-cohomology c =
+    let n = c.add_degree.new.self in
+    on_ok_weaker c.add_degree.result
+    (λ (r : IsRingOf c.args.res.now.group n.gens n.lifts.items n.relations.items n.degrees.items).
+    presents-cohomology c.args.res.now.group (length n.degrees.items) (classes c.args.res.now.group n.lifts.items)
+    n.relations.items r.presentation) c.add_degree.ensures.ring
