@@ -4,8 +4,15 @@
 #![tactic(auto)]
 
 ghost use Rattle.group_cocycles.specs.Cocycles.{cocycle_of, GroupCochain, IsClass, IsClassOf, IsCoboundary, IsCocycle};
+ghost use Rattle.cohomology_algebra.specs.Claims.{IsPresentation};
+ghost use Rattle.graded_algebra.specs.Algebras.{Generator};
+ghost use Rattle.graded_algebra.specs.Vectors.{Vector};
+ghost use Rattle.graded_polynomials.specs.Polynomials.{Polynomial};
+ghost use Rattle.group_algebra.specs.Coordinates.{layer_coordinates};
+ghost use Rattle.group_cocycles.specs.Rings.{cocycles_of, IsCohomologyRing};
 ghost use Rattle.linear_algebra.specs.Rows.{entry};
-ghost use Rattle.p_groups.specs.PGroups.{PGroup};
+ghost use Rattle.min_res.specs.Stages.{stage_rows};
+ghost use Rattle.p_groups.specs.PGroups.{PGroup, group, largest_residue};
 ghost use Rattle.std.specs.Prelude.{◌≡◌, ℕ, List};
 
 /// The cocycle of a class is a cocycle.
@@ -23,4 +30,12 @@ pub fn coboundary_law()
 pub fn one_class_law()
     ensures { (G : PGroup) (d : ℕ) (u : GroupCochain G) → IsCocycle G d u
         → (x : List ℕ) × IsClassOf G d u x }
+{}
+
+/// Generators and relations through a degree, by classes with products by lifts, are those of the cohomology ring
+/// of the bar complex. They exist through every degree (`presentations_exist` of `presentation_rows`).
+pub fn ring_law()
+    ensures { (G : PGroup) (n : ℕ) (gs : List (Generator (Vector (largest_residue G)))) (rs : List Polynomial)
+        → IsPresentation (largest_residue G) (group G) (layer_coordinates G) (stage_rows G) n gs rs
+        → IsCohomologyRing G n (cocycles_of G gs) rs }
 {}

@@ -12,7 +12,7 @@ ghost use Rattle.gc_poly.specs.Polynomials.{IsOverGenerators};
 ghost use Rattle.presentation_rows.specs.Values.{vector};
 ghost use Rattle.fp_rows.specs.Refs.{entries_of, modulus_of};
 ghost use Rattle.min_res.specs.Stages.{rank_of};
-ghost use Rattle.group_cocycles.specs.Rings.{PresentsCohomology};
+ghost use Rattle.group_cocycles.specs.Rings.{cocycles_of, IsCohomologyRing};
 ghost use Rattle.ring_present.specs.Rings.{cohomology, IsPresentation};
 ghost use Rattle.ring_present.specs.Values.{GeneratorValue, generators_of, standard_of};
 ghost use Rattle.ring_present.specs.Standard.{AreStandard};
@@ -109,8 +109,9 @@ impl Ring {
         ensures degree { OnOk result (self.new.degree ≡ suc self.old.degree) }
         ensures presentation { OnOk result (IsPresentation res.now.group self.new.degree
             (generators_of (largest_residue res.now.group) self.new.generators) self.new.relations) }
-        ensures cohomology { OnOk result (PresentsCohomology res.now.group self.new.degree
-            (generators_of (largest_residue res.now.group) self.new.generators) self.new.relations) }
+        ensures cohomology { OnOk result (IsCohomologyRing res.now.group self.new.degree
+            (cocycles_of res.now.group
+            (generators_of (largest_residue res.now.group) self.new.generators)) self.new.relations) }
         ensures generators_kept { OnOk result (IsPrefix self.old.generators self.new.generators) }
         ensures relations_kept { OnOk result (IsPrefix self.old.relations self.new.relations) }
         ensures standard_kept { OnOk result (IsPrefix self.old.standard self.new.standard) }

@@ -14,7 +14,7 @@ use Rattle.ring_present.specs.Prefixes.{IsPrefix}
 use Rattle.ring_present.specs.Refusals.{IsRefusal}
 use Rattle.ring_present.specs.Stores.{IsRingOf, IsRingStore}
 use Rattle.ring_present.specs.declared.degree.Degree.{Degree}
-use Rattle.ring_present.proofs.Cohomology.{presents-cohomology}
+use Rattle.ring_present.proofs.Cohomology.{cohomology-ring}
 use Rattle.ring_present.proofs.Shown.{degrees-lifted}
 use Rattle.ring_present.proofs.Stores.{store-same, store-known, lifted-kept, on-err-five, after}
 use Rattle.ring_present.proofs.ring.Ring.add_degree.Goals as goal
@@ -119,5 +119,5 @@ returns-clause-cohomology c =
     let n = c.add_degree.new.self in
     on_ok_weaker c.add_degree.result
     (λ (r : IsRingOf c.args.res.now.group n.gens n.lifts.items n.relations.items n.degrees.items).
-    presents-cohomology c.args.res.now.group (length n.degrees.items) (classes c.args.res.now.group n.lifts.items)
+    cohomology-ring c.args.res.now.group (length n.degrees.items) (classes c.args.res.now.group n.lifts.items)
     n.relations.items r.presentation) c.add_degree.ensures.ring
