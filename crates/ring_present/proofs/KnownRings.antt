@@ -1,6 +1,6 @@
 -- What a ring is, from what it keeps.
-use Rattle.std.proofs.Common.{◌≡◌, ℕ, ◌-◌, ◌<◌, List, [], length, map, arith, ap, sym, ◌∙◌, refl}
-use Rattle.std.specs.Prelude.{slice_index_or, Option, Some, None, MatchOption}
+use Rattle.std.proofs.Common.{◌≡◌, ℕ, ◌<◌, List, length, map, arith, ap, sym, ◌∙◌}
+use Rattle.std.specs.Prelude.{slice_index_or, Option, Some, None}
 use Rattle.std.proofs.lemmas.List.{length-map, get_or-map}
 use mathlib.Core.Path.{subst}
 use Rattle.p_groups.specs.PGroups.{PGroup}
@@ -10,13 +10,13 @@ use Rattle.gc_poly.specs.Polynomials.{IsOverGenerators}
 use Rattle.min_res.specs.Stages.{rank_of}
 use Rattle.chain_lift.specs.Values.{LiftValue}
 use Rattle.ring_present.specs.Values.{RingValue, GeneratorValue}
-use Rattle.ring_present.specs.Known.{IsKnown, IsStart, IsThrough}
+use Rattle.ring_present.specs.Known.{IsKnown}
 use Rattle.ring_present.specs.Degrees.{lifted, IsLiftBelow}
-use Rattle.ring_present.specs.Stores.{IsRingOf, IsRingStore}
+use Rattle.ring_present.specs.Stores.{IsRingStore}
 use Rattle.ring_present.specs.declared.degree.Degree.{Degree}
 use Rattle.ring_present.proofs.Factors.{all-at}
 use Rattle.ring_present.proofs.RelationsOver.{relations-over}
-use Rattle.ring_present.proofs.Shown.{degrees-lifted, ring-at}
+use Rattle.ring_present.proofs.Shown.{ring-at}
 
 -- what is seen of a ring
 abbrev pub seen : Option PGroup → Generators → List LiftValue → List Polynomial → List Degree → RingValue

@@ -7,9 +7,9 @@ mod fault;
 mod generators;
 mod next;
 mod normal_forms;
-mod presentation;
 mod relations;
 mod ring;
+mod ring_parts;
 mod standard;
 mod values;
 

@@ -22,8 +22,8 @@ ghost use Rattle.ring_present.specs.Prefixes.{IsPrefix};
 
 use crate::fault::RingFault;
 use crate::normal_forms::combination;
-use crate::presentation::Presentation;
 use crate::relations::polynomial_of;
+use crate::ring_parts::RingParts;
 use fp_rows::RowRef;
 use gc_poly::{Gens, Monos, Poly};
 use group_table::{Memory, Prime};
@@ -46,7 +46,7 @@ use std::marker::Model;
 #[derive(Drop)]
 pub struct Ring {
     alloc: Global,
-    known: Presentation,
+    known: RingParts,
 }
 
 impl Model for Ring {
@@ -87,7 +87,7 @@ impl Ring {
     {
         Ring {
             alloc,
-            known: Presentation {
+            known: RingParts {
                 group: None,
                 gens: Gens::new(alloc, p),
                 lifts: Vec::new(alloc),

@@ -1,4 +1,4 @@
-use Rattle.std.proofs.Common.{◌≡◌, ◌*◌, ◌^◌, ◌≤◌, arith, ap, sym}
+use Rattle.std.proofs.Common.{◌*◌, ◌^◌, ◌≤◌, arith, ap}
 use Rattle.p_groups.specs.PGroups.{order_of}
 use Rattle.fp_rows.specs.Values.{MatrixValue}
 use Rattle.min_res.specs.Stages.{rank_of}

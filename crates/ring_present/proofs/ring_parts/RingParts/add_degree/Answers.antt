@@ -11,7 +11,7 @@ use Rattle.ring_present.specs.Degrees.{classes, kept, lifted, IsLower}
 use Rattle.ring_present.specs.declared.degree.Degree.{Degree}
 use Rattle.ring_present.proofs.Counting.{too-many}
 use Rattle.ring_present.proofs.Stores.{IsBefore, before-of, lower-kept, classes-kept, degrees-kept, lifted-kept, lifted-append, ring-next, on-err}
-use Rattle.ring_present.proofs.presentation.Presentation.add_degree.Goals as goal
+use Rattle.ring_present.proofs.ring_parts.RingParts.add_degree.Goals as goal
 
 pub returns-then-count-cap-clause-refused : goal.returns-then-count-cap-clause-refused
 returns-then-count-cap-clause-refused c =

@@ -24,7 +24,7 @@ use std::alloc::Global;
 
 /// Generators with their lifts, relations and degrees from 1 on. The group is known from the first degree on.
 #[derive(Drop)]
-pub(crate) struct Presentation {
+pub(crate) struct RingParts {
     pub(crate) group: Option<PGroup>,
     pub(crate) gens: Gens,
     pub(crate) lifts: Vec<Lift>,
@@ -32,7 +32,7 @@ pub(crate) struct Presentation {
     pub(crate) degrees: Vec<Degree>,
 }
 
-impl Presentation {
+impl RingParts {
     // Adds a degree.
     fn append(&mut self, group: PGroup, mut next: Next) -> Result<(), Memory>
         ensures group { OnOk result (self.new.group ≡ Some group) }
