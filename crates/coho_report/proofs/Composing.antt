@@ -15,7 +15,7 @@ use Rattle.ring_present.specs.Refusals as ring
 use Rattle.ring_present.specs.declared.fault.RingFault.{RingFault}
 use Rattle.ring_present.specs.declared.fault.RingFault.TheVariants as fault
 use Rattle.coho_report.specs.Reports.{HasFewMonomials}
-use Rattle.coho_report.specs.Refusals.{IsRefusal, passed_up}
+use Rattle.coho_report.specs.Refusals.{IsRingRefusal}
 
 module _ (G : PGroup) where
   split : (d i : ℕ) → d ≤ suc i → (d ≤ i) ⊎ (d ≡ suc i)
@@ -55,7 +55,7 @@ module _ (G : PGroup) where
       ]
 
   pub refused : (k n cap : ℕ) (e : RingFault) → k < n → HasFewMonomials G k cap
-      → ring.IsRefusal G (suc k) cap e → IsRefusal G n cap (passed_up e)
+      → ring.IsRefusal G (suc k) cap e → IsRingRefusal G n cap e
   refused k n cap (fault.TooManyMonomials d count) lt few r =
       let at = r.0 in
       record {

@@ -1,4 +1,8 @@
 pub mod Values
 pub mod Lines
+pub mod Related
+pub mod Subgroups
+pub mod Limits
 pub mod Reports
 pub mod Refusals
+pub mod OwnRings

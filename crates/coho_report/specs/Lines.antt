@@ -1,9 +1,9 @@
 -- The lines of a report, each ended by LF.
-use Rattle.std.specs.Prelude.{ℕ, List, [], ◌∷◌, ◌++◌, length, map, flat_map, codes, decimal}
-use Rattle.std.specs.List.{concat, range_with_len}
+use Rattle.std.specs.Prelude.{ℕ, ◌+◌, List, [], ◌∷◌, ◌++◌, length, map, flat_map, codes, decimal}
+use Rattle.std.specs.List.{concat, enumerate_from, range_with_len}
 use Rattle.graded_polynomials.specs.Polynomials.{Polynomial}
 use Rattle.graded_polynomials.specs.Texts.{name, polynomial_text}
-use Rattle.coho_report.specs.Values.{ReportValue}
+use Rattle.coho_report.specs.Values.{ReportValue, SubgroupValue}
 
 abbrev pub ended : List ℕ → List ℕ
 ended text = text ++ 10 ∷ []
@@ -27,6 +27,30 @@ generator_lines degrees = map (λ i. ended (name degrees i)) (range_with_len 0 (
 abbrev pub relation_lines : List ℕ → List Polynomial → List (List ℕ)
 relation_lines degrees relations = map (λ r. ended (polynomial_text degrees r.terms)) relations
 
+-- the number of a subgroup, its rank, and its basis
+abbrev pub basis_line : ℕ → List ℕ → List ℕ
+basis_line number basis =
+    codes "subgroup "
+    ++ (decimal number ++ (codes " rank "
+    ++ (decimal (length basis) ++ (codes " basis" ++ (flat_map after_space basis ++ 10 ∷ [])))))
+
+-- the name of a generator, and the text of its restriction
+abbrev pub image_line : List ℕ → List ℕ → ℕ → Polynomial → List ℕ
+image_line degrees own i image = name degrees i ++ (codes " -> " ++ ended (polynomial_text own image.terms))
+
+-- a line for each image
+abbrev pub image_lines : List ℕ → List ℕ → List Polynomial → List (List ℕ)
+image_lines degrees own images = map (λ p. image_line degrees own p.0 p.1) (enumerate_from 0 images)
+
+-- the lines of the subgroup at a place, counted from 0
+abbrev pub subgroup_lines : List ℕ → ℕ → SubgroupValue → List (List ℕ)
+subgroup_lines degrees place s =
+    basis_line (place + 1) s.basis ∷ image_lines degrees s.generators s.images
+
+-- the lines of each subgroup
+abbrev pub all_subgroup_lines : List ℕ → List SubgroupValue → List (List ℕ)
+all_subgroup_lines degrees ss = flat_map (λ p. subgroup_lines degrees p.0 p.1) (enumerate_from 0 ss)
+
 abbrev pub head_lines : ReportValue → List (List ℕ)
 head_lines r =
     ended (codes "coho ring 1")
@@ -41,6 +65,7 @@ report_lines r =
     head_lines r
     ++ (numbered (codes "generators ") (length r.generators) ∷ generator_lines r.generators)
     ++ (numbered (codes "relations ") (length r.relations) ∷ relation_lines r.generators r.relations)
+    ++ (numbered (codes "subgroups ") (length r.subgroups) ∷ all_subgroup_lines r.generators r.subgroups)
 
 -- the answer
 abbrev pub report_text : ReportValue → List ℕ

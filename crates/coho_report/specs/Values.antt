@@ -2,6 +2,15 @@
 use Rattle.std.specs.Prelude.{ℕ, List}
 use Rattle.graded_polynomials.specs.Polynomials.{Polynomial}
 
+-- what the answer tells of an elementary abelian subgroup
+pub record SubgroupValue : Type 0 where
+  -- the numbers of the members of its basis
+  pub basis : List ℕ
+  -- the degrees of the generators of its own ring
+  pub generators : List ℕ
+  -- the restrictions of the generators of the large ring, in these generators
+  pub images : List Polynomial
+
 -- what the answer tells of a ring
 pub record ReportValue : Type 0 where
   pub prime : ℕ
@@ -12,3 +21,4 @@ pub record ReportValue : Type 0 where
   -- the degrees of the generators
   pub generators : List ℕ
   pub relations : List Polynomial
+  pub subgroups : List SubgroupValue

@@ -1,7 +1,9 @@
-//! A group has one report through a degree, or a first degree that has too many monomials.
+//! A group has one report through a degree, or a first degree that has too many monomials, or a first subgroup
+//! over which a stage is too large.
 
 ghost use Rattle.std.specs.Prelude.{◌≡◌, ◌⊎◌, ℕ};
 ghost use Rattle.p_groups.specs.PGroups.{PGroup};
+ghost use Rattle.coho_report.specs.Limits.{AreSmall, IsFirstLargeSubgroup};
 ghost use Rattle.coho_report.specs.Values.{ReportValue};
 ghost use Rattle.coho_report.specs.Reports.{IsReport, HasFewMonomials, IsFirstTooMany};
 
@@ -10,9 +12,13 @@ pub fn one_report()
     ensures { (G : PGroup) (n : ℕ) (r s : ReportValue) → IsReport G n r → IsReport G n s → r ≡ s }
 {}
 
-/// Through each degree there is a report, where no degree has too many monomials, or a first degree that has.
+/// Through each degree there is a report. Either no degree has too many monomials, or there is a first degree
+/// that has; and either no stage over a subgroup is too large, or there is a first subgroup and degree.
 pub fn report_exists()
-    ensures { (G : PGroup) (n cap : ℕ)
-        → ((r : ReportValue) × IsReport G n r × HasFewMonomials G n cap)
-        ⊎ ((d : ℕ) × (count : ℕ) × IsFirstTooMany G n cap d count) }
+    ensures report { (G : PGroup) (n : ℕ) → (r : ReportValue) × IsReport G n r }
+    ensures monomials { (G : PGroup) (n cap : ℕ)
+        → HasFewMonomials G n cap ⊎ ((d : ℕ) × (count : ℕ) × IsFirstTooMany G n cap d count) }
+    ensures subgroups { (G : PGroup) (n limit : ℕ)
+        → AreSmall G n limit
+        ⊎ ((i : ℕ) × (d : ℕ) × (X : ℕ) × IsFirstLargeSubgroup G n limit i d X) }
 {}

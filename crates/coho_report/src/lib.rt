@@ -5,12 +5,16 @@ mod composition;
 mod fault;
 mod laws;
 mod lines;
+mod own_rings;
 mod report;
+mod rings;
+mod subgroup_lines;
+mod subgroups;
 #[cfg(test)]
 mod tests;
 
 pub use composition::compose;
 pub use fault::ReportFault;
-pub use laws::one_report;
+pub use laws::{one_report, report_exists};
 pub use lines::{report_lines, write_report};
 pub use report::Report;

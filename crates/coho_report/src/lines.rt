@@ -7,6 +7,7 @@ ghost use Rattle.gc_poly.specs.Polynomials.{IsOverGenerators};
 ghost use Rattle.coho_report.specs.Lines.{ended, numbered, ranks_line, generator_lines, relation_lines, head_lines, report_lines, report_text};
 
 use crate::Report;
+use crate::subgroup_lines::all_subgroup_lines;
 use gc_poly::{Gens, Poly, write_text};
 use group_table::Memory;
 use ring_present::Ring;
@@ -92,11 +93,14 @@ pub fn report_lines(alloc: Global, report: &Report) -> Result<Vec<Vec<u8>>, Memo
 {
     let generators = report.generators();
     let relations = report.relations();
+    let subgroups = report.subgroups();
     let mut lines = head_lines(alloc, report)?;
     lines.push(format!(in alloc; "generators {generators}\n")?.into_bytes())?;
     lines.append(&mut generator_lines(alloc, report.ring.gens())?)?;
     lines.push(format!(in alloc; "relations {relations}\n")?.into_bytes())?;
     lines.append(&mut relation_lines(alloc, &report.ring)?)?;
+    lines.push(format!(in alloc; "subgroups {subgroups}\n")?.into_bytes())?;
+    lines.append(&mut all_subgroup_lines(alloc, report.ring.gens(), &report.subgroups)?)?;
     Ok(lines)
 }
 

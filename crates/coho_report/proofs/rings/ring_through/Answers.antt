@@ -1,4 +1,4 @@
-use Rattle.std.proofs.Common.{◌≡◌, ◌+◌, ◌<◌, suc, map, refl, subst, sym, arith}
+use Rattle.std.proofs.Common.{◌≡◌, ◌∙◌, ◌+◌, ◌<◌, suc, map, refl, subst, sym, arith}
 use Rattle.std.specs.Prelude.{IfSome}
 use Rattle.p_groups.specs.PGroups.{largest_residue}
 use Rattle.graded_polynomials.specs.Monomials.{IsMonomials}
@@ -7,9 +7,10 @@ use Rattle.ring_present.specs.Values.{generators_of}
 use Rattle.std.proofs.lemmas.Result.{err_from_is_err_and}
 use Rattle.ring_present.specs.Refusals as ring
 use Rattle.coho_report.specs.Reports.{HasFewMonomials}
-use Rattle.coho_report.specs.Refusals.{IsRefusal, passed_up}
+use Rattle.coho_report.specs.Refusals.{IsRingRefusal}
 use Rattle.coho_report.proofs.Composing.{few_next, refused}
-use Rattle.coho_report.proofs.composition.ring_through.Goals as goal
+use Rattle.coho_report.proofs.OwnRings.{some_group}
+use Rattle.coho_report.proofs.rings.ring_through.Goals as goal
 
 pub returns-in_err-add_degree-clause-refused : goal.returns-in_err-add_degree-clause-refused
 returns-in_err-add_degree-clause-refused c =
@@ -18,7 +19,7 @@ returns-in_err-add_degree-clause-refused c =
     let p = err_from_is_err_and c.from_residual.result c.from_residual.ensures.1 in
     let cap = c.args.cap in
     let below : k < c.args.n = omega arith in
-    rw p.1 (subst (λ e. IsRefusal G c.args.n cap (passed_up e)) (sym p.2)
+    rw p.1 (subst (λ e. IsRingRefusal G c.args.n cap e) (sym p.2)
     (refused G k c.args.n cap c.in_err-add_degree.field-0.0 below c.loop-d.invariant.few
     (subst (λ d. ring.IsRefusal G (suc d) cap c.in_err-add_degree.field-0.0) c.loop-d.invariant.degree
     c.in_err-add_degree.ensures.refused)))
@@ -27,6 +28,21 @@ pub returns-clause-few : goal.returns-clause-few
 returns-clause-few c =
     let same : c.loop-d._d ≡ c.args.n = omega arith in
     subst (λ k. HasFewMonomials c.args.res.now.group k c.args.cap) same c.loop-d.invariant.few
+
+pub returns-clause-ring : goal.returns-clause-ring
+returns-clause-ring c =
+    let G = c.args.res.now.group in
+    let R = c.loop-d.ring in
+    let same : c.loop-d._d ≡ c.args.n = omega arith in
+    let degree = c.loop-d.invariant.degree ∙ same in
+    record {
+      prime_is = c.loop-d.invariant.prime;
+      group_is = some_group G R.group R refl c.loop-d.invariant.group c.degree-degree.ensures.known
+          (let e = c.loop-d.invariant.degree in omega (arith, e, c.requires.from));
+      degree_is = degree;
+      presentation = subst (λ n. IsPresentation G n (generators_of (largest_residue G) R.generators)
+          R.relations) same c.loop-d.invariant.presentation;
+    }
 
 pub loop-d-preserved : goal.loop-d-preserved
 loop-d-preserved c =

@@ -4,7 +4,7 @@ use Rattle.p_groups.specs.PGroups.{largest_residue}
 use Rattle.ring_present.specs.Rings.{IsPresentation}
 use Rattle.ring_present.specs.Values.{generators_of}
 use Rattle.coho_report.specs.Reports.{HasFewMonomials}
-use Rattle.coho_report.proofs.composition.ring_through.Given as goal
+use Rattle.coho_report.proofs.rings.ring_through.Given as goal
 
 abbrev pub invariant-loop-d : goal.invariant-loop-d
 invariant-loop-d l = record {

@@ -1,0 +1,83 @@
+-- Rings and stages of elementary abelian subgroups.
+use Rattle.std.proofs.Common.{◌≡◌, ◌∙◌, ℕ, zero, suc, ◌+◌, ◌<◌, ◌≤◌, ◌⊎◌, inl, inr, List, [], ◌∷◌, ◌++◌, arith, ap, sym, refl, subst}
+use Rattle.std.specs.Prelude.{IfSome, MatchOption, Option, Some, None, slice_index_or, length}
+use Rattle.std.specs.List.{AllByRecursion as Each}
+use Rattle.std.proofs.lemmas.Bool.{cases_lt}
+use Rattle.p_groups.specs.PGroups.{PGroup, largest_residue}
+use Rattle.graded_polynomials.proofs.Terms.{each-append}
+use Rattle.graded_algebra.specs.Algebras.{Algebra, Generator}
+use Rattle.graded_algebra.specs.Presentations.{IsSpanGenerators, generators_of}
+use Rattle.min_res.specs.Refusals as stages
+use Rattle.min_res.specs.declared.fault.ResFault.{ResFault}
+use Rattle.min_res.specs.declared.fault.ResFault.TheVariants as fault
+use Rattle.ring_present.specs.Known.{IsStart, IsThrough}
+use Rattle.ring_present.specs.Values.{RingValue}
+use Rattle.chain_lift.specs.Embeddings.{elementary}
+use Rattle.coho_report.specs.OwnRings.{IsKnownRing, IsOwnRing}
+use Rattle.coho_report.specs.declared.own_rings.OwnRing.{OwnRing}
+use Rattle.coho_report.specs.Limits.{dimension, HasSmallStages, IsFirstLarge}
+use Rattle.coho_report.specs.Refusals.{IsStageRefusal}
+
+-- a ring through a degree that is not 0 is that of its group
+pub some_group : (G : PGroup) (g : Option PGroup) (R : RingValue) → R.group ≡ g → IfSome g (λ H. H ≡ G)
+    → MatchOption g (IsStart R) (λ H. IsThrough H R) → 1 ≤ R.degree → R.group ≡ Some G
+some_group G None R e same known low = absurd (let none = known.degree_is in omega (arith, none, low))
+some_group G (Some H) R e same known low = e ∙ ap Some same
+
+-- the stages of one degree more
+pub small_next : (E H : PGroup) (n last limit : ℕ) → H ≡ E → last ≡ n → HasSmallStages E n limit
+    → dimension H (suc last) ≤ limit → HasSmallStages E (n + 1) limit
+small_next E H n last limit group degree small here d from to = go (cases_lt d (n + 1))
+  where
+    go : (d < n + 1) ⊎ (n + 1 ≤ d) → dimension E d ≤ limit
+    go (inl low) = small d from (omega (arith, low))
+    go (inr high) =
+        let top : suc last ≡ d = omega (arith, high, to, degree) in
+        subst (λ d. dimension E d ≤ limit) top (subst (λ E. dimension E (suc last) ≤ limit) group here)
+
+-- a fault at the next degree is that of the first that is too large
+pub large_first : (E H : PGroup) (k last n limit : ℕ) (e : ResFault) → H ≡ E → last ≡ k → k < n
+    → HasSmallStages E k limit → stages.IsRefusal H (suc last) limit e → IsStageRefusal E n limit e
+large_first E H k last n limit (fault.TooLarge d X) group degree less small r =
+    let at = r.0 in
+    let is = r.1 in
+    let top : suc last ≡ d = sym at in
+    record {
+      from = omega (arith, at);
+      to = omega (arith, at, degree, less);
+      is = is ∙ ap (λ E. dimension E (suc last)) group ∙ ap (dimension E) top;
+      above = r.2;
+      first = λ c from before. small c from (omega (arith, before, at, degree));
+    }
+large_first E H k last n limit fault.Memory group degree less small r = tt
+
+-- the degrees of generators through degree n are from 1 to n
+module _ (q : ℕ) {V : Type 0} (A : Algebra V) (basis : ℕ → List V) where
+  abbrev pub IsWithin : ℕ → Generator V → Type 0
+  IsWithin n g = (1 ≤ g.degree) × (g.degree ≤ n)
+
+  new-within : (n : ℕ) (vs : List V) → Each (IsWithin (suc n)) (generators_of q A (suc n) vs)
+  new-within n [] = tt
+  new-within n (v ∷ vs) = ((omega arith, omega arith), new-within n vs)
+
+  wider : (n : ℕ) (gs : List (Generator V)) → Each (IsWithin n) gs → Each (IsWithin (suc n)) gs
+  wider n [] e = tt
+  wider n (g ∷ gs) e = ((e.0.0, (let h = e.0.1 in omega (arith, h))), wider n gs e.1)
+
+  pub degrees_within : (n : ℕ) (gs : List (Generator V)) → IsSpanGenerators q A basis n gs
+      → Each (IsWithin n) gs
+  degrees_within zero gs e = subst (λ gs. Each (IsWithin zero) gs) (sym e) tt
+  degrees_within (suc n) gs (before, ms, chosen, lower, monomials, choice, is) =
+      subst (λ gs. Each (IsWithin (suc n)) gs) (sym is)
+      (each-append (IsWithin (suc n)) before (generators_of q A (suc n) chosen)
+      (wider n before (degrees_within n before lower)) (new-within n chosen))
+
+-- a ring of a subgroup's rank is known
+pub known_ring : (G : PGroup) (n limit s : ℕ) (o k : OwnRing) → IsOwnRing G n s o
+    → HasSmallStages (elementary G s) n limit → k ≡ o → IsKnownRing G n limit k
+known_ring G n limit s o k own small same =
+    let rank = sym own.rank_is in
+    subst (IsKnownRing G n limit) (sym same) (record {
+      own = subst (λ s. IsOwnRing G n s o) rank own;
+      small = subst (λ s. HasSmallStages (elementary G s) n limit) rank small;
+    })

@@ -1,0 +1,50 @@
+-- Lists that are related place by place.
+use Rattle.std.proofs.Common.{◌≡◌, ℕ, zero, suc, ◌+◌, ◌<◌, List, [], ◌∷◌, ◌++◌, length, take, refl, sym, ap, subst, arith}
+use Rattle.std.specs.Prelude.{All, slice_index_or}
+use Rattle.coho_report.specs.Related.{AreRelated}
+
+module _ {A B : Type 0} (R : A → B → Type 0) where
+  pub related-length : (xs : List A) (ys : List B) → AreRelated R xs ys → length ys ≡ length xs
+  related-length [] [] r = refl
+  related-length [] (y ∷ ys) r = absurd r
+  related-length (x ∷ xs) [] r = absurd r
+  related-length (x ∷ xs) (y ∷ ys) r = ap suc (related-length xs ys r.1)
+
+  -- one more member of each list
+  related-push : (xs : List A) (i : ℕ) (ys : List B) (y : B) → AreRelated R (take i xs) ys → i < length xs
+      → ((x : A) → R (slice_index_or xs i x) y) → AreRelated R (take (suc i) xs) (ys ++ y ∷ [])
+  related-push [] i ys y r l h = absurd (omega (arith, l))
+  related-push (x ∷ xs) zero [] y r l h = (h x, tt)
+  related-push (x ∷ xs) zero (z ∷ ys) y r l h = absurd r
+  related-push (x ∷ xs) (suc i) [] y r l h = absurd r
+  related-push (x ∷ xs) (suc i) (z ∷ ys) y r l h = (r.0, related-push xs i ys y r.1 (omega (arith, l)) h)
+
+  pub related-next : (xs : List A) (i : ℕ) (ys new : List B) (y : B) → AreRelated R (take i xs) ys
+      → i < length xs → ((x : A) → R (slice_index_or xs i x) y) → new ≡ ys ++ y ∷ []
+      → AreRelated R (take (i + 1) xs) new
+  related-next xs i ys new y r l h e =
+      let next : suc i ≡ i + 1 = omega arith in
+      subst (λ n. AreRelated R (take n xs) new) next
+      (subst (AreRelated R (take (suc i) xs)) (sym e) (related-push xs i ys y r l h))
+
+  -- what follows from the relation holds of each
+  pub all-related : (P : B → Type 0) → ((x : A) (y : B) → R x y → P y) → (xs : List A) (ys : List B)
+      → AreRelated R xs ys → All P ys
+  all-related P f [] [] r k d l = absurd (omega (arith, l))
+  all-related P f [] (y ∷ ys) r k d l = absurd r
+  all-related P f (x ∷ xs) [] r k d l = absurd r
+  all-related P f (x ∷ xs) (y ∷ ys) r zero d l = f x y r.0
+  all-related P f (x ∷ xs) (y ∷ ys) r (suc k) d l = all-related P f xs ys r.1 k d (omega (arith, l))
+
+  -- a relation to at most one
+  pub related-one : ((x : A) (y z : B) → R x y → R x z → y ≡ z) → (xs : List A) (ys zs : List B)
+      → AreRelated R xs ys → AreRelated R xs zs → ys ≡ zs
+  related-one f [] [] [] r s = refl
+  related-one f [] [] (z ∷ zs) r s = absurd s
+  related-one f [] (y ∷ ys) zs r s = absurd r
+  related-one f (x ∷ xs) [] zs r s = absurd r
+  related-one f (x ∷ xs) (y ∷ ys) [] r s = absurd s
+  related-one f (x ∷ xs) (y ∷ ys) (z ∷ zs) r s =
+      let head = f x y z r.0 s.0 in
+      let tail = related-one f xs ys zs r.1 s.1 in
+      λ i. head i ∷ tail i

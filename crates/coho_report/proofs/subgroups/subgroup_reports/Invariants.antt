@@ -1,0 +1,19 @@
+use Rattle.std.proofs.Common.{take, All}
+use Rattle.p_groups.specs.PGroups.{largest_residue}
+use Rattle.elementary_subgroups.specs.Bases.{NumberedSubgroup}
+use Rattle.elementary_subgroups.specs.Sets.{IsIn}
+use Rattle.ring_present.specs.Values.{generators_of}
+use Rattle.coho_report.specs.Limits.{IsSmall}
+use Rattle.coho_report.specs.OwnRings.{IsKnownRing}
+use Rattle.coho_report.specs.Related.{AreRelated}
+use Rattle.coho_report.specs.Subgroups.{IsToldOf}
+use Rattle.coho_report.proofs.subgroups.subgroup_reports.Given as goal
+
+abbrev pub invariant-loop-i : goal.invariant-loop-i
+invariant-loop-i l = record {
+  known : All (λ o. IsKnownRing l.res.group l.ring.degree l.limit o.value) l.known.items;
+  told : AreRelated
+      (IsToldOf l.res.group l.ring.degree (generators_of (largest_residue l.res.group) l.ring.generators))
+      (take l.i l.list) l.reports.items;
+  small : (s : NumberedSubgroup) → IsIn s (take l.i l.list) → IsSmall l.res.group l.ring.degree l.limit s;
+}

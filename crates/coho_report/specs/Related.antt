@@ -1,0 +1,9 @@
+-- Lists that are related place by place.
+use Rattle.std.specs.Prelude.{List, [], ◌∷◌}
+
+-- the lists are equally long, and the members at each place stand in the relation
+abbrev pub AreRelated : {A B : Type 0} → (A → B → Type 0) → List A → List B → Type 0
+AreRelated R [] [] = Unit {0}
+AreRelated R [] (y ∷ ys) = ⊥
+AreRelated R (x ∷ xs) [] = ⊥
+AreRelated R (x ∷ xs) (y ∷ ys) = R x y × AreRelated R xs ys

@@ -1,0 +1,192 @@
+//! Elementary abelian subgroups, with the restrictions of the generators to them.
+
+ghost use Rattle.std.specs.Prelude.{◌≡◌, ◌≤◌, ◌<◌, ◌^◌, List, length, IfOk, IfErr, slice_index, slice_index_or};
+ghost use Rattle.limits.specs.declared.TheConstants.{GREATEST_DEGREE};
+ghost use Rattle.p_groups.specs.PGroups.{largest_residue};
+ghost use Rattle.elementary_subgroups.specs.Bases.{IsSubgroupList, IsSubgroupOf, NumberedSubgroup};
+ghost use Rattle.graded_algebra.specs.Algebras.{Generator};
+ghost use Rattle.graded_algebra.specs.Vectors.{Vector};
+ghost use Rattle.ring_present.specs.Values.{generators_of};
+ghost use Rattle.coho_report.specs.Limits.{AreSmall};
+ghost use Rattle.coho_report.specs.OwnRings.{IsOwnRing, IsRingThrough};
+ghost use Rattle.coho_report.specs.Refusals.{IsSubgroupRefusal};
+ghost use Rattle.coho_report.specs.Related.{AreRelated};
+ghost use Rattle.coho_report.specs.Subgroups.{IsImage, IsToldOf};
+
+use crate::ReportFault;
+use crate::fault::of_subgroup;
+use crate::own_rings::{OwnRing, shared_ring};
+use chain_lift::EmbedMap;
+use fp_rows::Row;
+use gc_poly::{Gens, Poly};
+use group_table::Memory;
+use min_res::Resolution;
+use ring_present::Ring;
+use std::alloc::Global;
+use std::marker::Model;
+use std::rc::Rc;
+use subgroup_list::{ElemAb, max_elementary};
+
+/// An elementary abelian subgroup, and the restriction of each generator in the generators of the subgroup's
+/// own ring.
+#[derive(Drop)]
+pub struct SubgroupReport {
+    subgroup: ElemAb,
+    own: Rc<OwnRing>,
+    images: Vec<Poly>,
+}
+
+impl Model for SubgroupReport {
+    ghost use Rattle.std.specs.Prelude.{All, map};
+    ghost use Rattle.gc_poly.specs.Polynomials.{IsOverGenerators};
+    ghost use Rattle.coho_report.specs.Values.{SubgroupValue};
+
+    ghost Value = { SubgroupValue };
+
+    ghost view = { λ s. record {
+      basis = s.subgroup.basis;
+      generators = map (λ g. g.degree) s.own.value.ring.generators;
+      images = s.images.items;
+    } };
+
+    ghost invariant = { λ s. All (IsOverGenerators (record {
+      prime = s.own.value.ring.prime;
+      degrees = map (λ g. g.degree) s.own.value.ring.generators;
+    })) s.images.items };
+}
+
+impl SubgroupReport {
+    /// The basis.
+    pub(crate) fn rank(&self) -> usize
+        ensures { result ≡ length self.now.basis }
+    {
+        self.subgroup.rank()
+    }
+
+    /// A member of the basis.
+    pub(crate) fn basis(&self, i: usize) -> u16
+        requires { i < length self.now.basis }
+        ensures { result ≡ slice_index self.now.basis i }
+    {
+        self.subgroup.basis(i)
+    }
+
+    /// The generators of the subgroup's own ring.
+    pub(crate) fn gens(&self) -> &Gens
+        ensures { result.now.degrees ≡ self.now.generators }
+    {
+        self.own.ring.gens()
+    }
+
+    /// The restrictions.
+    pub(crate) fn images(&self) -> &[Poly]
+        ensures { result.now ≡ self.now.images }
+    {
+        &self.images
+    }
+}
+
+// The restriction of generator i.
+fn image(
+    alloc: Global,
+    map: &EmbedMap,
+    own: &OwnRing,
+    ring: &Ring,
+    i: usize,
+) -> Result<Poly, Memory>
+    requires own { IsOwnRing map.now.group ring.now.degree (length map.now.basis) own.now }
+    requires ring { IsRingThrough map.now.group ring.now.degree ring.now }
+    requires height { ring.now.degree ≤ map.now.height }
+    requires generator { i < length ring.now.generators }
+    ensures { IfOk result (λ f. (g : Generator (Vector (largest_residue map.now.group)))
+        → IsImage map.now.group map.now.basis
+        (generators_of (largest_residue map.now.group) own.now.ring.generators)
+        (slice_index_or (generators_of (largest_residue map.now.group) ring.now.generators) i g) f) }
+{
+    let degree = ring.gens().degree(i);
+    let rank = own.resolution.stage_at(degree).rank();
+    let mut class = Row::zero(alloc, ring.gens().prime(), rank)?;
+    map.restrict(degree, ring.class_of(i), &mut class);
+    own.ring.normal_form(alloc, degree, class.view())
+}
+
+// The restrictions of the generators to the subgroup.
+fn images(
+    alloc: Global,
+    e: &ElemAb,
+    own: &OwnRing,
+    res: &Resolution,
+    ring: &Ring,
+) -> Result<Vec<Poly>, Memory>
+    requires subgroup { IsSubgroupOf res.now.group.table e.now }
+    requires own { IsOwnRing res.now.group ring.now.degree (length e.now.basis) own.now }
+    requires ring { IsRingThrough res.now.group ring.now.degree ring.now }
+    requires within { ring.now.degree ≤ res.now.last }
+    ensures { IfOk result (λ v. AreRelated
+        (IsImage res.now.group e.now.basis
+        (generators_of (largest_residue res.now.group) own.now.ring.generators))
+        (generators_of (largest_residue res.now.group) ring.now.generators) v.items) }
+{
+    let mut map = EmbedMap::new(alloc, e, &own.resolution, res)?;
+    map.extend_to(&own.resolution, res, ring.degree())?;
+    let mut images = Vec::new(alloc);
+    for i in 0..ring.gens().len() {
+        images.push(image(alloc, &map, own, ring, i)?)?;
+    }
+    Ok(images)
+}
+
+// What is told of the subgroup.
+fn told_of(
+    alloc: Global,
+    e: &ElemAb,
+    own: Rc<OwnRing>,
+    res: &Resolution,
+    ring: &Ring,
+) -> Result<SubgroupReport, Memory>
+    requires subgroup { IsSubgroupOf res.now.group.table e.now }
+    requires own { IsOwnRing res.now.group ring.now.degree (length e.now.basis) own.value }
+    requires ring { IsRingThrough res.now.group ring.now.degree ring.now }
+    requires within { ring.now.degree ≤ res.now.last }
+    ensures { IfOk result (IsToldOf res.now.group ring.now.degree
+        (generators_of (largest_residue res.now.group) ring.now.generators) e.now) }
+{
+    let images = images(alloc, e, &own, res, ring)?;
+    Ok(SubgroupReport {
+        subgroup: e.try_clone(alloc)?,
+        own,
+        images,
+    })
+}
+
+/// What is told of the maximal elementary abelian subgroups, one of each conjugacy class.
+pub(crate) fn subgroup_reports(
+    alloc: Global,
+    res: &Resolution,
+    ring: &Ring,
+    limit: u64,
+) -> Result<Vec<SubgroupReport>, ReportFault>
+    requires ring { IsRingThrough res.now.group ring.now.degree ring.now }
+    requires from { 1 ≤ ring.now.degree }
+    requires within { ring.now.degree ≤ res.now.last }
+    requires high { ring.now.degree ≤ GREATEST_DEGREE }
+    requires limit { limit ≤ 2 ^ 28 }
+    ensures told { IfOk result (λ v. (ss : List NumberedSubgroup) × IsSubgroupList res.now.group.table ss
+        × AreRelated (IsToldOf res.now.group ring.now.degree
+        (generators_of (largest_residue res.now.group) ring.now.generators)) ss v.items) }
+    ensures small { IfOk result (λ v. AreSmall res.now.group ring.now.degree limit) }
+    ensures refused { IfErr result (IsSubgroupRefusal res.now.group ring.now.degree limit) }
+{
+    let group = res.algebra().group();
+    let list = max_elementary(alloc, group.as_group())?;
+    let mut known = Vec::new(alloc);
+    let mut reports = Vec::new(alloc);
+    for i in 0..list.len() {
+        let e = list.get(i);
+        match shared_ring(alloc, e, group, ring.degree(), limit, &mut known) {
+            Ok(own) => reports.push(told_of(alloc, e, own, res, ring)?)?,
+            Err(fault) => return Err(of_subgroup(i, fault)),
+        }
+    }
+    Ok(reports)
+}
