@@ -6,3 +6,4 @@ pub mod Limits
 pub mod Reports
 pub mod Refusals
 pub mod OwnRings
+pub mod Cohomology

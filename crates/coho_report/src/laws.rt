@@ -3,6 +3,7 @@
 
 ghost use Rattle.std.specs.Prelude.{◌≡◌, ◌⊎◌, ℕ};
 ghost use Rattle.p_groups.specs.PGroups.{PGroup};
+ghost use Rattle.coho_report.specs.Cohomology.{IsCohomologyReport};
 ghost use Rattle.coho_report.specs.Limits.{AreSmall, IsFirstLargeSubgroup};
 ghost use Rattle.coho_report.specs.Values.{ReportValue};
 ghost use Rattle.coho_report.specs.Reports.{IsReport, HasFewMonomials, IsFirstTooMany};
@@ -21,4 +22,10 @@ pub fn report_exists()
     ensures subgroups { (G : PGroup) (n limit : ℕ)
         → AreSmall G n limit
         ⊎ ((i : ℕ) × (d : ℕ) × (X : ℕ) × IsFirstLargeSubgroup G n limit i d X) }
+{}
+
+/// The report on a p-group is that of the cohomology ring of its bar complex, with the restrictions of cocycles
+/// to the maximal elementary abelian subgroups.
+pub fn cohomology_law()
+    ensures { (G : PGroup) (n : ℕ) (r : ReportValue) → IsReport G n r → IsCohomologyReport G n r }
 {}

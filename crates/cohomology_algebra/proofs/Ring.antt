@@ -45,7 +45,7 @@ module _ {n : ℕ} (q : ℕ) (Γ : Group n) (K : Coordinates q Γ) (S : StageRow
   abbrev pub graded : GradedAlgebra q
   graded = record { ranks = λ d. rank q Γ S.ranks d; mul = multiply q Γ K S; rank-zero = refl; laws = L }
 
-  images-are : (gs : List (Generator (Vector q)))
+  pub images-are : (gs : List (Generator (Vector q)))
       → images (Vector q) (Cochain q (monoid Γ)) (cohomology q Γ K S) (cochains (Below n) q)
       (vector_cocycle q Γ K S)
       (AreCohomologous q (monoid Γ)) (compared q Γ K S R P) gs ≡ cocycle_generators q Γ K S gs

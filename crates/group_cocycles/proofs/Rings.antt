@@ -13,15 +13,20 @@ use Rattle.min_res.specs.Stages.{stage_rows}
 use Rattle.min_res.proofs.StageRows.{stage_rows_are}
 use Rattle.graded_polynomials.specs.Monomials.{exponent}
 use Rattle.graded_polynomials.specs.Polynomials.{Term, Polynomial, IsOver, IsInIdeal, product}
-use Rattle.graded_algebra.specs.Algebras.{Generator, degrees}
+use Rattle.graded_algebra.specs.Algebras.{Generator, degrees, value}
 use Rattle.graded_algebra.specs.Cochains.{cochains}
 use Rattle.graded_algebra.specs.Vectors.{Vector}
 use Rattle.graded_algebra.specs.Claims.{CochainClaims}
 use Rattle.resolution_stages.proofs.FromDefinitions.{resolution-claims}
 use Rattle.bar_comparison.proofs.Classes.{bar-normal, bar-cocycle}
 use Rattle.bar_comparison.proofs.Stages.{stages}
-use Rattle.cohomology_algebra.specs.Claims.{IsPresentation, vector_cocycle}
-use Rattle.cohomology_algebra.proofs.Ring.{ring-claims}
+use Rattle.cup_products.proofs.Laws.{product-claims}
+use Rattle.graded_algebra.proofs.Transfer.{value-close}
+use Rattle.resolution_stages.specs.Claims.{ResolutionClaims}
+use Rattle.bar_complex.proofs.Cohomologous.{near-sym}
+use Rattle.cohomology_algebra.specs.Claims.{IsPresentation, cohomology, vector_cocycle}
+use Rattle.cohomology_algebra.proofs.Cocycles.{compared}
+use Rattle.cohomology_algebra.proofs.Ring.{images-are, ring-claims}
 use Rattle.group_cocycles.specs.Cocycles.{GroupCochain, IsCocycle, IsCoboundary, AreCohomologous, cup}
 use Rattle.group_cocycles.specs.Rings.{Generators, IsIn, cochain_of, cocycles_of, IsCohomologyRing}
 
@@ -35,7 +40,7 @@ module _ (G : PGroup) where
   abbrev k : ℕ → Vector q → GroupCochain G
   k d v = vector_cocycle q (group G) (layer_coordinates G) (stage_rows G) d v
 
-  degrees-same : (gs : Classes) → degrees gs ≡ degrees (cocycles_of G gs)
+  pub degrees-same : (gs : Classes) → degrees gs ≡ degrees (cocycles_of G gs)
   degrees-same [] = refl
   degrees-same (g ∷ gs) = ap (λ ds. g.degree ∷ ds) (degrees-same gs)
 
@@ -118,6 +123,27 @@ module _ (G : PGroup) where
         degree = s.degree;
         class = s.class;
       }
+
+  stage-claims : ResolutionClaims q (group G) (layer_coordinates G) (stage_rows G)
+  stage-claims = resolution-claims q (field G) (group G) (layer_coordinates G) (stage_rows G) (stage_rows_are G)
+
+  -- the value of a polynomial at cocycles, and the cocycle of its value
+  pub value-cocycle : (gs : List (Generator (Vector q))) (d : ℕ) (f : List Term) → IsOver q (degrees gs) d f
+      → AreCohomologous G d (cochain_of G (cocycles_of G gs) f)
+      (k d (value (cohomology q (group G) (layer_coordinates G) (stage_rows G)) gs f))
+  value-cocycle gs d f o =
+      near-sym q (monoid (group G)) d
+      (k d (value (cohomology q (group G) (layer_coordinates G) (stage_rows G)) gs f))
+      (cochain_of G (cocycles_of G gs) f)
+      (subst (λ hs. AreCohomologous G d
+      (k d (value (cohomology q (group G) (layer_coordinates G) (stage_rows G)) gs f))
+      (cochain_of G hs f))
+      (images-are q (group G) (layer_coordinates G) (stage_rows G) (field G) (stage_rows_are G) gs)
+      (value-close (Vector q) (GroupCochain G)
+      (cohomology q (group G) (layer_coordinates G) (stage_rows G)) (cochains (Below (order_of G)) q) k
+      (AreCohomologous G)
+      (compared q (group G) (layer_coordinates G) (stage_rows G) stage-claims
+      (product-claims q (group G) (layer_coordinates G) (stage_rows G) (field G) stage-claims)) q gs d f o))
 
   module _ (n : ℕ) (gs : Classes) (rs : List Polynomial)
       (P : IsPresentation q (group G) (layer_coordinates G) (stage_rows G) n gs rs) where
