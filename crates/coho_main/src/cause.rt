@@ -23,6 +23,9 @@ pub enum Cause {
     Inconsistent(TestName),
     /// The free module of the stage of this degree has a dimension above `GREATEST_DIMENSION`.
     Stage { degree: u32, dimension: u64 },
+    /// The free module of the stage of this degree over this subgroup, counted from 1, has a dimension above
+    /// `GREATEST_DIMENSION`.
+    SubgroupStage { subgroup: u32, degree: u32, dimension: u64 },
     /// This degree has more than `MOST_MONOMIALS` monomials in generators of lower degree.
     Monomials { degree: u32, count: u64 },
 }
@@ -38,6 +41,7 @@ impl Cause {
             Cause::Order => Status::Limit,
             Cause::Inconsistent(_) => Status::Inconsistent,
             Cause::Stage { .. } => Status::Limit,
+            Cause::SubgroupStage { .. } => Status::Limit,
             Cause::Monomials { .. } => Status::Limit,
         }
     }
@@ -65,6 +69,15 @@ impl Cause {
             Cause::Stage { degree, dimension } => {
                 format!(in alloc;
                     "coho: limit: stage {degree} of the group has dimension {dimension}, above {GREATEST_DIMENSION}\n"
+                )
+            }
+            Cause::SubgroupStage {
+                subgroup,
+                degree,
+                dimension,
+            } => {
+                format!(in alloc;
+                    "coho: limit: stage {degree} of subgroup {subgroup} has dimension {dimension}, above {GREATEST_DIMENSION}\n"
                 )
             }
             Cause::Monomials { degree, count } => {

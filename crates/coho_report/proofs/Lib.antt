@@ -7,3 +7,4 @@ pub mod Related
 pub mod OwnRings
 pub mod CohomologyReports
 pub mod NormalForms
+pub mod OneLimit
