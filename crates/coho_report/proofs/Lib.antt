@@ -5,3 +5,5 @@ pub mod ReportExists
 pub mod SubgroupsExist
 pub mod Related
 pub mod OwnRings
+pub mod NormalForms
+pub mod Images

@@ -107,7 +107,8 @@ fn image(
     let rank = own.resolution.stage_at(degree).rank();
     let mut class = Row::zero(alloc, ring.gens().prime(), rank)?;
     map.restrict(degree, ring.class_of(i), &mut class);
-    own.ring.normal_form(alloc, degree, class.view())
+    let form = own.ring.normal_form(alloc, degree, class.view())?;
+    Ok(form)
 }
 
 // The restrictions of the generators to the subgroup.
