@@ -7,3 +7,4 @@ pub mod Related
 pub mod OwnRings
 pub mod NormalForms
 pub mod Images
+pub mod SubgroupLists
