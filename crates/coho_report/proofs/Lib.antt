@@ -8,3 +8,5 @@ pub mod OwnRings
 pub mod CohomologyReports
 pub mod NormalForms
 pub mod OneLimit
+pub mod Images
+pub mod SubgroupLists

@@ -35,7 +35,7 @@ pub joined : {A : Type 0} (f : A → List ℕ) (lines others new : List A) (old 
 joined f lines others new old texts is before here = ap (map f) is ∙ map-append f lines others
     ∙ ap (λ ls. ls ++ map f others) before ∙ ap (λ t. old ++ t) here
 
-get-take : {X : Type 0} (xs : List X) (i : ℕ) (x : X) → slice_get xs i ≡ Some x
+pub get-take : {X : Type 0} (xs : List X) (i : ℕ) (x : X) → slice_get xs i ≡ Some x
     → take (suc i) xs ≡ take i xs ++ x ∷ []
 get-take [] i x e = absurd (cc)
 get-take (y ∷ ys) zero x e = let same : y ≡ x = cc in ap (λ z. z ∷ []) same

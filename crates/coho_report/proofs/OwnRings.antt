@@ -5,7 +5,7 @@ use Rattle.std.specs.List.{AllByRecursion as Each}
 use Rattle.std.proofs.lemmas.Bool.{cases_lt}
 use Rattle.p_groups.specs.PGroups.{PGroup, largest_residue}
 use Rattle.graded_polynomials.proofs.Terms.{each-append}
-use Rattle.graded_algebra.specs.Algebras.{Algebra, Generator}
+use Rattle.graded_algebra.specs.Algebras.{Algebra, Generator, degrees}
 use Rattle.graded_algebra.specs.Presentations.{IsSpanGenerators, generators_of}
 use Rattle.min_res.specs.Refusals as stages
 use Rattle.min_res.specs.declared.fault.ResFault.{ResFault}
@@ -71,6 +71,15 @@ module _ (q : ℕ) {V : Type 0} (A : Algebra V) (basis : ℕ → List V) where
       subst (λ gs. Each (IsWithin (suc n)) gs) (sym is)
       (each-append (IsWithin (suc n)) before (generators_of q A (suc n) chosen)
       (wider n before (degrees_within n before lower)) (new-within n chosen))
+
+  -- so none is 0
+  pub positive_degrees : (n : ℕ) (gs : List (Generator V)) → IsSpanGenerators q A basis n gs
+      → Each (λ d. 0 < d) (degrees gs)
+  positive_degrees n gs e = positive gs (degrees_within n gs e)
+    where
+      positive : (gs : List (Generator V)) → Each (IsWithin n) gs → Each (λ d. 0 < d) (degrees gs)
+      positive [] e = tt
+      positive (g ∷ gs) e = ((let low = e.0.0 in omega (arith, low)), positive gs e.1)
 
 -- a ring of a subgroup's rank is known
 pub known_ring : (G : PGroup) (n limit s : ℕ) (o k : OwnRing) → IsOwnRing G n s o

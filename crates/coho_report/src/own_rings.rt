@@ -10,7 +10,7 @@ ghost use Rattle.coho_report.specs.OwnRings.{IsKnownRing, IsOwnRing};
 ghost use Rattle.coho_report.specs.Refusals.{IsStageRefusal};
 
 use crate::rings::whole_ring;
-use group_algebra::{Algebra, PGroup};
+use group_algebra::Algebra;
 use group_table::Memory;
 use min_res::{ResFault, Resolution};
 use ring_present::Ring;
@@ -30,21 +30,22 @@ pub(crate) struct OwnRing {
 fn own_resolution(
     alloc: Global,
     e: &ElemAb,
-    group: &PGroup,
+    res: &Resolution,
     n: u32,
     limit: u64,
 ) -> Result<Resolution, ResFault>
-    requires subgroup { IsSubgroupOf group.now.table e.now }
+    requires subgroup { IsSubgroupOf res.now.group.table e.now }
     requires high { n ≤ GREATEST_DEGREE }
     requires limit { limit ≤ 2 ^ 28 }
-    ensures group { IfOk result (λ r. r.group ≡ elementary group.now (length e.now.basis)) }
+    ensures group { IfOk result (λ r. r.group ≡ elementary res.now.group (length e.now.basis)) }
     ensures last { IfOk result (λ r. r.last ≡ n) }
     ensures small { IfOk result
-        (λ _. HasSmallStages (elementary group.now (length e.now.basis)) n limit) }
+        (λ _. HasSmallStages (elementary res.now.group (length e.now.basis)) n limit) }
     ensures refused { IfErr result
-        (IsStageRefusal (elementary group.now (length e.now.basis)) n limit) }
+        (IsStageRefusal (elementary res.now.group (length e.now.basis)) n limit) }
 {
-    let own = e.group(alloc, group.as_group())?;
+    let group = res.algebra().group().as_group();
+    let own = e.group(alloc, group)?;
     let mut resolution = Resolution::start(alloc, Algebra::build(alloc, &own)?)?;
     for _d in 0..n {
         resolution.extend(limit)?;
@@ -56,21 +57,21 @@ fn own_resolution(
 fn own_ring(
     alloc: Global,
     e: &ElemAb,
-    group: &PGroup,
+    res: &Resolution,
     n: u32,
     limit: u64,
 ) -> Result<Rc<OwnRing>, ResFault>
-    requires subgroup { IsSubgroupOf group.now.table e.now }
+    requires subgroup { IsSubgroupOf res.now.group.table e.now }
     requires from { 1 ≤ n }
     requires high { n ≤ GREATEST_DEGREE }
     requires limit { limit ≤ 2 ^ 28 }
-    ensures own { IfOk result (λ o. IsOwnRing group.now n (length e.now.basis) o.value) }
+    ensures own { IfOk result (λ o. IsOwnRing res.now.group n (length e.now.basis) o.value) }
     ensures small { IfOk result
-        (λ _. HasSmallStages (elementary group.now (length e.now.basis)) n limit) }
+        (λ _. HasSmallStages (elementary res.now.group (length e.now.basis)) n limit) }
     ensures refused { IfErr result
-        (IsStageRefusal (elementary group.now (length e.now.basis)) n limit) }
+        (IsStageRefusal (elementary res.now.group (length e.now.basis)) n limit) }
 {
-    let resolution = own_resolution(alloc, e, group, n, limit)?;
+    let resolution = own_resolution(alloc, e, res, n, limit)?;
     let ring = whole_ring(alloc, &resolution, n)?;
     let rank = e.rank();
     Ok(Rc::new(
@@ -109,27 +110,27 @@ fn shared(own: &Rc<OwnRing>) -> Result<Rc<OwnRing>, Memory>
 pub(crate) fn shared_ring(
     alloc: Global,
     e: &ElemAb,
-    group: &PGroup,
+    res: &Resolution,
     n: u32,
     limit: u64,
     known: &mut Vec<Rc<OwnRing>>,
 ) -> Result<Rc<OwnRing>, ResFault>
-    requires subgroup { IsSubgroupOf group.now.table e.now }
+    requires subgroup { IsSubgroupOf res.now.group.table e.now }
     requires from { 1 ≤ n }
     requires high { n ≤ GREATEST_DEGREE }
     requires limit { limit ≤ 2 ^ 28 }
-    requires known { All (λ o. IsKnownRing group.now n limit o.value) known.old.items }
-    ensures known { OnOk result (All (λ o. IsKnownRing group.now n limit o.value) known.new.items) }
-    ensures own { IfOk result (λ o. IsOwnRing group.now n (length e.now.basis) o.value) }
+    requires known { All (λ o. IsKnownRing res.now.group n limit o.value) known.old.items }
+    ensures known { OnOk result (All (λ o. IsKnownRing res.now.group n limit o.value) known.new.items) }
+    ensures own { IfOk result (λ o. IsOwnRing res.now.group n (length e.now.basis) o.value) }
     ensures small { IfOk result
-        (λ _. HasSmallStages (elementary group.now (length e.now.basis)) n limit) }
+        (λ _. HasSmallStages (elementary res.now.group (length e.now.basis)) n limit) }
     ensures refused { IfErr result
-        (IsStageRefusal (elementary group.now (length e.now.basis)) n limit) }
+        (IsStageRefusal (elementary res.now.group (length e.now.basis)) n limit) }
 {
     if let Some(i) = place_of(known, e.rank()) {
         return Ok(shared(&known[i])?);
     }
-    let own = own_ring(alloc, e, group, n, limit)?;
+    let own = own_ring(alloc, e, res, n, limit)?;
     known.push(shared(&own)?)?;
     Ok(own)
 }

@@ -6,8 +6,9 @@ ghost use Rattle.p_groups.specs.PGroups.{largest_residue};
 ghost use Rattle.elementary_subgroups.specs.Bases.{IsSubgroupList, IsSubgroupOf, NumberedSubgroup};
 ghost use Rattle.graded_algebra.specs.Algebras.{Generator};
 ghost use Rattle.graded_algebra.specs.Vectors.{Vector};
+ghost use Rattle.elementary_subgroups.specs.Sets.{IsIn};
 ghost use Rattle.ring_present.specs.Values.{generators_of};
-ghost use Rattle.coho_report.specs.Limits.{AreSmall};
+ghost use Rattle.coho_report.specs.Limits.{AreSmall, IsSmall};
 ghost use Rattle.coho_report.specs.OwnRings.{IsOwnRing, IsRingThrough};
 ghost use Rattle.coho_report.specs.Refusals.{IsSubgroupRefusal};
 ghost use Rattle.coho_report.specs.Related.{AreRelated};
@@ -25,7 +26,7 @@ use ring_present::Ring;
 use std::alloc::Global;
 use std::marker::Model;
 use std::rc::Rc;
-use subgroup_list::{ElemAb, max_elementary};
+use subgroup_list::{ElemAb, Subgroups, max_elementary};
 
 /// An elementary abelian subgroup, and the restriction of each generator in the generators of the subgroup's
 /// own ring.
@@ -107,7 +108,8 @@ fn image(
     let rank = own.resolution.stage_at(degree).rank();
     let mut class = Row::zero(alloc, ring.gens().prime(), rank)?;
     map.restrict(degree, ring.class_of(i), &mut class);
-    own.ring.normal_form(alloc, degree, class.view())
+    let form = own.ring.normal_form(alloc, degree, class.view())?;
+    Ok(form)
 }
 
 // The restrictions of the generators to the subgroup.
@@ -159,6 +161,39 @@ fn told_of(
     })
 }
 
+// What is told of each subgroup of the list.
+fn told_of_each(
+    alloc: Global,
+    list: &Subgroups,
+    res: &Resolution,
+    ring: &Ring,
+    limit: u64,
+) -> Result<Vec<SubgroupReport>, ReportFault>
+    requires list { IsSubgroupList res.now.group.table list.now }
+    requires ring { IsRingThrough res.now.group ring.now.degree ring.now }
+    requires from { 1 ≤ ring.now.degree }
+    requires within { ring.now.degree ≤ res.now.last }
+    requires high { ring.now.degree ≤ GREATEST_DEGREE }
+    requires limit { limit ≤ 2 ^ 28 }
+    ensures told { IfOk result (λ v. AreRelated (IsToldOf res.now.group ring.now.degree
+        (generators_of (largest_residue res.now.group) ring.now.generators)) list.now v.items) }
+    ensures small { IfOk result (λ v. (s : NumberedSubgroup) → IsIn s list.now
+        → IsSmall res.now.group ring.now.degree limit s) }
+    ensures refused { IfErr result (IsSubgroupRefusal res.now.group ring.now.degree limit) }
+{
+    let n = ring.degree();
+    let mut known = Vec::new(alloc);
+    let mut reports = Vec::new(alloc);
+    for i in 0..list.len() {
+        let e = list.get(i);
+        match shared_ring(alloc, e, res, n, limit, &mut known) {
+            Ok(own) => reports.push(told_of(alloc, e, own, res, ring)?)?,
+            Err(fault) => return Err(of_subgroup(i, fault)),
+        }
+    }
+    Ok(reports)
+}
+
 /// What is told of the maximal elementary abelian subgroups, one of each conjugacy class.
 pub(crate) fn subgroup_reports(
     alloc: Global,
@@ -177,16 +212,6 @@ pub(crate) fn subgroup_reports(
     ensures small { IfOk result (λ v. AreSmall res.now.group ring.now.degree limit) }
     ensures refused { IfErr result (IsSubgroupRefusal res.now.group ring.now.degree limit) }
 {
-    let group = res.algebra().group();
-    let list = max_elementary(alloc, group.as_group())?;
-    let mut known = Vec::new(alloc);
-    let mut reports = Vec::new(alloc);
-    for i in 0..list.len() {
-        let e = list.get(i);
-        match shared_ring(alloc, e, group, ring.degree(), limit, &mut known) {
-            Ok(own) => reports.push(told_of(alloc, e, own, res, ring)?)?,
-            Err(fault) => return Err(of_subgroup(i, fault)),
-        }
-    }
-    Ok(reports)
+    let list = max_elementary(alloc, res.algebra().group().as_group())?;
+    told_of_each(alloc, &list, res, ring, limit)
 }

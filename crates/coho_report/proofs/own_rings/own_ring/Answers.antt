@@ -5,7 +5,7 @@ use Rattle.coho_report.proofs.own_rings.own_ring.Goals as goal
 
 pub returns-clause-own : goal.returns-clause-own
 returns-clause-own c =
-    let G = c.args.group.now in
+    let G = c.args.res.now.group in
     let s = length c.args.e.now.basis in
     subst (IsOwnRing G c.args.n s) (sym c.in_ok-new.ensures.ok) (record {
       rank_is = c.rank-rank.ensures;

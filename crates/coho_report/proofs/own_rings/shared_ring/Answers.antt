@@ -9,8 +9,8 @@ use Rattle.coho_report.proofs.own_rings.shared_ring.Goals as goal
 
 pub returns-clause-known : goal.returns-clause-known
 returns-clause-known c =
-    let Known = λ (o : Rc OwnRing Global). IsKnownRing c.args.group.now c.args.n c.args.limit o.value in
+    let Known = λ (o : Rc OwnRing Global). IsKnownRing c.args.res.now.group c.args.n c.args.limit o.value in
     subst (All Known) (sym c.in_ok-push.ensures.items)
     (All-push Known c.args.known.now.items c.in_ok-shared-2.field-0 c.requires.known
-    (known_ring c.args.group.now c.args.n c.args.limit (length c.args.e.now.basis) c.in_ok-own.own.value
+    (known_ring c.args.res.now.group c.args.n c.args.limit (length c.args.e.now.basis) c.in_ok-own.own.value
     c.in_ok-shared-2.field-0.value c.in_ok-own.ensures.own c.in_ok-own.ensures.small c.in_ok-shared-2.ensures))

@@ -7,7 +7,7 @@ use Rattle.coho_report.specs.Limits.{IsSmall}
 use Rattle.coho_report.specs.OwnRings.{IsKnownRing}
 use Rattle.coho_report.specs.Related.{AreRelated}
 use Rattle.coho_report.specs.Subgroups.{IsToldOf}
-use Rattle.coho_report.proofs.subgroups.subgroup_reports.Given as goal
+use Rattle.coho_report.proofs.subgroups.told_of_each.Given as goal
 
 abbrev pub invariant-loop-i : goal.invariant-loop-i
 invariant-loop-i l = record {

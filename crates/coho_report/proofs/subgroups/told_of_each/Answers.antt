@@ -1,0 +1,53 @@
+use Rattle.std.proofs.Common.{◌≡◌, ◌<◌, All, Global, length, arith, sym, subst}
+use Rattle.std.specs.declared.rc.Rc.{Rc}
+use Rattle.p_groups.specs.PGroups.{largest_residue}
+use Rattle.elementary_subgroups.specs.Bases.{NumberedSubgroup}
+use Rattle.chain_lift.specs.Embeddings.{elementary}
+use Rattle.ring_present.specs.Values.{generators_of}
+use Rattle.coho_report.specs.Limits.{HasSmallStages, IsSmall}
+use Rattle.coho_report.specs.OwnRings.{IsKnownRing}
+use Rattle.coho_report.specs.Refusals.{IsStageRefusal, IsSubgroupRefusal}
+use Rattle.coho_report.specs.Subgroups.{IsToldOf}
+use Rattle.coho_report.specs.declared.own_rings.OwnRing.{OwnRing}
+use Rattle.coho_report.proofs.Related.{related-next}
+use Rattle.coho_report.proofs.SubgroupLists.{get-at, in-next, listed_at, refused_at}
+use Rattle.coho_report.proofs.subgroups.told_of_each.Goals as goal
+
+pub shared_ring-requires-clause-subgroup : goal.shared_ring-requires-clause-subgroup
+shared_ring-requires-clause-subgroup c = listed_at c.args.res.now.group c.args.list.now c.loop-i.i
+    c.get-e.result.now c.requires.list c.get-e.ensures
+
+pub told_of-requires-clause-subgroup : goal.told_of-requires-clause-subgroup
+told_of-requires-clause-subgroup c = listed_at c.args.res.now.group c.args.list.now c.loop-i.i
+    c.get-e.result.now c.requires.list c.get-e.ensures
+
+pub returns-in-Err-clause-refused : goal.returns-in-Err-clause-refused
+returns-in-Err-clause-refused c =
+    let G = c.args.res.now.group in
+    let n = c.args.ring.now.degree in
+    subst (IsSubgroupRefusal G n c.args.limit) (sym c.of_subgroup.ensures)
+    (refused_at G c.args.list.now c.loop-i.i c.get-e.result.now c.requires.list c.get-e.ensures n c.args.limit
+    c.in-Err.fault c.loop-i.invariant.small
+    (subst (λ n. IsStageRefusal (elementary G (length c.get-e.result.now.basis)) n c.args.limit c.in-Err.fault)
+    c.degree-n.ensures.value c.in-Err.ensures.refused))
+
+pub loop-i-preserved : goal.loop-i-preserved
+loop-i-preserved c =
+    let G = c.args.res.now.group in
+    let n = c.args.ring.now.degree in
+    let gs = generators_of (largest_residue G) c.args.ring.now.generators in
+    let ss = c.args.list.now in
+    let s = c.get-e.result.now in
+    let below : c.loop-i.i < length ss = omega (arith, c.loop-i-test.true, c.len-i-end.ensures) in
+    record {
+      known = subst (λ n. All (λ (o : Rc OwnRing Global). IsKnownRing G n c.args.limit o.value)
+          c.shared_ring.new.known.items) c.degree-n.ensures.value c.in-Ok.ensures.known;
+      told = related-next (IsToldOf G n gs) ss c.loop-i.i c.loop-i.reports.items c.push.new.self.items
+          c.in_ok-told_of-in-Ok.field-0 c.loop-i.invariant.told below
+          (λ (d : NumberedSubgroup). subst (λ s. IsToldOf G n gs s c.in_ok-told_of-in-Ok.field-0)
+          (sym (get-at ss c.loop-i.i s d c.get-e.ensures)) c.in_ok-told_of-in-Ok.ensures)
+          c.in_ok-push-in-Ok.ensures.items;
+      small = in-next (IsSmall G n c.args.limit) ss c.loop-i.i s c.get-e.ensures c.loop-i.invariant.small
+          (subst (λ n. HasSmallStages (elementary G (length s.basis)) n c.args.limit) c.degree-n.ensures.value
+          c.in-Ok.ensures.small);
+    }
