@@ -1,2 +1,1 @@
-pub mod ClassLists
 pub mod Restrictions

@@ -93,6 +93,7 @@ fn restricted_generators(
     add_basis_class(rt, alloc, whole, 1, 0, &mut degrees, &mut classes)?;
     add_basis_class(rt, alloc, whole, 1, 1, &mut degrees, &mut classes)?;
     add_basis_class(rt, alloc, whole, 2, 2, &mut degrees, &mut classes)?;
+    assert!(rt; classes.len() == 3);
     table(alloc, e, own, whole, &degrees, &classes)
 }
 
@@ -134,7 +135,7 @@ fn has_classes(table: &RestrictionTable, expected: &[(u32, &[u8])]) -> bool {
             return false;
         }
     }
-    table.len() == expected.len()
+    table.len() == expected.len() && table.is_empty() == expected.is_empty()
 }
 
 // On both four-groups, whose basis classes of degree 2 are xx, xy and yy, the class of degree 2 is xy + yy. On
