@@ -173,7 +173,9 @@ fn presents_rings(rt: HostRuntime) -> Result<(), Fail> {
 }
 
 // Whether degree 3 is refused with four monomials, which leaves the ring as it was.
-fn refuses_four(resolution: &Resolution, ring: &mut Ring) -> bool {
+fn refuses_four(resolution: &Resolution, ring: &mut Ring) -> bool
+    requires { IfSome ring.old.group (λ G. G ≡ resolution.now.group) }
+{
     if ring.degree() != 2 || resolution.last() != 3 {
         return false;
     }
