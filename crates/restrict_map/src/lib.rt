@@ -6,3 +6,6 @@ mod tables;
 
 pub use class_list::ClassList;
 pub use tables::{RestrictionTable, table};
+
+#[cfg(test)]
+mod tests;

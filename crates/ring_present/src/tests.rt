@@ -1,11 +1,13 @@
 //! Rings worked out by hand.
 
-ghost use Rattle.std.specs.Prelude.{◌≡◌, IfOk, IfSome};
+ghost use Rattle.std.specs.Prelude.{◌≡◌, ◌≤◌, ◌<◌, IfOk, IfSome, length};
+ghost use Rattle.ring_present.specs.Values.{standard_of};
 
 use crate::{Ring, RingFault};
 use fp_rows::RowRef;
 use gc_poly::write_text;
 use group_algebra::Algebra;
+use group_table::{Group, Memory};
 use limits::{GREATEST_DEGREE, GREATEST_DIMENSION};
 use min_res::Resolution;
 use small_groups::SmallGroup;
@@ -13,37 +15,37 @@ use std::alloc::Global;
 use std::process::Abort;
 use std::test::Fail;
 
+// The stage of degree 0 of this group.
+fn started(alloc: Global, group: &Group) -> Result<Resolution, Memory> {
+    let algebra = Algebra::build(alloc, group)?;
+    Resolution::start(alloc, algebra)
+}
+
+// The stages of this group up to this degree.
 fn resolved(
     rt: &impl Abort,
     alloc: Global,
-    kind: SmallGroup,
-    degree: u32,
-) -> Result<Resolution, Fail> {
-    let group = kind.group(alloc)?;
-    let mut resolution = Resolution::start(alloc, Algebra::build(alloc, &group)?)?;
-    for _d in 0..degree {
+    group: &Group,
+    last: u32,
+) -> Result<Resolution, Memory> {
+    let mut resolution = started(alloc, group)?;
+    for _d in 0..last {
         assert!(rt; resolution.last() < GREATEST_DEGREE);
-        resolution.extend(GREATEST_DIMENSION)?;
+        assert!(rt; resolution.extend(GREATEST_DIMENSION).is_ok());
     }
     Ok(resolution)
 }
 
 // The ring through a degree.
-fn presented(
-    rt: &impl Abort,
-    alloc: Global,
-    resolution: &Resolution,
-    degree: u32,
-    cap: u64,
-) -> Result<Ring, Fail>
-    ensures { IfOk result (λ ring. IfSome ring.group (λ G. G ≡ resolution.now.group)) }
+fn presented(rt: &impl Abort, alloc: Global, resolution: &Resolution, degree: u32, cap: u64) -> Ring
+    ensures { IfSome result.group (λ G. G ≡ resolution.now.group) }
 {
     let mut ring = Ring::start(alloc, resolution.algebra().group().prime());
     for _d in 0..degree {
         assert!(rt; ring.degree() < GREATEST_DEGREE && ring.degree() < resolution.last());
-        ring.add_degree(resolution, cap)?;
+        assert!(rt; ring.add_degree(resolution, cap).is_ok());
     }
-    Ok(ring)
+    ring
 }
 
 fn has_generators(ring: &Ring, degrees: &[u32]) -> bool {
@@ -51,91 +53,151 @@ fn has_generators(ring: &Ring, degrees: &[u32]) -> bool {
     gens.len() == degrees.len() && (0..gens.len()).all(|i| gens.degree(i) == degrees[i])
 }
 
-fn has_relations(alloc: Global, ring: &Ring, texts: &[&str]) -> Result<bool, Fail> {
+// Whether relation i has this text.
+fn has_relation(alloc: Global, ring: &Ring, i: usize, text: &str) -> Result<bool, Memory>
+    requires { i < length ring.now.relations }
+{
+    let mut written = Vec::new(alloc);
+    write_text(ring.gens(), ring.relation(i), &mut written)?;
+    Ok(written.as_slice() == text.as_bytes())
+}
+
+fn has_relations(alloc: Global, ring: &Ring, texts: &[&str]) -> Result<bool, Memory> {
     for i in 0..ring.relations() {
-        let mut text = Vec::new(alloc);
-        write_text(ring.gens(), ring.relation(i), &mut text)?;
-        if i >= texts.len() || text.as_slice() != texts[i].as_bytes() {
+        if i >= texts.len() || !has_relation(alloc, ring, i, texts[i])? {
             return Ok(false);
         }
     }
     Ok(ring.relations() == texts.len())
 }
 
+// Whether standard monomial i of degree d is the normal form of its class.
+fn is_normal_form(alloc: Global, ring: &Ring, d: u32, i: usize) -> Result<bool, Memory>
+    requires from { 1 ≤ d }
+    requires to { d ≤ ring.now.degree }
+    requires within { i < length (standard_of ring.now d) }
+{
+    let monomial = ring.standard(d).get(i);
+    let form = ring.normal_form(alloc, d, ring.standard_class(d, i))?;
+    Ok(form.terms() == 1 && form.coefficient(0) == 1 && form.mono(0) == monomial)
+}
+
+// Whether there are so many standard monomials of degree d, and each is the normal form of its class.
+fn has_standard(alloc: Global, ring: &Ring, d: u32, count: usize) -> Result<bool, Memory>
+    requires from { 1 ≤ d }
+    requires to { d ≤ ring.now.degree }
+{
+    for i in 0..ring.standard(d).len() {
+        if !is_normal_form(alloc, ring, d, i)? {
+            return Ok(false);
+        }
+    }
+    Ok(ring.standard(d).len() == count)
+}
+
 fn shows(r: RowRef<'_>, entries: &[u8]) -> bool {
     r.len() == entries.len() && (0..r.len()).all(|i| r.get(i) == entries[i])
 }
 
-fn has_class(ring: &Ring, i: usize, entries: &[u8]) -> bool {
-    i < ring.gens().len() && shows(ring.class_of(i), entries)
+// What the ring of a group through a degree has: generators of these degrees, the last with this class,
+// relations with these texts, and so many standard monomials of degree 1, of degree 2 and so on.
+#[derive(Clone, Copy)]
+struct Case<'a> {
+    generators: &'a [u32],
+    class: &'a [u8],
+    relations: &'a [&'a str],
+    standard: &'a [usize],
 }
 
-// Whether there are so many standard monomials of degree d, and each is the normal form of its class.
-fn has_standard(
-    rt: &impl Abort,
-    alloc: Global,
-    ring: &Ring,
-    d: u32,
-    count: usize,
-) -> Result<bool, Fail> {
-    assert!(rt; 1 <= d && d <= ring.degree());
-    let monomials = ring.standard(d);
-    for i in 0..monomials.len() {
-        let form = ring.normal_form(alloc, d, ring.standard_class(d, i))?;
-        assert_eq!(rt; form.terms(), 1);
-        if form.coefficient(0) != 1 || form.mono(0) != monomials.get(i) {
+fn has_last_class(ring: &Ring, class: &[u8]) -> bool {
+    let count = ring.gens().len();
+    count > 0 && shows(ring.class_of(count - 1), class)
+}
+
+// Whether the ring is as in the case.
+fn is_ring(rt: &impl Abort, alloc: Global, ring: &Ring, case: Case<'_>) -> Result<bool, Memory> {
+    for (i, count) in case.standard.iter().enumerate() {
+        assert!(rt; i < ring.degree() as usize);
+        if !has_standard(alloc, ring, i as u32 + 1, *count)? {
             return Ok(false);
         }
     }
-    Ok(monomials.len() == count)
+    Ok(
+        has_generators(ring, case.generators)
+            && has_last_class(ring, case.class)
+            && has_relations(alloc, ring, case.relations)?,
+    )
+}
+
+// The same of the ring of a group.
+fn is_ring_of(
+    rt: &impl Abort,
+    alloc: Global,
+    group: &Group,
+    case: Case<'_>,
+) -> Result<bool, Memory> {
+    assert!(rt; case.standard.len() <= 24);
+    let degree = case.standard.len() as u32;
+    let resolution = resolved(rt, alloc, group, degree)?;
+    let ring = presented(rt, alloc, &resolution, degree, 5);
+    is_ring(rt, alloc, &ring, case)
 }
 
 #[test]
-fn presents_the_quaternion_group(rt: HostRuntime) -> Result<(), Fail> {
-    let resolution = resolved(&rt, rt.alloc(), SmallGroup::Quaternion, 4)?;
-    let ring = presented(&rt, rt.alloc(), &resolution, 4, 5)?;
-    assert!(rt; has_generators(&ring, &[1, 1, 4]));
-    assert!(rt;
-        has_relations(
-            rt.alloc(),
-            &ring,
-            &["x_1_1^2+x_1_1*x_1_2+x_1_2^2", "x_1_2^3"]
-        )?
-    );
-    for (d, count) in [(1, 2), (2, 2), (3, 1), (4, 1)] {
-        assert!(rt; has_standard(&rt, rt.alloc(), &ring, d, count)?, "at {d}");
+fn presents_rings(rt: HostRuntime) -> Result<(), Fail> {
+    for (kind, case) in [
+        (
+            SmallGroup::Quaternion,
+            Case {
+                generators: &[1, 1, 4],
+                class: &[1],
+                relations: &["x_1_1^2+x_1_1*x_1_2+x_1_2^2", "x_1_2^3"],
+                standard: &[2, 2, 1, 1],
+            },
+        ),
+        (
+            SmallGroup::Three,
+            Case {
+                generators: &[1, 2],
+                class: &[1],
+                relations: &[],
+                standard: &[1, 1],
+            },
+        ),
+    ] {
+        let group = kind.group(rt.alloc())?;
+        let found = is_ring_of(&rt, rt.alloc(), &group, case)?;
+        assert!(rt; found, "{kind:?}");
     }
     Ok(())
 }
 
-#[test]
-fn presents_the_group_of_three_elements(rt: HostRuntime) -> Result<(), Fail> {
-    let resolution = resolved(&rt, rt.alloc(), SmallGroup::Three, 2)?;
-    let ring = presented(&rt, rt.alloc(), &resolution, 2, 0)?;
-    assert!(rt; has_generators(&ring, &[1, 2]));
-    assert!(rt; has_relations(rt.alloc(), &ring, &[])?);
-    assert!(rt; has_class(&ring, 0, &[1]) && has_class(&ring, 1, &[1]));
-    for d in [1, 2] {
-        assert!(rt; has_standard(&rt, rt.alloc(), &ring, d, 1)?, "at {d}");
+// Whether degree 3 is refused with four monomials, which leaves the ring as it was.
+fn refuses_four(resolution: &Resolution, ring: &mut Ring) -> bool
+    requires { IfSome ring.old.group (λ G. G ≡ resolution.now.group) }
+{
+    if ring.degree() != 2 || resolution.last() != 3 {
+        return false;
     }
-    Ok(())
+    let fault = ring.add_degree(resolution, 3).err();
+    let refused = Some(RingFault::TooManyMonomials {
+        degree: 3,
+        count: 4,
+    });
+    fault == refused && ring.degree() == 2 && has_generators(ring, &[1, 1]) && ring.relations() == 0
+}
+
+// The same for the ring of a group through degree 2.
+fn refuses_four_of(rt: &impl Abort, alloc: Global, group: &Group) -> Result<bool, Memory> {
+    let resolution = resolved(rt, alloc, group, 3)?;
+    let mut ring = presented(rt, alloc, &resolution, 2, 3);
+    Ok(refuses_four(&resolution, &mut ring))
 }
 
 #[test]
 fn counts_the_monomials(rt: HostRuntime) -> Result<(), Fail> {
-    let resolution = resolved(&rt, rt.alloc(), SmallGroup::Klein, 3)?;
-    let mut ring = presented(&rt, rt.alloc(), &resolution, 2, 3)?;
-    assert_eq!(rt; (ring.degree(), resolution.last()), (2, 3));
-    let refused = ring.add_degree(&resolution, 3).err();
-    assert_eq!(rt;
-        refused,
-        Some(RingFault::TooManyMonomials {
-            degree: 3,
-            count: 4
-        })
-    );
-    assert_eq!(rt; ring.degree(), 2);
-    assert!(rt; has_generators(&ring, &[1, 1]));
-    assert_eq!(rt; ring.relations(), 0);
+    let group = SmallGroup::Klein.group(rt.alloc())?;
+    let found = refuses_four_of(&rt, rt.alloc(), &group)?;
+    assert!(rt; found);
     Ok(())
 }
