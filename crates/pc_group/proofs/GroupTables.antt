@@ -9,7 +9,8 @@ use Rattle.power_commutator.proofs.Program.{first-table}
 use Rattle.power_commutator.proofs.Result.{claims}
 use Rattle.power_commutator.proofs.Collecting.{generator-word}
 use Rattle.pc_group.specs.Tables.{entry_of}
-use Rattle.pc_group.specs.WordNumbers.{IsTableOf}
+use Rattle.pc_group.specs.Squares.{times, IsTableOf}
+use Rattle.pc_group.specs.declared.square.Square.{Square}
 use Rattle.pc_group.specs.Consistency.{IsConsistent, GivesGroup}
 use Rattle.pc_group.specs.GroupOf.{IsCommutator, IsGroupOf, HasPowers, HasCommutators}
 
@@ -27,13 +28,13 @@ group-same n f g e F = record {
   inverse = λ a h. let i = F.inverse a h in (i.0, i.1, e a i.0 h i.1 ∙ i.2, e i.0 a i.1 h ∙ i.3);
 }
 
-module _ (P : Presented) (K : IsConsistent P) (p n : ℕ) (ts : List ℕ)
-    (a : p ≡ P.prime) (b : n ≡ P.gens) (T : IsTableOf P 1 P.gens ts) where
+module _ (P : Presented) (K : IsConsistent P) (p n : ℕ) (S : Square)
+    (a : p ≡ P.prime) (b : n ≡ P.gens) (T : IsTableOf P 1 P.gens S) where
   abbrev C : GroupClaims P
   C = claims P K.prime K.valid K.faultless
 
   abbrev G : GroupTable
-  G = record { p = p; n = n; entries = ts }
+  G = record { p = p; n = n; entries = S.entries.items }
 
   abbrev N : List ℕ → ℕ
   N = number P.prime
@@ -43,8 +44,8 @@ module _ (P : Presented) (K : IsConsistent P) (p n : ℕ) (ts : List ℕ)
 
   product-of : (x y : ℕ) → x < P.prime ^ P.gens → y < P.prime ^ P.gens → product G x y ≡ table P x y
   product-of x y h k =
-      product_is G x y ∙ ap (λ w. entry_of ts w x y) order-of
-      ∙ sym (first-table P K.prime K.valid (entry_of ts (P.prime ^ P.gens)) T.product x y h k)
+      product_is G x y ∙ ap (λ w. entry_of S.entries.items w x y) (order-of ∙ sym T.width-is)
+      ∙ sym (first-table P K.prime K.valid (times S) T.product-is x y h k)
 
   pub is-group : IsGroupTable G
   is-group =
@@ -53,7 +54,7 @@ module _ (P : Presented) (K : IsConsistent P) (p n : ℕ) (ts : List ℕ)
 
   pub is-table : IsTable G
   is-table = record {
-    size = T.square.len ∙ sym (ap (λ m. m * m) order-of);
+    size = S.square.len ∙ ap (λ m. m * m) (T.width-is ∙ sym order-of);
     closed = is-group.closed;
   }
 

@@ -5,5 +5,6 @@ pub mod GroupOf
 pub mod Consistency
 pub mod Refusal
 pub mod Tables
+pub mod Squares
 pub mod Layers
 pub mod WordNumbers

@@ -4,12 +4,13 @@ ghost use Rattle.std.specs.Prelude.{◌≡◌, ◌≤◌, ◌^◌, None, IfOk, I
 ghost use Rattle.power_commutator.specs.Presentations.{first_fault};
 ghost use Rattle.power_commutator.specs.Claims.{GroupClaims};
 ghost use Rattle.pc_group.specs.Consistency.{IsConsistent};
-ghost use Rattle.pc_group.specs.WordNumbers.{IsTableOf};
+ghost use Rattle.pc_group.specs.Squares.{IsTableOf};
 ghost use Rattle.pc_group.specs.GroupOf.{IsGroupOf, HasPowers, HasCommutators};
 ghost use Rattle.pc_group.specs.Refusal.{Refuses};
 
 use crate::presentation::Presentation;
 use crate::rounds::first_layer;
+use crate::square::Square;
 use group_table::Group;
 use power_commutator::TestName;
 use std::alloc::Global;
@@ -89,12 +90,12 @@ pub fn check(alloc: Global, p: Presentation) -> Result<Consistent, Refused>
 }
 
 // A consistent presentation with its group, which the product of layer 1 gives.
-fn with_group(presentation: Presentation, table: Vec<u16>) -> Consistent
+fn with_group(presentation: Presentation, table: Square) -> Consistent
     requires consistent { IsConsistent presentation }
-    requires table { IsTableOf presentation 1 presentation.gens table.items }
+    requires table { IsTableOf presentation 1 presentation.gens table }
     ensures { result ≡ presentation }
 {
-    let group = Group::from_law(presentation.prime(), presentation.gens(), table);
+    let group = Group::from_law(presentation.prime(), presentation.gens(), table.entries);
     Consistent {
         presentation,
         group,

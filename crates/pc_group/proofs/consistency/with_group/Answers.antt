@@ -8,20 +8,20 @@ use Rattle.pc_group.proofs.consistency.with_group.Goals as goal
 pub from_law-group-requires-clause-small : goal.from_law-group-requires-clause-small
 from_law-group-requires-clause-small c =
     small c.args.presentation c.requires.consistent (prime_value c.prime.result) c.gens.result
-    c.args.table.items c.prime.ensures.value c.gens.ensures.value c.requires.table
+    c.args.table c.prime.ensures.value c.gens.ensures.value c.requires.table
 
 pub from_law-group-requires-clause-table : goal.from_law-group-requires-clause-table
 from_law-group-requires-clause-table c =
     is-table c.args.presentation c.requires.consistent (prime_value c.prime.result) c.gens.result
-    c.args.table.items c.prime.ensures.value c.gens.ensures.value c.requires.table
+    c.args.table c.prime.ensures.value c.gens.ensures.value c.requires.table
 
 pub from_law-group-requires-clause-law : goal.from_law-group-requires-clause-law
 from_law-group-requires-clause-law c =
     is-group c.args.presentation c.requires.consistent (prime_value c.prime.result) c.gens.result
-    c.args.table.items c.prime.ensures.value c.gens.ensures.value c.requires.table
+    c.args.table c.prime.ensures.value c.gens.ensures.value c.requires.table
 
 pub invariant_of-result : goal.invariant_of-result
 invariant_of-result c =
     subst (GivesGroup c.args.presentation) (sym c.from_law-group.ensures)
     (gives c.args.presentation c.requires.consistent (prime_value c.prime.result) c.gens.result
-    c.args.table.items c.prime.ensures.value c.gens.ensures.value c.requires.table)
+    c.args.table c.prime.ensures.value c.gens.ensures.value c.requires.table)
