@@ -4,15 +4,14 @@ ghost use Rattle.coho_main.specs.Groups.{ForGroupOf, IsTableOf};
 
 use group_algebra::Algebra;
 use group_table::Memory;
-use pc_group::{Consistent, group_of};
+use pc_group::Consistent;
 use std::alloc::{AllocError, Global};
 
 /// The group algebra of a consistent presentation's group.
 pub fn algebra_of(alloc: Global, consistent: &Consistent) -> Result<Algebra, Memory>
     ensures { IfOk result (IsTableOf consistent.now) }
 {
-    let group = group_of(alloc, consistent)?;
-    Algebra::build(alloc, &group)
+    Algebra::build(alloc, consistent.group())
 }
 
 // The sizes of the layers of the layer basis.

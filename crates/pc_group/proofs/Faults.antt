@@ -6,9 +6,10 @@ use Rattle.power_commutator.proofs.Cyclic.{less-or}
 use Rattle.power_commutator.proofs.Tuples.{Among}
 use Rattle.power_commutator.proofs.Order.{Passes, none-range, some-range}
 use Rattle.power_commutator.proofs.Program.{power-passes, swap-passes, fixed-passes, twist-passes, iterate-agree}
-use Rattle.pc_group.specs.declared.layer_tests.Layer.{Layer}
-use Rattle.pc_group.specs.Tables.{entry_of, at}
-use Rattle.pc_group.specs.Layers.{width, IsSound, IsLayerOf}
+use Rattle.pc_group.specs.declared.layer.Layer.{Layer}
+use Rattle.pc_group.specs.Tables.{at}
+use Rattle.pc_group.specs.Squares.{times}
+use Rattle.pc_group.specs.Layers.{IsLayerOf}
 
 -- a loop over a range: the tests before j pass
 module _ (f : ℕ → Equation) (lo m hi : ℕ) (e : hi ≡ lo + m) where
@@ -35,7 +36,7 @@ passing e a b h z = h ∙ eq-eqb a b z
 pub failing : (e : Equation) (a b : ℕ) → Passes e (eqb a b) → (a ≡ b → ⊥) → Passes e false
 failing e a b h z = h ∙ ne_eqb a b z
 
-module _ (P : Presented) (m : ℕ) (L : Layer) (R : IsLayerOf P m L) (F : IsSound L) where
+module _ (P : Presented) (m : ℕ) (L : Layer) (R : IsLayerOf P m L) where
   abbrev i : ℕ
   i = L.index
 
@@ -43,40 +44,38 @@ module _ (P : Presented) (m : ℕ) (L : Layer) (R : IsLayerOf P m L) (F : IsSoun
   mul = product P (suc i) m
 
   abbrev t : ℕ → ℕ → ℕ
-  t = entry_of L.table.now (width L)
+  t = times L.table
 
   abbrev α : ℕ → ℕ
   α = step_alpha P t i m
 
   -- entry k of the table of α_i, that of the words of the g_j^p, and so on
   abbrev image : ℕ → ℕ
-  image k = get_or L.images.now k 0
+  image k = get_or L.images.items k 0
 
   abbrev power : ℕ → ℕ
-  power j = get_or L.powers.now j 0
+  power j = get_or L.powers.items j 0
 
   abbrev commutator : ℕ → ℕ → ℕ
-  commutator k j = get_or L.commutators.now (k * (L.gens + 1) + j) 0
+  commutator k j = get_or L.commutators.items (k * (L.gens + 1) + j) 0
 
   abbrev generator : ℕ → ℕ
-  generator j = get_or L.generators.now j 0
+  generator j = get_or L.generators.items j 0
 
   among : (j : ℕ) → i < j → j < L.gens + 1 → Among (suc i) m j
-  among j h l = (h, let c = R.numbers.count in let e = R.gens-is in omega (arith, l, e, c))
+  among j h l = (h, let c = R.count in let e = R.gens-is in omega (arith, l, e, c))
 
   image-of : (j : ℕ) → i < j → j < L.gens + 1 → image (generator j) ≡ α (P.prime ^ (j - suc i))
   image-of j h l =
-      let g = F.generators-len in
-      R.numbers.images-are (generator j) (F.generators-below j (omega (arith, l, g)))
-      ∙ ap α (R.numbers.generators-are j h (let e = R.gens-is in omega (arith, l, e)))
+      R.images-are (generator j) (L.generators_below.small j l)
+      ∙ ap α (R.generators-are j h (let e = R.gens-is in omega (arith, l, e)))
 
   image-power : (j : ℕ) → i ≤ j → j < L.gens + 1
       → image (power j) ≡ α (number P.prime (drop i (power_word P j)))
   image-power j h l =
-      let g = F.powers-len in
       let e = R.gens-is in
-      R.numbers.images-are (power j) (F.powers-below j (omega (arith, l, g)))
-      ∙ ap α (R.numbers.powers-are j h (omega (arith, l, e)))
+      R.images-are (power j) (L.powers_below.small j l)
+      ∙ ap α (R.powers-are j h (omega (arith, l, e)))
 
   place : (n k j : ℕ) → j < k → k < n + 1 → k * (n + 1) + j < (n + 1) * (n + 1)
   place n k j h l = grind arith
@@ -84,54 +83,56 @@ module _ (P : Presented) (m : ℕ) (L : Layer) (R : IsLayerOf P m L) (F : IsSoun
   image-commutator : (k j : ℕ) → i < j → j < k → k < L.gens + 1
       → image (commutator k j) ≡ α (number P.prime (drop i (commutator_word P k j)))
   image-commutator k j h l s =
-      let g = F.commutators-len in
-      let w = place L.gens k j l s in
-      R.numbers.images-are (commutator k j) (F.commutators-below (k * (L.gens + 1) + j) (omega (arith, g, w)))
-      ∙ ap α (ap (λ n. get_or L.commutators.now (k * (n + 1) + j) 0) (sym R.gens-is)
-      ∙ R.numbers.commutators-are k j h l (let e = R.gens-is in omega (arith, s, e)))
+      R.images-are (commutator k j) (L.commutators_below.small (k * (L.gens + 1) + j) (place L.gens k j l s))
+      ∙ ap α (ap (λ n. get_or L.commutators.items (k * (n + 1) + j) 0) (sym R.gens-is)
+      ∙ R.commutators-are k j h l (let e = R.gens-is in omega (arith, s, e)))
 
-  pub power-tells : (j : ℕ) → i < j → j < L.gens + 1
-      → Passes (power_test P mul i m j) (eqb (pow t 0 (image (generator j)) L.prime) (image (power j)))
-  power-tells j h l =
-      power-passes P R.numbers.some R.numbers.valid i m R.numbers.count R.numbers.index t R.numbers.table-is j
-      (among j h l)
-      ∙ sym (ap₂ eqb (ap₂ (pow t 0) (image-of j h l) R.prime-is)
-      (image-power j (let h' : i < j = h in omega (arith, h')) l))
+  -- each test is decided by the numbers of its two sides
+  pub power-tells : {g x l w r : ℕ} → (j : ℕ) → i < j → j < L.gens + 1 → g ≡ generator j → x ≡ image g
+      → l ≡ pow t 0 x L.prime → w ≡ power j → r ≡ image w → Passes (power_test P mul i m j) (eqb l r)
+  power-tells j h k g x l w r =
+      power-passes P R.some R.valid i m R.count R.index t R.table-is.product-is j (among j h k)
+      ∙ sym (ap₂ eqb (l ∙ ap₂ (pow t 0) (x ∙ ap image g ∙ image-of j h k) R.prime-is)
+      (r ∙ ap image w ∙ image-power j (let h' : i < j = h in omega (arith, h')) k))
 
-  pub swap-tells : (j k : ℕ) → i < j → j < k → k < L.gens + 1
-      → Passes (swap_test P mul i m j k)
-      (eqb (t (image (generator k)) (image (generator j)))
-      (t (t (image (generator j)) (image (generator k))) (image (commutator k j))))
-  swap-tells j k h l s =
-      let h' : i < j = h in
-      let l' : j < k = l in
-      let ij : j < L.gens + 1 = omega (arith, l', s) in
-      let ik : i < k = omega (arith, h', l') in
-      swap-passes P R.numbers.some R.numbers.valid i m R.numbers.count R.numbers.index t R.numbers.table-is j
-      k (among j h ij) (among k ik s) l
-      ∙ sym (ap₂ eqb (ap₂ t (image-of k ik s) (image-of j h ij))
-      (ap₂ t (ap₂ t (image-of j h ij) (image-of k ik s)) (image-commutator k j h l s)))
+  pub swap-tells : {g a h b d c l ab r : ℕ} → (j k : ℕ) → i < j → j < k → k < L.gens + 1 → g ≡ generator j
+      → a ≡ image g → h ≡ generator k → b ≡ image h → d ≡ commutator k j → c ≡ image d → l ≡ t b a
+      → ab ≡ t a b → r ≡ t ab c → Passes (swap_test P mul i m j k) (eqb l r)
+  swap-tells j k ij jk s g a h b d c l ab r =
+      let ij' : i < j = ij in
+      let jk' : j < k = jk in
+      let js : j < L.gens + 1 = omega (arith, jk', s) in
+      let ik : i < k = omega (arith, ij', jk') in
+      let a' = a ∙ ap image g ∙ image-of j ij js in
+      let b' = b ∙ ap image h ∙ image-of k ik s in
+      swap-passes P R.some R.valid i m R.count R.index t R.table-is.product-is j k (among j ij js)
+      (among k ik s) jk
+      ∙ sym (ap₂ eqb (l ∙ ap₂ t b' a')
+      (r ∙ ap₂ t (ab ∙ ap₂ t a' b') (c ∙ ap image d ∙ image-commutator k j ij jk s)))
 
   own : i < L.gens + 1 → power i ≡ number P.prime (drop i (power_word P i))
-  own l = R.numbers.powers-are i (omega arith) (let e = R.gens-is in omega (arith, l, e))
+  own l = R.powers-are i (omega arith) (let e = R.gens-is in omega (arith, l, e))
 
-  pub fixed-tells : i < L.gens + 1 → Passes (fixed_test P mul i m) (eqb (image (power i)) (power i))
-  fixed-tells l =
-      fixed-passes P R.numbers.some R.numbers.valid i m R.numbers.count R.numbers.index t R.numbers.table-is
-      ∙ sym (ap₂ eqb (image-power i (omega arith) l) (own l))
+  pub fixed-tells : {w x : ℕ} → w ≡ power i → x ≡ image w → Passes (fixed_test P mul i m) (eqb x w)
+  fixed-tells w x =
+      let o = L.inside in
+      let l : i < L.gens + 1 = omega (arith, o) in
+      fixed-passes P R.some R.valid i m R.count R.index t R.table-is.product-is
+      ∙ sym (ap₂ eqb (x ∙ ap image w ∙ image-power i (omega arith) l) (w ∙ own l))
 
-  pub twist-tells : (j : ℕ) → i < j → j < L.gens + 1
-      → Passes (twist_test P mul i m j)
-      (eqb (t (power i) (iterate (at L.images.now) L.prime (generator j))) (t (generator j) (power i)))
-  twist-tells j h l =
+  pub twist-tells : {w g y l r : ℕ} → (j : ℕ) → i < j → j < L.gens + 1 → w ≡ power i → g ≡ generator j
+      → y ≡ iterate (at L.images.items) L.prime g → l ≡ t w y → r ≡ t g w
+      → Passes (twist_test P mul i m j) (eqb l r)
+  twist-tells j h k w g y l r =
       let h' : i < j = h in
-      let g = F.generators-len in
-      let w : power i ≡ number P.prime (drop i (power_word P i)) = own (omega (arith, h', l)) in
-      let gen : generator j ≡ P.prime ^ (j - suc i) =
-      R.numbers.generators-are j h (let e = R.gens-is in omega (arith, l, e)) in
+      let w' = w ∙ own (omega (arith, h', k)) in
+      let g' : generator j ≡ P.prime ^ (j - suc i) =
+      R.generators-are j h (let e = R.gens-is in omega (arith, k, e)) in
       let agree =
-      iterate-agree (width L) α (at L.images.now) (λ k b. sym (R.numbers.images-are k b)) F.images-below.small
-      L.prime (generator j) (F.generators-below j (omega (arith, l, g))) in
-      twist-passes P R.numbers.some R.numbers.valid i m R.numbers.count R.numbers.index t R.numbers.table-is j
-      (among j h l)
-      ∙ sym (ap₂ eqb (ap₂ t w (sym agree.0 ∙ ap₂ (iterate α) R.prime-is gen)) (ap₂ t gen w))
+      iterate-agree L.table.width α (at L.images.items) (λ k b. sym (R.images-are k b)) L.images_below.small
+      L.prime (generator j) (L.generators_below.small j k) in
+      twist-passes P R.some R.valid i m R.count R.index t R.table-is.product-is j (among j h k)
+      ∙ sym (ap₂ eqb
+      (l ∙ ap₂ t w' (y ∙ ap (iterate (at L.images.items) L.prime) g ∙ sym agree.0
+      ∙ ap₂ (iterate α) R.prime-is g'))
+      (r ∙ ap₂ t (g ∙ g') w'))

@@ -3,12 +3,15 @@ use Rattle.std.proofs.Common.{◌≡◌, ℕ, zero, suc, refl, sym, ◌∙◌, a
 use Rattle.group_table.specs.Groups.{IsGroup}
 use Rattle.group_table.specs.Tables.{GroupTable, IsTable, IsGroupTable, order, order_is, product, product_is, power}
 use Rattle.group_table.proofs.Laws.{commutes-power}
-use Rattle.power_commutator.specs.Presentations.{Presentation as Presented, IsWord, IsPresentation, pow, identity, generator, multiply, number, commutator_word}
+use Rattle.power_commutator.specs.Presentations.{Presentation as Presented, IsWord, pow, identity, generator, multiply, number, commutator_word}
 use Rattle.power_commutator.specs.Claims.{GroupClaims, table}
 use Rattle.power_commutator.proofs.Program.{first-table}
+use Rattle.power_commutator.proofs.Result.{claims}
 use Rattle.power_commutator.proofs.Collecting.{generator-word}
 use Rattle.pc_group.specs.Tables.{entry_of}
-use Rattle.pc_group.specs.WordNumbers.{IsTableOf}
+use Rattle.pc_group.specs.Squares.{times, IsTableOf}
+use Rattle.pc_group.specs.declared.square.Square.{Square}
+use Rattle.pc_group.specs.Consistency.{IsConsistent, GivesGroup}
 use Rattle.pc_group.specs.GroupOf.{IsCommutator, IsGroupOf, HasPowers, HasCommutators}
 
 -- a product that agrees with that of a group
@@ -25,10 +28,13 @@ group-same n f g e F = record {
   inverse = λ a h. let i = F.inverse a h in (i.0, i.1, e a i.0 h i.1 ∙ i.2, e i.0 a i.1 h ∙ i.3);
 }
 
-module _ (P : Presented) (s : 1 < P.prime) (V : IsPresentation P) (C : GroupClaims P) (p n : ℕ) (ts : List ℕ)
-    (a : p ≡ P.prime) (b : n ≡ P.gens) (T : IsTableOf P 1 P.gens ts) where
+module _ (P : Presented) (K : IsConsistent P) (p n : ℕ) (S : Square)
+    (a : p ≡ P.prime) (b : n ≡ P.gens) (T : IsTableOf P 1 P.gens S) where
+  abbrev C : GroupClaims P
+  C = claims P K.prime K.valid K.faultless
+
   abbrev G : GroupTable
-  G = record { p = p; n = n; entries = ts }
+  G = record { p = p; n = n; entries = S.entries.items }
 
   abbrev N : List ℕ → ℕ
   N = number P.prime
@@ -38,8 +44,8 @@ module _ (P : Presented) (s : 1 < P.prime) (V : IsPresentation P) (C : GroupClai
 
   product-of : (x y : ℕ) → x < P.prime ^ P.gens → y < P.prime ^ P.gens → product G x y ≡ table P x y
   product-of x y h k =
-      product_is G x y ∙ ap (λ w. entry_of ts w x y) order-of
-      ∙ sym (first-table P s V (entry_of ts (P.prime ^ P.gens)) T.product x y h k)
+      product_is G x y ∙ ap (λ w. entry_of S.entries.items w x y) (order-of ∙ sym T.width-is)
+      ∙ sym (first-table P K.prime K.valid (times S) T.product-is x y h k)
 
   pub is-group : IsGroupTable G
   is-group =
@@ -48,14 +54,14 @@ module _ (P : Presented) (s : 1 < P.prime) (V : IsPresentation P) (C : GroupClai
 
   pub is-table : IsTable G
   is-table = record {
-    size = T.square.len ∙ sym (ap (λ m. m * m) order-of);
+    size = S.square.len ∙ ap (λ m. m * m) (T.width-is ∙ sym order-of);
     closed = is-group.closed;
   }
 
-  pub small : P.prime ^ P.gens ≤ 256 → order G ≤ 256
-  small h = let e = order-of in omega (arith, e, h)
+  pub small : order G ≤ 256
+  small = let e = order-of in let h = K.few in omega (arith, e, h)
 
-  pub is-group-of : IsGroupOf P G
+  is-group-of : IsGroupOf P G
   is-group-of = record {
     prime-is = a;
     rank-is = b;
@@ -90,19 +96,19 @@ module _ (P : Presented) (s : 1 < P.prime) (V : IsPresentation P) (C : GroupClai
   g i = generator 1 P.gens i
 
   is-word : (i : ℕ) → IsWord P.prime P.gens 0 (g i)
-  is-word i = generator-word P s V C i
+  is-word i = generator-word P K.prime K.valid C i
 
-  pub has-powers : HasPowers P G
+  has-powers : HasPowers P G
   has-powers i h l =
       ap (λ x. power G x P.prime) (sym (C.numbering.generators i h l))
       ∙ power-word (g i) (is-word i) P.prime ∙ ap N (C.relations.power i h l)
 
-  pub has-commutators : HasCommutators P G
+  has-commutators : HasCommutators P G
   has-commutators j i h l k =
       let h' : 0 < i = h in
       let l' : i < j = l in
       let k' : j ≤ P.gens = k in
-      let word = V.commutator j i h l k in
+      let word = K.valid.commutator j i h l k in
       let c : IsWord P.prime P.gens 0 (commutator_word P j i) =
       record { len = word.len; small = word.small; later = λ m z. absurd (omega (arith, z)) } in
       let gj = C.numbering.generators j (omega (arith, h', l')) k in
@@ -114,3 +120,11 @@ module _ (P : Presented) (s : 1 < P.prime) (V : IsPresentation P) (C : GroupClai
       (ap (product G (N (g i))) (product-words (g j) (commutator_word P j i) (is-word j) c)
       ∙ product-words (g i) (multiply P (g j) (commutator_word P j i)) (is-word i)
       (C.group.closed (g j) (commutator_word P j i) (is-word j) c)))
+
+  pub gives : GivesGroup P G
+  gives = record {
+    consistent = K;
+    group = is-group-of;
+    powers = has-powers;
+    commutators = has-commutators;
+  }

@@ -1,12 +1,15 @@
 -- What a loop over the layers needs: a word's number in a layer, the images from the elements, and the next
 -- layer's table.
-use Rattle.std.proofs.Common.{◌≡◌, ℕ, zero, suc, refl, sym, ◌∙◌, ap, ap₂, ◌+◌, ◌-◌, ◌*◌, ◌/◌, ◌^◌, ◌<◌, ◌≤◌, arith, List, [], ◌∷◌, get_or, drop, length, All, mod-eq_of_lt}
+use Rattle.std.proofs.Common.{◌≡◌, ℕ, zero, suc, refl, sym, ◌∙◌, ap, ap₂, ◌+◌, ◌-◌, ◌*◌, ◌/◌, ◌^◌, ◌<◌, ◌≤◌, arith, ◌%◌, ◌⊎◌, inl, inr, subst, List, [], ◌∷◌, ◌++◌, get_or, drop, length, length-append, All, mod-eq_of_lt}
 use Rattle.std.proofs.Math.Nat.{pow-zero, pow-succ', mul-add-div, div-eq_of_lt, div-div-eq-div-mul, div-one, zero-div, mul-add-mod_self_right, mul-add-div_right}
+use Rattle.std.proofs.Math.ListN.{get_or-append}
+use Rattle.std.proofs.Math.Seq.{get_or-append_seam}
 use Rattle.std.proofs.lemmas.List.Elements.{All-head, All-tail}
 use Rattle.power_commutator.specs.Presentations.{Presentation, IsPresentation, pow, ascending, number, word_of, power_word, commutator_word}
 use Rattle.power_commutator.specs.Steps.{step_table, step_alpha, IsLayerTable}
+use Rattle.power_commutator.proofs.Cyclic.{less-or}
 use Rattle.power_commutator.proofs.Program.{next-table, same-table, same-step, number-below}
-use Rattle.pc_group.specs.Tables.{entry_of, at, IsSquare, IsMap, HasEntries}
+use Rattle.pc_group.specs.Tables.{entry_of, at, AreNumbers, IsSquare, HasEntries}
 
 -- the number of a word in the layer after g_i is the word's number over p^i
 pub number-drop : (p : ℕ) → 0 < p → (i : ℕ) (w : List ℕ) → All (λ e. e < p) w
@@ -46,6 +49,28 @@ images-from P t i m E l h k =
     ∙ ascending-list t 0 (at E) _ (suc i) (word_of P.prime m k)
     (λ j a b. h j a (let w = length-word P.prime m k in omega (arith, b, w)))
 
+-- one entry more
+pub entries-next : (W : ℕ) (t : ℕ → ℕ → ℕ) (n : ℕ) (ts out : List ℕ) (x : ℕ) → HasEntries W t n ts
+    → x ≡ t (n / W) (n % W) → x < W → out ≡ ts ++ x ∷ [] → HasEntries W t (n + 1) out
+entries-next W t n ts out x H e l z = (
+  ap length z ∙ length-append ts (x ∷ []) ∙ ap (λ k. k + 1) H.0,
+  λ k h. go k (less-or k n) h,
+)
+  where
+    go : (k : ℕ) → (k < n) ⊎ (n ≤ k) → k < n + 1 → (get_or out k 0 ≡ t (k / W) (k % W)) × get_or out k 0 < W
+    go k (inl a) h =
+        let b = H.0 in
+        let old : get_or out k 0 ≡ get_or ts k 0 = ap (λ xs. get_or xs k 0) z
+        ∙ get_or-append ts (x ∷ []) 0 k (omega (arith, a, b)) in
+        subst (λ y. (y ≡ t (k / W) (k % W)) × y < W) (sym old) (H.1 k a)
+    go k (inr a) h =
+        let b = H.0 in
+        let end : k ≡ length ts = omega (arith, a, h, b) in
+        let last : get_or out k 0 ≡ x = ap₂ (λ xs j. get_or xs j 0) z end
+        ∙ get_or-append_seam ts x [] 0 in
+        let same : n ≡ k = omega (arith, a, h) in
+        (last ∙ e ∙ ap (λ j. t (j / W) (j % W)) same, subst (λ y. y < W) (sym last) l)
+
 entry-is : (W : ℕ) (t : ℕ → ℕ → ℕ) (out : List ℕ) → HasEntries W t (W * W) out → (a b : ℕ) → a < W → b < W
     → entry_of out W a b ≡ t a b
 entry-is W t out h a b l k =
@@ -57,10 +82,10 @@ entry-is W t out h a b l k =
 pub square-is : (W : ℕ) (t : ℕ → ℕ → ℕ) (out : List ℕ) → HasEntries W t (W * W) out → IsSquare W out
 square-is W t out h = record { len = h.0; small = λ k l. (h.1 k l).1 }
 
--- the table that `layer_table` makes is that of layer i
+-- the table of the product with g_i is that of layer i
 pub table-next : (P : Presentation) (s : 1 < P.prime) (v : IsPresentation P) (i m : ℕ) (e : i + m ≡ P.gens)
     (h : 0 < i) (W : ℕ) (T I out : List ℕ)
-    → W ≡ P.prime ^ m → (R : IsLayerTable P (suc i) m (entry_of T W)) → IsMap W I
+    → W ≡ P.prime ^ m → (R : IsLayerTable P (suc i) m (entry_of T W)) → AreNumbers W W I
     → ((k : ℕ) → k < W → get_or I k 0 ≡ step_alpha P (entry_of T W) i m k)
     → HasEntries (P.prime * W) (step_table P.prime (entry_of T W) (number P.prime (drop i (power_word P i)))
     (at I)) (P.prime * W * (P.prime * W)) out

@@ -1,11 +1,11 @@
-pub mod Collecting
-pub mod Making
+pub mod CollectedWords
+pub mod MadeParts
 pub mod Views
 pub mod Powers
 pub mod LayerTables
 pub mod Faults
 pub mod WordNumbers
-pub mod Round
-pub mod Step
+pub mod LayerLists
+pub mod LayerProducts
 pub mod Descent
 pub mod GroupTables

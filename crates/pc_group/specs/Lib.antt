@@ -1,9 +1,10 @@
 pub mod Collection
 pub mod Parts
 pub mod Shown
+pub mod GroupOf
 pub mod Consistency
 pub mod Refusal
 pub mod Tables
+pub mod Squares
 pub mod Layers
 pub mod WordNumbers
-pub mod GroupOf

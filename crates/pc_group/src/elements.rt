@@ -6,24 +6,19 @@ ghost use Rattle.pc_group.specs.GroupOf.{IsGroupOf, HasPowers, HasCommutators};
 
 use crate::consistency::Consistent;
 use crate::presentation::Word;
-use crate::rounds::first_layer;
 use crate::word_numbers::word_number;
 use group_table::{Group, Memory};
 use smallvec::SmallVec;
 use std::alloc::Global;
 
-/// The group of order p^n that a consistent presentation gives.
+/// A copy of the group of order p^n that a consistent presentation gives.
 /// The element g_1^e_1 g_2^e_2 .. has the number e_1 + e_2 p + e_3 p^2 and so on.
 pub fn group_of(alloc: Global, c: &Consistent) -> Result<Group, Memory>
     ensures group { IfOk result (IsGroupOf c.now) }
     ensures powers { IfOk result (HasPowers c.now) }
     ensures commutators { IfOk result (HasCommutators c.now) }
 {
-    let p = c.presentation();
-    match first_layer(alloc, p)? {
-        Ok(table) => Ok(Group::from_law(p.prime(), p.gens(), table)),
-        Err(_) => unreachable!(),
-    }
+    c.group().try_clone(alloc)
 }
 
 /// The number of the element with these n exponents below p.

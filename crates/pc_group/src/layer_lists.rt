@@ -2,9 +2,10 @@
 
 ghost use Rattle.std.specs.Prelude.{◌≡◌, ◌<◌, ◌≤◌, ◌*◌, ◌/◌, ◌+◌, ◌-◌, ◌^◌, suc, length, get_or, IfOk};
 ghost use Rattle.power_commutator.specs.Presentations.{ascending, word_of};
-ghost use Rattle.pc_group.specs.Tables.{entry_of, at, IsSquare, AreBelow, Each};
+ghost use Rattle.pc_group.specs.Tables.{at, AreNumbers, AreBelow, Each};
+ghost use Rattle.pc_group.specs.Squares.{times};
 
-use crate::tables::{digits_product, entry};
+use crate::square::Square;
 use group_table::Memory;
 use limits::MOST_GENERATORS;
 use std::alloc::Global;
@@ -76,35 +77,25 @@ pub(crate) fn scaled(alloc: Global, numbers: &[u16], divisor: usize) -> Result<V
 
 /// g_j c_{j,i} in the layer after g_i, or 0 for the generators that it lacks.
 pub(crate) fn element(
-    table: &[u16],
-    width: usize,
-    gens: &[u16],
+    table: &Square,
+    generators: &[u16],
     commutators: &[u16],
     i: usize,
     n: usize,
     j: usize,
 ) -> usize
-    requires square { IsSquare width table.now }
-    requires small { width ≤ 256 }
-    requires some { 0 < width }
     requires count { n ≤ MOST_GENERATORS }
     requires inside { j ≤ n }
     requires before { i ≤ n }
-    requires gens { AreBelow width gens.now }
-    requires gens_len { length gens.now ≡ n + 1 }
-    requires commutators { AreBelow width commutators.now }
-    requires commutators_len { length commutators.now ≡ (n + 1) * (n + 1) }
+    requires generators { AreNumbers (n + 1) table.now.width generators.now }
+    requires commutators { AreNumbers ((n + 1) * (n + 1)) table.now.width commutators.now }
     ensures value { i < j → result ≡
-        entry_of table.now width (get_or gens.now j 0) (get_or commutators.now (j * (n + 1) + i) 0) }
-    ensures below { result < width }
+        times table.now (at generators.now j) (at commutators.now (j * (n + 1) + i)) }
+    ensures below { result < table.now.width }
 {
     if i < j {
-        entry(
-            table,
-            width,
-            gens[j] as usize,
-            commutators[j * (n + 1) + i] as usize,
-        )
+        let commutator = commutators[j * (n + 1) + i];
+        table.entry(generators[j] as usize, commutator as usize)
     } else {
         0
     }
@@ -113,29 +104,23 @@ pub(crate) fn element(
 /// The elements g_j c_{j,i}.
 pub(crate) fn element_list(
     alloc: Global,
-    table: &[u16],
-    width: usize,
-    gens: &[u16],
+    table: &Square,
+    generators: &[u16],
     commutators: &[u16],
     i: usize,
     n: usize,
 ) -> Result<Vec<u16>, Memory>
-    requires square { IsSquare width table.now }
-    requires small { width ≤ 256 }
-    requires some { 0 < width }
     requires count { n ≤ MOST_GENERATORS }
     requires before { i ≤ n }
-    requires gens { AreBelow width gens.now }
-    requires gens_len { length gens.now ≡ n + 1 }
-    requires commutators { AreBelow width commutators.now }
-    requires commutators_len { length commutators.now ≡ (n + 1) * (n + 1) }
+    requires generators { AreNumbers (n + 1) table.now.width generators.now }
+    requires commutators { AreNumbers ((n + 1) * (n + 1)) table.now.width commutators.now }
     ensures { IfOk result (λ v. Each (λ j x. (i < j → x ≡
-        entry_of table.now width (get_or gens.now j 0) (get_or commutators.now (j * (n + 1) + i) 0))
-        × x < width) (n + 1) v.items) }
+        times table.now (at generators.now j) (at commutators.now (j * (n + 1) + i)))
+        × x < table.now.width) (n + 1) v.items) }
 {
     let mut out = Vec::new(alloc);
     for j in 0..n + 1 {
-        let x = element(table, width, gens, commutators, i, n, j);
+        let x = element(table, generators, commutators, i, n, j);
         out.push(x as u16)?;
     }
     Ok(out)
@@ -145,25 +130,21 @@ pub(crate) fn element_list(
 pub(crate) fn image_list(
     alloc: Global,
     prime: usize,
-    table: &[u16],
-    width: usize,
+    table: &Square,
     elements: &[u16],
     i: usize,
 ) -> Result<Vec<u16>, Memory>
     requires prime { 0 < prime }
-    requires square { IsSquare width table.now }
-    requires small { width ≤ 256 }
-    requires some { 0 < width }
-    requires elements { AreBelow width elements.now }
+    requires elements { AreBelow table.now.width elements.now }
     requires place { i < length elements.now }
     ensures { IfOk result (λ v. Each (λ k x. (x ≡
-        ascending (entry_of table.now width) 0 (at elements.now) (i + 1)
+        ascending (times table.now) 0 (at elements.now) (i + 1)
         (word_of prime (length elements.now - (i + 1)) k))
-        × x < width) width v.items) }
+        × x < table.now.width) table.now.width v.items) }
 {
     let mut out = Vec::new(alloc);
-    for k in 0..width {
-        let x = digits_product(prime, table, width, elements, i + 1, k);
+    for k in 0..table.width {
+        let x = table.digits_product(prime, elements, i + 1, k);
         out.push(x as u16)?;
     }
     Ok(out)

@@ -1,42 +1,23 @@
 //! The consistency tests of a layer, each decided by numbers.
 
 ghost use Rattle.std.specs.Prelude.{◌≡◌, ◌<◌, ◌≤◌, ◌+◌, ℕ, suc};
-ghost use Rattle.power_commutator.specs.Presentations.{Presentation as Presented, equations, first_false};
+ghost use Rattle.power_commutator.specs.Presentations.{Presentation as Presented, equations, first_false, product, swap_test};
 ghost use Rattle.power_commutator.specs.Order.{row};
+ghost use Rattle.pc_group.specs.Layers.{IsLayerOf, power_tests, swap_tests, fixed_tests, twist_tests};
 
-use crate::tables::{entry, iterated, power};
+use crate::layer::Layer;
 use power_commutator::TestName;
 
-/// The layer after g_i by the numbers of its elements: its product, the map α_i, and the words there of g_j^p
-/// and [g_k, g_j].
-/// The word of g_j^p stands at j, that of [g_k, g_j] at k (n + 1) + j, and g_j at j.
-#[derive(Clone, Copy)]
-pub(crate) struct Layer<'a> {
-    pub prime: usize,
-    pub index: usize,
-    pub gens: usize,
-    pub table: &'a [u16],
-    pub images: &'a [u16],
-    pub powers: &'a [u16],
-    pub commutators: &'a [u16],
-    pub generators: &'a [u16],
-}
-
-impl Layer<'_> {
-    ghost use Rattle.power_commutator.specs.Presentations.{product, swap_test};
-    ghost use Rattle.pc_group.specs.Layers.{IsSound, IsLayerOf, power_tests, swap_tests, fixed_tests, twist_tests};
-
+impl Layer {
     /// The first false power test.
     pub fn power_fault(&self) -> Option<TestName>
-        requires { IsSound self.now }
         ensures { (P : Presented) (m : ℕ) → IsLayerOf P m self.now →
             result ≡ first_false (power_tests P self.now.index m) }
     {
-        let width = self.images.len();
         for j in self.index + 1..self.gens + 1 {
-            let image = self.images[self.generators[j] as usize] as usize;
-            let left = power(self.table, width, image, self.prime);
-            let right = self.images[self.powers[j] as usize] as usize;
+            let image = self.image(self.generator(j));
+            let left = self.table.power(image, self.prime);
+            let right = self.image(self.power_word(j));
             if left != right {
                 return Some(TestName::Power {
                     i: self.index as u32,
@@ -49,19 +30,17 @@ impl Layer<'_> {
 
     /// The first false swap test with this j.
     pub fn swap_row(&self, j: usize) -> Option<TestName>
-        requires sound { IsSound self.now }
         requires above { self.now.index < j }
         requires inside { j ≤ self.now.gens }
         ensures { (P : Presented) (m : ℕ) → IsLayerOf P m self.now → let i = self.now.index in
             result ≡ first_false (row (swap_test P (product P (suc i) m) i m) (self.now.gens + 1) j) }
     {
-        let width = self.images.len();
-        let a = self.images[self.generators[j] as usize] as usize;
+        let a = self.image(self.generator(j));
         for k in j + 1..self.gens + 1 {
-            let b = self.images[self.generators[k] as usize] as usize;
-            let c = self.images[self.commutators[k * (self.gens + 1) + j] as usize] as usize;
-            let left = entry(self.table, width, b, a);
-            let right = entry(self.table, width, entry(self.table, width, a, b), c);
+            let b = self.image(self.generator(k));
+            let c = self.image(self.commutator_word(k, j));
+            let left = self.table.entry(b, a);
+            let right = self.table.entry(self.table.entry(a, b), c);
             if left != right {
                 return Some(TestName::Swap {
                     i: self.index as u32,
@@ -75,7 +54,6 @@ impl Layer<'_> {
 
     /// The first false swap test.
     pub fn swap_fault(&self) -> Option<TestName>
-        requires { IsSound self.now }
         ensures { (P : Presented) (m : ℕ) → IsLayerOf P m self.now →
             result ≡ first_false (swap_tests P self.now.index m) }
     {
@@ -89,12 +67,11 @@ impl Layer<'_> {
 
     /// The fixed test, if it is false.
     pub fn fixed_fault(&self) -> Option<TestName>
-        requires { IsSound self.now }
         ensures { (P : Presented) (m : ℕ) → IsLayerOf P m self.now →
             result ≡ first_false (fixed_tests P self.now.index m) }
     {
-        let w = self.powers[self.index];
-        if self.images[w as usize] != w {
+        let w = self.power_word(self.index);
+        if self.image(w) != w {
             Some(TestName::Fixed {
                 i: self.index as u32,
             })
@@ -105,16 +82,14 @@ impl Layer<'_> {
 
     /// The first false twist test.
     pub fn twist_fault(&self) -> Option<TestName>
-        requires { IsSound self.now }
         ensures { (P : Presented) (m : ℕ) → IsLayerOf P m self.now →
             result ≡ first_false (twist_tests P self.now.index m) }
     {
-        let width = self.images.len();
-        let w = self.powers[self.index] as usize;
+        let w = self.power_word(self.index);
         for j in self.index + 1..self.gens + 1 {
-            let g = self.generators[j] as usize;
-            let left = entry(self.table, width, w, iterated(self.images, self.prime, g));
-            let right = entry(self.table, width, g, w);
+            let g = self.generator(j);
+            let left = self.table.entry(w, self.iterated(self.prime, g));
+            let right = self.table.entry(g, w);
             if left != right {
                 return Some(TestName::Twist {
                     i: self.index as u32,
@@ -127,7 +102,6 @@ impl Layer<'_> {
 
     /// The first false test.
     pub fn fault(&self) -> Option<TestName>
-        requires { IsSound self.now }
         ensures { (P : Presented) (m : ℕ) → IsLayerOf P m self.now → let i = self.now.index in
             result ≡ first_false (equations P (product P (suc i) m) i m) }
     {

@@ -8,12 +8,13 @@ pub mod consistency;
 pub mod elements;
 #[cfg(test)]
 mod known_groups;
+mod layer;
 mod layer_lists;
-mod layer_table;
+mod layer_product;
 mod layer_tests;
 pub mod presentation;
 mod rounds;
-mod tables;
+mod square;
 #[cfg(test)]
 mod tests;
 mod word_numbers;

@@ -204,9 +204,10 @@ fn keeps_the_words_that_are_set(rt: HostRuntime) -> Result<(), Fail> {
 
 #[test]
 fn makes_a_group_of_order_128(rt: HostRuntime) -> Result<(), Fail> {
-    let group = group_of(rt.alloc(), &consistent(&rt, rt.alloc(), &ELEMENTARY_128)?)?;
+    let elementary = consistent(&rt, rt.alloc(), &ELEMENTARY_128)?;
+    let group = elementary.group();
     assert_eq!(rt; group.order(), 128);
-    assert_eq!(rt; count_of_order(&group, 2), 127);
+    assert_eq!(rt; count_of_order(group, 2), 127);
     Ok(())
 }
 

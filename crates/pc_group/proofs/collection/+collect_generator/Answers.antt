@@ -5,7 +5,7 @@ use Rattle.power_commutator.specs.Presentations.{IsWord, multiply}
 use Rattle.power_commutator.specs.Collect.{product_of, spell}
 use Rattle.power_commutator.proofs.Collecting.{product-word}
 use Rattle.pc_group.specs.Collection.{passed}
-use Rattle.pc_group.proofs.Collecting.{few-generators, right-after, passed-after, collected, collected-more, collected-all}
+use Rattle.pc_group.proofs.CollectedWords.{few-generators, right-after, passed-after, collected, collected-more, collected-all}
 use Rattle.pc_group.proofs.collection.+collect_generator.Goals as goal
 
 pub overflow_add-k : goal.overflow_add-k

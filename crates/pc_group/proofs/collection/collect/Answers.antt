@@ -3,8 +3,8 @@ use Rattle.std.specs.List.{refill}
 use Rattle.power_commutator.specs.Presentations.{IsWord, multiply, generator, identity}
 use Rattle.power_commutator.specs.Collect.{product_of}
 use Rattle.power_commutator.proofs.Collecting.{product-word}
-use Rattle.pc_group.proofs.Making.{identity-replicate}
-use Rattle.pc_group.proofs.Collecting.{collected-more, refilled}
+use Rattle.pc_group.proofs.MadeParts.{identity-replicate}
+use Rattle.pc_group.proofs.CollectedWords.{collected-more, refilled}
 use Rattle.pc_group.proofs.collection.collect.Goals as goal
 
 pub loop-k-init : goal.loop-k-init

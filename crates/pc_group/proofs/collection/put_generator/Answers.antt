@@ -4,7 +4,7 @@ use Rattle.std.proofs.lemmas.List.{length-set}
 use Rattle.std.proofs.lemmas.Slice.{between_to_end}
 use Rattle.std.proofs.lemmas.List.Elements.{All-get_or}
 use Rattle.power_commutator.specs.Presentations.{power_word}
-use Rattle.pc_group.proofs.Collecting.{put-below-written, put-power-written}
+use Rattle.pc_group.proofs.CollectedWords.{put-below-written, put-power-written}
 use Rattle.pc_group.proofs.collection.put_generator.Goals as goal
 
 pub overflow_add-word : goal.overflow_add-word

@@ -5,6 +5,21 @@ use Rattle.power_commutator.proofs.Result.{claims}
 use Rattle.power_commutator.proofs.Converse.{no-fault}
 use Rattle.pc_group.proofs.consistency.check.Goals as goal
 
+pub with_group-requires-clause-consistent : goal.with_group-requires-clause-consistent
+with_group-requires-clause-consistent c =
+    let outcome = rw c.in-Ok-Ok.field-0-is at c.in-Ok-Ok.ensures.outcome in
+    record {
+      prime = c.first_layer.ensures.prime;
+      few = c.requires;
+      valid = c.first_layer.ensures.valid;
+      faultless = outcome.0;
+    }
+
+pub with_group-requires-clause-table : goal.with_group-requires-clause-table
+with_group-requires-clause-table c =
+    let outcome = rw c.in-Ok-Ok.field-0-is at c.in-Ok-Ok.ensures.outcome in
+    outcome.1
+
 pub returns-in-Ok-Ok-clause-group : goal.returns-in-Ok-Ok-clause-group
 returns-in-Ok-Ok-clause-group c =
     let outcome = rw c.in-Ok-Ok.field-0-is at c.in-Ok-Ok.ensures.outcome in

@@ -1,7 +1,7 @@
 -- There are at most 8 exponents, and each is the remainder of what is left.
 use Rattle.std.proofs.Common.{◌≡◌, suc, ◌∙◌, ap, ◌-◌, ◌+◌, ◌/◌, ◌%◌, arith, lit<, length, [], ◌∷◌, ◌++◌, append_assoc, length-append}
 use Rattle.power_commutator.specs.Presentations.{word_of}
-use Rattle.pc_group.proofs.Collecting.{few-generators}
+use Rattle.pc_group.proofs.CollectedWords.{few-generators}
 use Rattle.pc_group.proofs.elements.word_of.Goals as goal
 
 pub push_reserved-requires : goal.push_reserved-requires

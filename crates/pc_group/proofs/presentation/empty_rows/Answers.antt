@@ -2,7 +2,7 @@ use Rattle.std.proofs.Common.{◌≡◌, ◌∙◌, ap, ap₂, [], ◌∷◌, �
 use Rattle.std.proofs.lemmas.List.{map-append}
 use Rattle.power_commutator.specs.Presentations.{identity, range}
 use Rattle.pc_group.specs.Parts.{exponents}
-use Rattle.pc_group.proofs.Making.{range-next}
+use Rattle.pc_group.proofs.MadeParts.{range-next}
 use Rattle.pc_group.proofs.presentation.empty_rows.Goals as goal
 
 pub loop-i-preserved : goal.loop-i-preserved

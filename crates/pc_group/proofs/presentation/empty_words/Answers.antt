@@ -2,7 +2,7 @@ use Rattle.std.proofs.Common.{◌∙◌, ap, ap₂, [], ◌∷◌, ◌++◌}
 use Rattle.std.proofs.lemmas.List.{map-append, replicate_more}
 use Rattle.power_commutator.specs.Presentations.{identity}
 use Rattle.pc_group.specs.Parts.{exponents}
-use Rattle.pc_group.proofs.Making.{identity-replicate}
+use Rattle.pc_group.proofs.MadeParts.{identity-replicate}
 use Rattle.pc_group.proofs.presentation.empty_words.Goals as goal
 
 pub loop-i-preserved : goal.loop-i-preserved

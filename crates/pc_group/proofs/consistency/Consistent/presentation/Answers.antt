@@ -5,5 +5,5 @@ use Rattle.pc_group.proofs.consistency.Consistent.presentation.Goals as goal
 
 pub returns-clause-group : goal.returns-clause-group
 returns-clause-group c =
-    let h : IsConsistent c.args.self.now = subst IsConsistent c.self.view_is c.self.invariant in
+    let h : IsConsistent c.args.self.now = subst IsConsistent c.self.view_is c.self.invariant.consistent in
     claims c.args.self.now h.prime h.valid h.faultless

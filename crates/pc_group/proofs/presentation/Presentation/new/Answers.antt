@@ -1,7 +1,7 @@
 use Rattle.std.proofs.Common.{subst, sym, ap₂, arith}
 use Rattle.group_table.specs.Prime.{prime_value}
 use Rattle.power_commutator.specs.Presentations.{IsPresentation}
-use Rattle.pc_group.proofs.Making.{elementary-valid}
+use Rattle.pc_group.proofs.MadeParts.{elementary-valid}
 use Rattle.pc_group.proofs.Views.{prime_value-above}
 use Rattle.pc_group.proofs.presentation.Presentation.new.Goals as goal
 

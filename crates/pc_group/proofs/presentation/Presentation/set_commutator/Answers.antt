@@ -4,7 +4,7 @@ use Rattle.std.proofs.lemmas.List.{map-set, length-map}
 use Rattle.power_commutator.specs.Presentations.{IsPresentation, IsWord}
 use Rattle.pc_group.specs.Shown.{shown}
 use Rattle.pc_group.specs.Parts.{with_commutator, exponents}
-use Rattle.pc_group.proofs.Making.{with_commutator-valid}
+use Rattle.pc_group.proofs.MadeParts.{with_commutator-valid}
 use Rattle.pc_group.proofs.Views.{entry-shown}
 use Rattle.pc_group.proofs.presentation.Presentation.set_commutator.Goals as goal
 

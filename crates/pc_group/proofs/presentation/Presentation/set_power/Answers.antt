@@ -2,7 +2,7 @@ use Rattle.std.proofs.Common.{subst, sym, ◌∙◌, ap, ◌≤◌}
 use Rattle.power_commutator.specs.Presentations.{IsPresentation, IsWord}
 use Rattle.pc_group.specs.Shown.{shown}
 use Rattle.pc_group.specs.Parts.{with_power}
-use Rattle.pc_group.proofs.Making.{with_power-valid}
+use Rattle.pc_group.proofs.MadeParts.{with_power-valid}
 use Rattle.pc_group.proofs.Views.{shown-powers}
 use Rattle.pc_group.proofs.presentation.Presentation.set_power.Goals as goal
 
