@@ -1,5 +1,5 @@
 -- The bytes of all files.
-use Rattle.std.specs.Prelude.{◌≡◌, ◌⊎◌, ℕ, ◌≤◌, Bool, if◌then◌else◌, List, [], length, take, drop}
+use Rattle.std.specs.Prelude.{◌≡◌, ◌⊎◌, ℕ, ◌≤◌, Bool, if◌then◌else◌, List, [], ◌++◌, length, take, drop, IfSome}
 use Rattle.std.specs.declared.option.Option.{Option}
 use Rattle.std.specs.declared.option.Option.TheVariants.{None, Some}
 use Rattle.std.specs.Ordering.{nat_cmp}
@@ -35,3 +35,30 @@ ReadsAt None place buf k = ⊥
 ReadsAt (Some bytes) place buf k =
     (take k buf ≡ take k (drop place bytes))
     × (k ≡ 0 → (length buf ≡ 0) ⊎ (length bytes ≤ place))
+
+-- the bytes of a file that is there, and none of one that is missing
+abbrev pub or_empty : Option (List ℕ) → List ℕ
+or_empty None = []
+or_empty (Some bytes) = bytes
+
+-- the content with a piece behind the bytes of a file; one that is missing is made
+abbrev pub with_piece : Content → List ℕ → List ℕ → Content
+with_piece content path piece = with_file content path (or_empty (file content path) ++ piece)
+
+-- known content with an empty file in the place of a path's
+abbrev pub Creates : Option Content → Option Content → List ℕ → Type 0
+Creates old new path = IfSome old (λ files. new ≡ Some (with_file files path []))
+
+-- known content as before, or with an empty file in the place of a path's
+abbrev pub CreatesOrStays : Option Content → Option Content → List ℕ → Type 0
+CreatesOrStays old new path =
+    IfSome old (λ files. (new ≡ Some files) ⊎ (new ≡ Some (with_file files path [])))
+
+-- known content that gains a piece behind a file
+abbrev pub AppendsPiece : Option Content → Option Content → List ℕ → List ℕ → Type 0
+AppendsPiece old new path piece = IfSome old (λ files. new ≡ Some (with_piece files path piece))
+
+-- known content as before, or with the first bytes of a piece behind a file
+abbrev pub AppendsFrontOrStays : Option Content → Option Content → List ℕ → List ℕ → Type 0
+AppendsFrontOrStays old new path piece = IfSome old (λ files.
+    (new ≡ Some files) ⊎ ((k : ℕ) × (new ≡ Some (with_piece files path (take k piece)))))

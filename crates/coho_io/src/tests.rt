@@ -33,6 +33,27 @@ fn disk_files_read_a_real_file_and_count_faults(rt: HostRuntime) -> Result<(), F
 }
 
 #[test]
+fn disk_files_create_and_append_to_a_real_file(rt: HostRuntime) -> Result<(), Fail> {
+    let path = "coho_io_writes_this_file";
+    fs::write(&rt, path, b"what stood there before")?;
+    let mut files = DiskFiles::new(&rt);
+    assert_eq!(rt; files.create(path), Ok(()));
+    assert_eq!(rt; files.append(path, b"ab"), Ok(()));
+    assert_eq!(rt; files.append(path, b"cd"), Ok(()));
+    assert_eq!(rt; read_four(&mut files, path, 0), (Ok(4), *b"abcd"));
+    assert_eq!(rt; read_four(&mut files, path, 4).0, Ok(0));
+    assert_eq!(rt;
+        files.append("no such folder/file", b"x"),
+        Err(Fault::Failed)
+    );
+    assert_eq!(rt; files.create("no such folder/file"), Err(Fault::Failed));
+    assert_eq!(rt; files.write_faults(path), 2);
+    assert_eq!(rt; files.read_faults(path), 0);
+    fs::remove_file(&rt, path)?;
+    Ok(())
+}
+
+#[test]
 fn std_sinks_write_to_real_streams(rt: HostRuntime) {
     let mut out = StdSink::stdout(&rt);
     assert_eq!(rt; out.write(b"a line on standard output\n"), Ok(()));
@@ -140,5 +161,72 @@ fn a_sink_in_memory_fails_at_the_listed_writes(rt: HostRuntime) -> Result<(), Fa
         );
         assert_eq!(rt; sink.faults(), faults, "{listed} is listed");
     }
+    Ok(())
+}
+
+/// Creates a file and appends two pieces to it, and shows the three answers.
+fn write_twice<F: Files>(files: &mut F, path: &str) -> [Result<(), Fault>; 3] {
+    [
+        files.create(path),
+        files.append(path, b"ab"),
+        files.append(path, b"cd"),
+    ]
+}
+
+#[test]
+fn files_in_memory_are_written_up_to_the_listed_call(rt: HostRuntime) -> Result<(), Fail> {
+    let failed = Err(Fault::Failed);
+    for (listed, taken, answers, bytes, faults) in [
+        (1, 7, [failed, Ok(()), Ok(())], "oldabcd", 1),
+        (2, 1, [Ok(()), failed, Ok(())], "acd", 1),
+        (3, 0, [Ok(()), Ok(()), failed], "ab", 1),
+        (3, 9, [Ok(()), Ok(()), failed], "abcd", 1),
+        (4, 0, [Ok(()), Ok(()), Ok(())], "abcd", 0),
+    ] {
+        let mut files = MemFiles::new(rt.alloc());
+        files.put("a", b"old")?;
+        files.put("b", b"other")?;
+        files.fail_at(listed, taken)?;
+        assert_eq!(rt; write_twice(&mut files, "a"), answers, "{listed} is listed");
+        assert_eq!(rt;
+            files.get("a"),
+            Some(bytes.as_bytes()),
+            "{listed} is listed"
+        );
+        assert_eq!(rt; files.get("b"), Some(b"other".as_slice()));
+        assert_eq!(rt; files.write_faults("a"), faults, "{listed} is listed");
+        assert_eq!(rt; files.write_faults("b"), 0, "{listed} is listed");
+        assert_eq!(rt; files.read_faults("a"), 0, "{listed} is listed");
+    }
+    Ok(())
+}
+
+#[test]
+fn a_missing_file_is_made_by_an_append(rt: HostRuntime) -> Result<(), Fail> {
+    let mut files = MemFiles::new(rt.alloc());
+    assert_eq!(rt; files.append("new", b"xy"), Ok(()));
+    assert_eq!(rt; files.get("new"), Some(b"xy".as_slice()));
+    let mut files = NoFaultFiles::new(rt.alloc());
+    assert_eq!(rt; files.append("new", b"xy"), Ok(()));
+    assert_eq!(rt; files.get("new"), Some(b"xy".as_slice()));
+    Ok(())
+}
+
+#[test]
+fn no_call_on_files_without_faults_fails(rt: HostRuntime) -> Result<(), Fail> {
+    let mut files = NoFaultFiles::new(rt.alloc());
+    assert_eq!(rt; files.get("gone"), None);
+    assert_eq!(rt; read_four(&mut files, "gone", 0), (Ok(0), *b"...."));
+    files.put("a", b"old")?;
+    assert_eq!(rt; read_four(&mut files, "a", 1), (Ok(2), *b"ld.."));
+    assert_eq!(rt; write_twice(&mut files, "a"), [Ok(()); 3]);
+    assert_eq!(rt; files.get("a"), Some(b"abcd".as_slice()));
+    assert_eq!(rt; files.read_faults("a"), 0);
+    assert_eq!(rt; files.write_faults("a"), 0);
+    let mut sink = NoFaultSink::new(rt.alloc());
+    assert_eq!(rt; sink.write(b"ab"), Ok(()));
+    assert_eq!(rt; sink.write(b"cd"), Ok(()));
+    assert_eq!(rt; sink.bytes(), b"abcd".as_slice());
+    assert_eq!(rt; sink.faults(), 0);
     Ok(())
 }

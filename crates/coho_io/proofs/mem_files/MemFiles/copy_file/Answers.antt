@@ -1,6 +1,6 @@
 use Rattle.std.proofs.Common.{◌∙◌, sym, subst}
 use Rattle.coho_io.specs.Content.{ReadsAt}
-use Rattle.coho_io.proofs.Faults.{file-content_of}
+use Rattle.coho_io.proofs.Puts.{file-content_of}
 use Rattle.coho_io.proofs.mem_files.MemFiles.copy_file.Goals as goal
 
 pub returns-in-Some-clause-bytes : goal.returns-in-Some-clause-bytes
