@@ -16,24 +16,24 @@ use Rattle.group_cocycles.proofs.Classes.{class-row}
 use Rattle.chain_lift.specs.MapsAlong.{TableOverPrimeOf, with_table, restricted_row}
 
 module _ (G : PGroup) (D : TableOverPrimeOf G) (f : Below (order_of (with_table G D)) → Below (order_of G))
-  (h : along.IsHomomorphism (group (with_table G D)) (group G) f) where
-    abbrev q : ℕ
-    q = largest_residue G
+    (h : along.IsHomomorphism (group (with_table G D)) (group G) f) where
+  abbrev q : ℕ
+  q = largest_residue G
 
-    abbrev E : PGroup
-    E = with_table G D
+  abbrev E : PGroup
+  E = with_table G D
 
-    claims : RestrictionClaims q (group E) (group G) f (layer_coordinates E) (stage_rows E)
-        (layer_coordinates G) (stage_rows G)
-    claims = restriction-claims q (group E) (group G) f h (layer_coordinates E) (stage_rows E)
-        (layer_coordinates G) (stage_rows G)
-        (resolution-claims q (field E) (group E) (layer_coordinates E) (stage_rows E) (stage_rows_are E))
-        (resolution-claims q (field G) (group G) (layer_coordinates G) (stage_rows G) (stage_rows_are G))
+  claims : RestrictionClaims q (group E) (group G) f (layer_coordinates E) (stage_rows E)
+      (layer_coordinates G) (stage_rows G)
+  claims = restriction-claims q (group E) (group G) f h (layer_coordinates E) (stage_rows E)
+      (layer_coordinates G) (stage_rows G)
+      (resolution-claims q (field E) (group E) (layer_coordinates E) (stage_rows E) (stage_rows_are E))
+      (resolution-claims q (field G) (group G) (layer_coordinates G) (stage_rows G) (stage_rows_are G))
 
-    pub restricted-class : (d : ℕ) (x : List ℕ)
-        → IsClassOf E d (λ xs. cocycle_of G d x (map f xs)) (restricted_row G D f d x)
-    restricted-class d x =
-        class-row E d (λ xs. cocycle_of G d x (map f xs))
-        (along.restrict q (group E) (group G) f (layer_coordinates E) (stage_rows E) (layer_coordinates G)
-        (stage_rows G) d (λ k. vector q x k.0))
-        (claims.cocycle d (λ k. vector q x k.0))
+  pub restricted-class : (d : ℕ) (x : List ℕ)
+      → IsClassOf E d (λ xs. cocycle_of G d x (map f xs)) (restricted_row G D f d x)
+  restricted-class d x =
+      class-row E d (λ xs. cocycle_of G d x (map f xs))
+      (along.restrict q (group E) (group G) f (layer_coordinates E) (stage_rows E) (layer_coordinates G)
+      (stage_rows G) d (λ k. vector q x k.0))
+      (claims.cocycle d (λ k. vector q x k.0))
