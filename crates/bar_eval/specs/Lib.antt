@@ -1,2 +1,2 @@
 pub mod Comparison
-pub mod Classes
+pub mod ClassMap

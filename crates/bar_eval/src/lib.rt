@@ -7,7 +7,7 @@ mod faces;
 mod laws;
 mod values;
 
-pub use laws::{class_map_law, coboundary_law, cocycle_law, one_class_law};
+pub use laws::class_map_law;
 pub use values::value;
 
 #[cfg(test)]

@@ -1,7 +1,7 @@
 //! The value of a cocycle at a tuple.
 
 ghost use Rattle.std.specs.Prelude.{◌≡◌, ◌≤◌, ◌<◌, All, Contains, IfOk, length};
-ghost use Rattle.bar_eval.specs.Classes.{AreCocycles, EachCocycleHasOneClass, IsCoboundaryForZeroAlone, IsLinear, value_at};
+ghost use Rattle.bar_eval.specs.ClassMap.{EachHasOneClass, GivesCocycles, IsInjective, IsLinear, value_at};
 ghost use Rattle.fp_rows.specs.Refs.{entries_of, modulus_of};
 ghost use Rattle.min_res.specs.Stages.{rank_of};
 ghost use Rattle.p_groups.specs.PGroups.{order_of, prime_of};
@@ -31,13 +31,13 @@ pub fn value(
     requires prime { modulus_of class ≡ prime_of res.now.group }
     requires length { length (entries_of class) ≡ rank_of res.now.group (length tuple.now) }
     ensures value { IfOk result (λ v. v
-        ≡ value_at res.now.group (length tuple.now) (entries_of class.entry) tuple.now) }
+        ≡ value_at res.now.group (entries_of class.entry) tuple.now) }
     ensures below { IfOk result (λ v. v < prime_of res.now.group) }
     ensures identity { IfOk result (λ v. Contains tuple.now 0 → v ≡ 0) }
     ensures linear { IsLinear res.now.group (length tuple.now) }
-    ensures cocycles { AreCocycles res.now.group (length tuple.now) }
-    ensures coboundaries { IsCoboundaryForZeroAlone res.now.group (length tuple.now) }
-    ensures one_class { EachCocycleHasOneClass res.now.group (length tuple.now) }
+    ensures cocycles { GivesCocycles res.now.group (length tuple.now) }
+    ensures injective { IsInjective res.now.group (length tuple.now) }
+    ensures one_class { EachHasOneClass res.now.group (length tuple.now) }
 {
     let row = compared(alloc, res, tuple)?;
     Ok(class.pairing(row.view()))
