@@ -125,7 +125,8 @@ module _ (G : PGroup) where
       }
 
   stage-claims : ResolutionClaims q (group G) (layer_coordinates G) (stage_rows G)
-  stage-claims = resolution-claims q (field G) (group G) (layer_coordinates G) (stage_rows G) (stage_rows_are G)
+  stage-claims =
+      resolution-claims q (field G) (group G) (layer_coordinates G) (stage_rows G) (stage_rows_are G)
 
   -- the value of a polynomial at cocycles, and the cocycle of its value
   pub value-cocycle : (gs : List (Generator (Vector q))) (d : ℕ) (f : List Term) → IsOver q (degrees gs) d f
@@ -152,7 +153,8 @@ module _ (G : PGroup) where
 
     claims : CochainClaims q (Vector q) (GroupCochain G) (cochains (Below (order_of G)) q) (IsCocycle G)
         (AreCohomologous G) k n gs hs rs
-    claims = (ring-claims q (group G) (layer_coordinates G) (stage_rows G) (field G) (stage_rows_are G) n gs rs
+    claims =
+        (ring-claims q (group G) (layer_coordinates G) (stage_rows G) (field G) (stage_rows_are G) n gs rs
         P).cocycles
 
     -- polynomials in the classes are polynomials in the cocycles
@@ -180,7 +182,8 @@ module _ (G : PGroup) where
           claims.generators_needed s.first s.middle s.last s.whole f
           (subst (λ d. IsOver q (degrees gs) d f) (sym s.degree) (back h.degree f o))
           (subst (λ m. Each (λ t. exponent t.monomial m ≡ 0) f) (sym s.place) z)
-          (subst (λ d. AreCohomologous G d (k s.middle.degree s.middle.class) (cochain_of G hs f)) (sym s.degree)
+          (subst (λ d. AreCohomologous G d (k s.middle.degree s.middle.class) (cochain_of G hs f))
+          (sym s.degree)
           (subst (λ u. AreCohomologous G h.degree u (cochain_of G hs f)) (sym s.class) c));
       relations_needed = λ before r after e i.
           claims.relations_needed before r after e

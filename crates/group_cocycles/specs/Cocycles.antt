@@ -1,5 +1,5 @@
--- Classes of a p-group as cocycles of its normalised bar complex (Brown, "Cohomology of Groups", I.5 and III.1).
--- A class of degree d is a row: a number modulo p for each basis element of degree d.
+-- Classes of a p-group as cocycles of its normalised bar complex (Brown, "Cohomology of Groups", I.5 and
+-- III.1). A class of degree d is a row: a number modulo p for each basis element of degree d.
 use Rattle.std.specs.Prelude.{◌≡◌, ℕ, List}
 use Rattle.group_modules.specs.Tables.{monoid}
 use Rattle.linear_algebra.specs.Rows.{IsRow}

@@ -27,8 +27,8 @@ module _ (G : PGroup) where
   abbrev pub cochain_of : Generators → List Term → GroupCochain G
   cochain_of hs f = value (cochains (Below (order_of G)) (largest_residue G)) hs f
 
-  -- through degree n the free graded commutative algebra on the generators modulo the ideal of the relations is
-  -- the cohomology ring, and no generator and no relation is superfluous
+  -- through degree n the free graded commutative algebra on the generators modulo the ideal of the relations
+  -- is the cohomology ring, and no generator and no relation is superfluous
   pub record IsCohomologyRing (n : ℕ) (hs : Generators) (rs : List Polynomial) : Type 0 where
     pub cocycles : Each (λ h. IsCocycle G h.degree h.class) hs
     -- each cocycle differs by a coboundary from a polynomial in the generators

@@ -1,6 +1,6 @@
-//! Classes of a p-group are the cocycles of its normalised bar complex up to coboundaries (Brown, "Cohomology of
-//! Groups", I.7 and III.1): a class is a row of numbers modulo p, one for each basis element of its degree in
-//! the minimal resolution.
+//! Classes of a p-group are the cocycles of its normalised bar complex up to coboundaries (Brown, "Cohomology
+//! of Groups", I.7 and III.1): a class is a row of numbers modulo p, one for each basis element of its degree
+//! in the minimal resolution.
 #![tactic(auto)]
 
 ghost use Rattle.group_cocycles.specs.Cocycles.{cocycle_of, GroupCochain, IsClass, IsClassOf, IsCoboundary, IsCocycle};
@@ -32,8 +32,8 @@ pub fn one_class_law()
         → (x : List ℕ) × IsClassOf G d u x }
 {}
 
-/// Generators and relations through a degree, by classes with products by lifts, are those of the cohomology ring
-/// of the bar complex. They exist through every degree (`presentations_exist` of `presentation_rows`).
+/// Generators and relations through a degree, by classes with products by lifts, are those of the cohomology
+/// ring of the bar complex. They exist through every degree (`presentations_exist` of `presentation_rows`).
 pub fn ring_law()
     ensures { (G : PGroup) (n : ℕ) (gs : List (Generator (Vector (largest_residue G)))) (rs : List Polynomial)
         → IsPresentation (largest_residue G) (group G) (layer_coordinates G) (stage_rows G) n gs rs

@@ -18,13 +18,14 @@ use Rattle.group_cocycles.proofs.one_class_law.Goals as goal
 pub returns : goal.returns
 returns c G d u z =
     let q = largest_residue G in
+    let cocycle = bar_cocycle q (group G) (layer_coordinates G) (stage_rows G) d in
     let found = one-class (stages q (group G) (layer_coordinates G) (stage_rows G)
     (resolution-claims q (field G) (group G) (layer_coordinates G) (stage_rows G) (stage_rows_are G))) d u z
     in (
       row_of_class G d found.0,
       class-row G d u found.0 (λ v. (
-        (λ h. found.2 v (near-sym q (monoid (group G)) d (bar_cocycle q (group G) (layer_coordinates G) (stage_rows G) d v) u h)),
-        (λ e. subst (λ v. AreCohomologous q (monoid (group G)) d (bar_cocycle q (group G) (layer_coordinates G) (stage_rows G) d v) u)
-            (sym e) (near-sym q (monoid (group G)) d u (bar_cocycle q (group G) (layer_coordinates G) (stage_rows G) d found.0) found.1)),
+        (λ h. found.2 v (near-sym q (monoid (group G)) d (cocycle v) u h)),
+        (λ e. subst (λ v. AreCohomologous q (monoid (group G)) d (cocycle v) u) (sym e)
+            (near-sym q (monoid (group G)) d u (cocycle found.0) found.1)),
       )),
     )

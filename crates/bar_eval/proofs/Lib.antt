@@ -1,0 +1,5 @@
+pub mod ClassMaps
+pub mod FaceLists
+pub mod FaceSums
+pub mod ComparisonRows
+pub mod CocycleValues
