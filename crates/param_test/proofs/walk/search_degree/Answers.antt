@@ -2,6 +2,7 @@ use Rattle.std.proofs.Common.{◌≡◌, ◌+◌, ◌<◌, arith, sym, refl, ap,
 use Rattle.std.specs.Prelude.{slice_index}
 use Rattle.param_test.specs.Tuples.{total}
 use Rattle.param_test.proofs.Standing.{stands-all, stands-push, push-smaller, stands-pop, pop-smaller, stands-skip, next-smaller, stands-visit, stands-found, stands-next, stands-limit}
+use Rattle.param_test.proofs.Tables.{all-candidates}
 use Rattle.param_test.proofs.walk.search_degree.Goals as goal
 
 pub fits-requires-clause-inside : goal.fits-requires-clause-inside
@@ -75,3 +76,8 @@ returns-then-branch-clause-found c =
 
 pub returns-clause-ended : goal.returns-clause-ended
 returns-clause-ended c = λ e. stands-limit _ _ _ _ c.requires.by_degree _ _ _ e c.loop-left.invariant
+
+pub try_tuple-requires-clause-inside : goal.try_tuple-requires-clause-inside
+try_tuple-requires-clause-inside c =
+    all-candidates c.args.table.now.candidates c.args.degrees.now c.loop-left.pre.items c.requires.degrees
+    (stands-all _ _ _ _ _ c.loop-left.pre.items _ _ refl c.loop-left.invariant)
