@@ -1,11 +1,11 @@
 -- From the last degree that may be tried to the answer.
-use Rattle.std.proofs.Common.{◌≡◌, ℕ, ◌+◌, ◌-◌, ◌*◌, ◌<◌, ◌≤◌, List, length, arith, ap, sym, subst, ◌∙◌}
+use Rattle.std.proofs.Common.{◌≡◌, ℕ, ◌+◌, ◌<◌, ◌≤◌, List, length, arith, sym, subst, ◌∙◌}
 use Rattle.std.specs.Prelude.{All}
 use Rattle.graded_polynomials.specs.Polynomials.{Polynomial}
 use Rattle.gc_poly.specs.Generators.{Generators}
 use Rattle.gc_poly.specs.Polynomials.{IsOverGenerators}
 use Rattle.param_test.specs.Counting.{number}
-use Rattle.param_test.specs.Finiteness.{AreVariables, AllInIdeal, AreCounted, IsPassedOver, ArePassedOver, IsYes, IsNo, IsTooMany}
+use Rattle.param_test.specs.Finiteness.{AreVariables, AllInIdeal, AreCounted, IsPassedOver, IsYes, IsNo, IsTooMany}
 use Rattle.param_test.proofs.Counts.{counted}
 use Rattle.param_test.proofs.Later.{none-before}
 use Rattle.param_test.proofs.Numbers.{number-one}

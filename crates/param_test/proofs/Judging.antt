@@ -1,6 +1,5 @@
 -- From the answer of the test to whether a subgroup is passed.
-use Rattle.std.proofs.Common.{◌≡◌, ℕ, zero, suc, ◌+◌, ◌<◌, ◌≤◌, List, [], ◌∷◌, ◌++◌, length, map, take, get_or, Option, Some, slice_get, arith, ap, sym, subst, refl, ◌∙◌}
-use Rattle.std.specs.Prelude.{All}
+use Rattle.std.proofs.Common.{◌≡◌, ℕ, zero, suc, ◌+◌, ◌<◌, List, [], ◌∷◌, ◌++◌, length, map, take, get_or, Option, Some, slice_get, arith, ap, sym, subst, refl, ◌∙◌}
 use Rattle.std.proofs.lemmas.List.{take_more, map-append}
 use Rattle.graded_polynomials.specs.Polynomials.{Polynomial}
 use Rattle.gc_poly.specs.Generators.{Generators}

@@ -1,11 +1,11 @@
 -- Polynomials without the terms in other generators, as polynomials in the variables.
-use Rattle.std.proofs.Common.{◌≡◌, ◌≢◌, ℕ, zero, suc, ◌+◌, ◌-◌, ◌<◌, ◌≤◌, List, [], ◌∷◌, ◌++◌, length, take, get_or, filter, Bool, true, false, cond, eqb, ◌&&◌, ◌||◌, ◌⊎◌, inl, inr, Some, slice_get, map, add-one, arith, ap, sym, subst, ◌∙◌, refl}
+use Rattle.std.proofs.Common.{◌≡◌, ◌≢◌, ℕ, zero, suc, ◌+◌, ◌<◌, ◌≤◌, List, [], ◌∷◌, ◌++◌, length, take, get_or, Bool, true, false, cond, eqb, ◌&&◌, ◌||◌, ◌⊎◌, inl, inr, Some, slice_get, map, add-one, arith, ap, sym, subst, ◌∙◌, refl}
 use Rattle.std.specs.Prelude.{All, AllPairs, option_map}
 use Rattle.std.specs.List.{AllByRecursion as Each}
 use Rattle.std.proofs.lemmas.Bool.{cases_Bool}
 use Rattle.std.proofs.lemmas.List.{take_more, map-append}
 use Rattle.std.proofs.lemmas.List.Elements.{All-from_recursion, recursion_from_All}
-use Rattle.graded_polynomials.specs.Monomials.{exponent, degree, IsWithin, IsTrimmed, IsGreater}
+use Rattle.graded_polynomials.specs.Monomials.{exponent, IsWithin, IsTrimmed, IsGreater}
 use Rattle.graded_polynomials.specs.Polynomials.{Term, Polynomial, IsPolynomial, IsSame}
 use Rattle.graded_polynomials.proofs.Terms.{eqb-self, eqb-true, eqb-false}
 use Rattle.graded_polynomials.proofs.Exponents.{same-exponents}

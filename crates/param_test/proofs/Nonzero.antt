@@ -1,12 +1,11 @@
 -- The polynomial 0 adds nothing to an ideal.
-use Rattle.std.proofs.Common.{◌≡◌, ℕ, suc, ◌+◌, ◌<◌, List, [], ◌∷◌, ◌++◌, length, take, get_or, filter, Bool, true, false, not, cond, eqb, ◌⊎◌, inl, inr, arith, ap, sym, subst, ◌∙◌, refl}
+use Rattle.std.proofs.Common.{◌≡◌, ℕ, ◌+◌, ◌<◌, List, [], ◌∷◌, ◌++◌, length, take, get_or, true, false, not, cond, eqb, ◌⊎◌, inl, inr, arith, ap, sym, subst, ◌∙◌, refl}
 use Rattle.std.specs.List.{AllByRecursion as Each}
 use Rattle.std.proofs.lemmas.Bool.{cases_Bool}
 use Rattle.std.proofs.lemmas.List.{take_more}
 use Rattle.graded_polynomials.specs.Polynomials.{Term, Polynomial, Multiple, multiple, total, IsSame, IsMultiple, IsOneOf, IsInIdeal}
 use Rattle.graded_polynomials.proofs.Terms.{eqb-true, false≢true}
 use Rattle.graded_algebra.proofs.Ideals.{ideal-more}
-use Rattle.presentation_rows.specs.Multiples.{AreMultiples}
 use Rattle.param_test.specs.Nonzero.{has_terms, nonzero}
 
 no-terms : (f : List Term) → not (eqb (length f) 0) ≡ false → f ≡ []

@@ -1,5 +1,5 @@
 -- The polynomials of a list that are not 0.
-use Rattle.std.specs.Prelude.{ℕ, Bool, not, eqb, List, length, filter}
+use Rattle.std.specs.Prelude.{Bool, not, eqb, List, length, filter}
 use Rattle.graded_polynomials.specs.Polynomials.{Polynomial}
 
 abbrev pub has_terms : Polynomial → Bool

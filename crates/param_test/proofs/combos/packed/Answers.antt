@@ -1,6 +1,5 @@
 use Rattle.std.proofs.Common.{arith, refl}
 use Rattle.group_table.specs.Prime.{prime_value}
-use Rattle.fp_rows.specs.Values.{RowValue}
 use Rattle.param_test.proofs.Packing.{written-start, written-more, written-all, below-at}
 use Rattle.param_test.proofs.combos.packed.Goals as goal
 

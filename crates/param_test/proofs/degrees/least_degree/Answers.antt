@@ -1,4 +1,4 @@
-use Rattle.std.proofs.Common.{ℕ, ◌+◌, ◌/◌, ◌≤◌, arith}
+use Rattle.std.proofs.Common.{ℕ, ◌+◌, ◌/◌, arith}
 use Rattle.param_test.proofs.Later.{none-before}
 use Rattle.param_test.proofs.degrees.least_degree.Goals as goal
 

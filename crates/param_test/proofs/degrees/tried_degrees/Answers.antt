@@ -1,4 +1,4 @@
-use Rattle.std.proofs.Common.{◌≡◌, ℕ, ◌+◌, ◌-◌, ◌<◌, ◌≤◌, length, arith, ap, sym, ◌∙◌}
+use Rattle.std.proofs.Common.{◌≡◌, ◌+◌, ◌-◌, length, arith, ap, sym, ◌∙◌}
 use Rattle.param_test.specs.Counting as counting
 use Rattle.param_test.proofs.Numbers.{number-zero}
 use Rattle.param_test.proofs.Trying.{few-none, few-more, not-first}

@@ -1,7 +1,6 @@
-use Rattle.std.proofs.Common.{◌≡◌, ◌*◌, ◌<◌, ◌≤◌, [], length, arith, ap, sym, subst, ◌∙◌}
-use Rattle.std.specs.Prelude.{slice_index}
+use Rattle.std.proofs.Common.{◌≡◌, ◌*◌, ◌<◌, ◌≤◌, length, arith, ap, subst, ◌∙◌}
 use Rattle.param_test.specs.Firsts.{NonePasses}
-use Rattle.param_test.specs.Tuples.{IsTuple, IsBefore, AreByDegree}
+use Rattle.param_test.specs.Tuples.{IsTuple, IsBefore}
 use Rattle.param_test.specs.Tables.{degrees_of}
 use Rattle.param_test.specs.Parameters.{Passes}
 use Rattle.param_test.proofs.Positions.{at-start}

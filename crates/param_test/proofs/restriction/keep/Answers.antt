@@ -1,7 +1,4 @@
 use Rattle.std.proofs.Common.{refl, ◌∙◌}
-use Rattle.gc_poly.specs.Generators.{greatest}
-use Rattle.gc_poly.specs.Polynomials.{IsSumOf, IsMonomialOf}
-use Rattle.param_test.specs.Variables.{variables, restricted}
 use Rattle.param_test.proofs.Keeping.{kept-over, kept-scalar, kept-monomial, kept-dropped, kept-added}
 use Rattle.param_test.proofs.restriction.keep.Goals as goal
 use Rattle.param_test.proofs.restriction.keep.Goals.{in-Some+in_ok-add_term-in-Some+in-Heap-1, in-Some+in_ok-add_term-in-Some+in-Inline-1, in-None}

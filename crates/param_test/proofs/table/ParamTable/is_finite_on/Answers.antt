@@ -1,4 +1,4 @@
-use Rattle.std.proofs.Common.{◌≡◌, map, slice_get, Some, ap, sym, subst}
+use Rattle.std.proofs.Common.{map, slice_get, ap, sym, subst}
 use Rattle.param_test.specs.declared.answer.Finite.TheVariants.{Yes, No, TooMany}
 use Rattle.param_test.specs.Tables.{TableValue}
 use Rattle.param_test.specs.Finiteness.{AreVariables}
