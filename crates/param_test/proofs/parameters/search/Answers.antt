@@ -40,8 +40,12 @@ search_degree-requires-clause-by_degree c =
 pub positions-requires : goal.positions-requires
 positions-requires c =
     let n : length c.deref.result.now ≤ 4294967295 =
-        omega (arith, degrees-length c.args.table.now.subgroups c.args.table.now.candidates c.degrees.ensures.valid c.deref.result.now
-        (c.deref.ensures.value ∙ c.in_ok-degrees.ensures.degrees), c.degrees.ensures.valid.few) in
+    omega (
+      arith,
+      degrees-length c.args.table.now.subgroups c.args.table.now.candidates c.degrees.ensures.valid c.deref.result.now
+          (c.deref.ensures.value ∙ c.in_ok-degrees.ensures.degrees),
+      c.degrees.ensures.valid.few,
+    ) in
     found-small (length c.deref.result.now) c.args.r 5000 4294967295 (IsBefore c.deref.result.now) (Passes c.args.table.now) c.in-Some.tuple.items c.deref-in-Some.result.now
     (rw c.in-Some.is at c.in_ok-tuple.ensures.found) n c.deref-in-Some.ensures.value
 
