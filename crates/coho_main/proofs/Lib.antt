@@ -16,3 +16,4 @@ pub mod Run
 pub mod TableExists
 pub mod StagesExist
 pub mod Outcomes
+pub mod RingAnswers

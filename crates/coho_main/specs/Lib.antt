@@ -10,3 +10,4 @@ pub mod Run
 pub mod Statuses
 pub mod Stages
 pub mod Resolving
+pub mod RingAnswers

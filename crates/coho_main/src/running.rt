@@ -4,6 +4,7 @@ ghost use Rattle.coho_io.specs.Causes.{Rose};
 ghost use Rattle.coho_main.specs.Words.{IsRead, IsWithin, asked, command, contents, texts};
 ghost use Rattle.coho_main.specs.Outcome.{Answer, AnswerGroup, AnswerResolve, AnswerRing, Comes, Ending, Outcome};
 ghost use Rattle.coho_main.specs.Refusals.{read_refused, write_refused};
+ghost use Rattle.coho_main.specs.RingAnswers.{TellsRingOf};
 ghost use Rattle.coho_main.specs.Stops.{Meets, Settles, HasReadCause, OnlyReads};
 ghost use Rattle.coho_main.specs.Run.{OfFiles, IsSettled, MayWrite, Tells, EndsAs, AnswersFront, WantsMemory, NoReadFault, Stays};
 
@@ -99,6 +100,11 @@ pub fn run<F: Files, O: Sink, E: Sink>(
         (O.written out.old) (O.written out.new)
         (E.written err.old) (E.written err.new)
         (E.faults err.old) (E.faults err.new)) }
+
+    // Where `ring` is answered, the printed quotient ring is the cohomology ring of the group through the
+    // degree, and the tables are the restrictions to its maximal elementary abelian subgroups.
+    ensures ring { result ≡ Status.Answered → OfFiles (F.content files.old)
+        (TellsRingOf (texts words.now) (O.written out.old) (O.written out.new)) }
 
     // Whether files are told or not, the words decide alone whether they are refused.
     ensures usage { result ≡ Status.Usage → command (texts words.now) ≡ None }

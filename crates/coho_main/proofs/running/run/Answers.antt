@@ -5,6 +5,7 @@ use Rattle.coho_io.specs.Bytes.{AppendsFront}
 use Rattle.coho_io.specs.Causes.{Rose}
 use Rattle.coho_main.specs.Words.{contents, texts}
 use Rattle.coho_main.proofs.Run.{wrote_all, wrote_front, answers, told_meets, write_told, write_complete, memory_of_write, stopped, usage_stop, read_told, stays, memory_of_stop, complete_stop}
+use Rattle.coho_main.proofs.RingAnswers.{tells_ring, stop_not_answered}
 use Rattle.coho_main.proofs.running.run.Goals as goal
 
 pub returns-in-Ok-write_lines-clause-outcome : goal.returns-in-Ok-write_lines-clause-outcome
@@ -117,3 +118,22 @@ returns-in-Ok-clause-files g c = stays (texts c.args.words.now) (g.F.Files.conte
 pub returns-clause-files : goal.returns-clause-files
 returns-clause-files g c = stays (texts c.args.words.now) (g.F.Files.content c.args.files.now)
     (g.F.Files.content c.answer.new.files) c.in-Err.ensures.reads.content
+
+pub returns-in-Ok-write_lines-clause-ring : goal.returns-in-Ok-write_lines-clause-ring
+returns-in-Ok-write_lines-clause-ring g c = λ _.
+    tells_ring (texts c.args.words.now) (g.F.Files.content c.args.files.now) c.in-Ok.lines
+    (g.O.Sink.written c.args.out.now) (g.O.Sink.written c.write_lines.new.out) c.in-Ok.ensures.step
+    (subst (λ ls. Appends (g.O.Sink.written c.args.out.now) (g.O.Sink.written c.write_lines.new.out)
+    (concat (contents ls))) c.deref.ensures.value c.in-Ok-write_lines.ensures.ok)
+
+pub returns-in-Ok-clause-ring : goal.returns-in-Ok-clause-ring
+returns-in-Ok-clause-ring g c =
+    stop_not_answered c.in-Err-write_lines.stop c.report.result (g.E.Sink.written c.args.err.now)
+    (g.E.Sink.written c.report.new.err) (g.E.Sink.faults c.args.err.now)
+    (g.E.Sink.faults c.report.new.err) c.report.ensures.told
+
+pub returns-clause-ring : goal.returns-clause-ring
+returns-clause-ring g c =
+    stop_not_answered c.in-Err.stop c.report-in-Err.result (g.E.Sink.written c.args.err.now)
+    (g.E.Sink.written c.report-in-Err.new.err) (g.E.Sink.faults c.args.err.now)
+    (g.E.Sink.faults c.report-in-Err.new.err) c.report-in-Err.ensures.told
