@@ -1,11 +1,12 @@
-# CohoText(G): the text that `coho` reads for G, a p-group of order 1 or a power of 2, 3, 5 or 7 that GAP has by a
-# polycyclic generating system: a pc group, or a group of permutations or matrices for which SpecialPcgs(G) answers.
+# CohoText(G): the text that `coho` reads for G, a p-group of order 1 or a power of 2, 3, 5 or 7. G is a pc
+# group, or a group of permutations or matrices for which SpecialPcgs(G) answers.
 #
 #     gap> Read("tools/coho_text.g");
 #     gap> PrintTo("group.coho", CohoText(SmallGroup(32, 6)));
 #
-# g1, g2, .. are the members of SpecialPcgs(G). It refines the lower exponent-p central series, so the word of
-# [gj,gi], j > i, is one in generators after gj, as the text must have it. Comm(a, b) is a^-1*b^-1*a*b in both.
+# g1, g2, .. are the members of SpecialPcgs(G). It refines the lower exponent-p central series, so that for
+# j > i the word of [gj,gi] is one in generators after gj, as the text must have it. In both Comm(a, b) is
+# a^-1*b^-1*a*b.
 CohoText := function(G)
   local pcgs, prime, name, word, line, text, i, j;
   if not IsPGroup(G) then
