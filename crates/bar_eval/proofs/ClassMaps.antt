@@ -1,21 +1,19 @@
 -- What the class map of a p-group does, in one degree.
-use Rattle.std.specs.Prelude.{◌≡◌, ℕ, suc, ◌+◌, ◌*◌, ◌%◌, ◌<◌, List}
-use Rattle.std.proofs.Common.{sym, ◌∙◌, ap, ap₂, arith}
-use Rattle.std.proofs.Math.Nat.{mod-eq_of_lt}
+use Rattle.std.specs.Prelude.{◌≡◌, ℕ, suc, ◌+◌, ◌*◌, ◌%◌, List}
+use Rattle.std.proofs.Common.{sym, ◌∙◌, ap}
 use mathlib.Core.Path.{fun_ext, subst}
 use Rattle.group_modules.specs.Field.{Below, residue, plus}
 use Rattle.group_modules.specs.Tables.{monoid}
 use Rattle.linear_algebra.specs.Modular.{IsCongruent}
-use Rattle.linear_algebra.specs.Rows.{IsRow, add_multiple, entry}
+use Rattle.linear_algebra.specs.Rows.{add_multiple, entry}
 use Rattle.linear_algebra.proofs.Congruences.{congruent_add, congruent_mod, congruent_mul_left, congruent_sym, congruent_trans}
 use Rattle.linear_algebra.proofs.Reducing.{entry_congruent}
-use Rattle.linear_algebra.proofs.Residues.{below-path, plus-residue}
+use Rattle.linear_algebra.proofs.Residues.{below-path}
 use Rattle.resolution_stages.specs.Claims.{ResolutionClaims}
 use Rattle.resolution_stages.proofs.FromDefinitions.{resolution-claims}
 use Rattle.p_groups.specs.PGroups.{PGroup, largest_residue, group, order_of, prime_of}
 use Rattle.p_groups.proofs.Fields.{field, residues}
 use Rattle.group_algebra.specs.Coordinates.{layer_coordinates}
-use Rattle.group_algebra.proofs.Members.{residue-row}
 use Rattle.min_res.specs.Stages.{stage_rows, rank_of}
 use Rattle.min_res.proofs.StageRows.{stage_rows_are}
 use Rattle.chain_maps.specs.Vectors.{vector}

@@ -1,11 +1,11 @@
 -- The comparison map by rows.
-use Rattle.std.proofs.Common.{◌≡◌, ℕ, zero, suc, ◌+◌, ◌-◌, ◌*◌, ◌<◌, ◌≤◌, ◌%◌, List, [], ◌∷◌, length, take, drop, get_or, replicate, true, false, inl, inr, arith, ap, ap₂, sym, ◌∙◌, refl}
+use Rattle.std.proofs.Common.{◌≡◌, ℕ, zero, suc, ◌+◌, ◌-◌, ◌*◌, ◌<◌, ◌≤◌, ◌%◌, List, [], ◌∷◌, length, take, drop, get_or, replicate, true, false, inl, inr, arith, ap, ap₂, sym, ◌∙◌}
 use Rattle.std.proofs.lemmas.List.{take_all}
 use Rattle.std.proofs.Math.Nat.{mod-eq_of_lt}
 use Rattle.std.specs.Prelude.{◌==◌}
 use Rattle.std.specs.List.{All, Contains}
 use mathlib.Core.Path.{subst}
-use Rattle.group_modules.specs.Module.{Module, times}
+use Rattle.group_modules.specs.Module.{times}
 use Rattle.group_modules.specs.Field.{Below, residue}
 use Rattle.group_modules.specs.Tables.{monoid, unit}
 use Rattle.linear_algebra.specs.Kernels.{unit_row}

@@ -1,10 +1,10 @@
-use Rattle.std.proofs.Common.{◌≡◌, ◌≤◌, ◌<◌, ℕ, suc, [], List, IfOk, length, replicate, get_or, false, ◌+◌, ◌-◌, ◌*◌, arith, ap, sym, ◌∙◌, refl}
+use Rattle.std.proofs.Common.{◌≡◌, ℕ, suc, [], List, IfOk, length, replicate, get_or, false, ◌+◌, ◌-◌, arith, ap, sym, ◌∙◌, refl}
 use mathlib.Core.Path.{subst}
 use Rattle.std.proofs.lemmas.Bool.{eqb-true}
 use Rattle.linear_algebra.specs.Rows.{add_multiple}
 use Rattle.fp_rows.specs.Refs.{entries_of}
 use Rattle.fp_rows.specs.Values.{MatrixValue, RowValue}
-use Rattle.p_groups.specs.PGroups.{PGroup, group, order_of, prime_of}
+use Rattle.p_groups.specs.PGroups.{group, prime_of}
 use Rattle.group_modules.specs.Tables.{monoid}
 use Rattle.group_algebra.specs.Coordinates.{row_of}
 use Rattle.min_res.specs.Stages.{rank_of}
@@ -13,7 +13,7 @@ use Rattle.min_res.specs.Defined.{InK, σ}
 use Rattle.bar_complex.specs.Boundary.{signed}
 use Rattle.bar_complex.specs.Faces.{alternate, face as face_of}
 use Rattle.subgroup_list.proofs.Bools.{no_items}
-use Rattle.bar_eval.specs.Comparison.{boundary_row, compared_row, tuple_of}
+use Rattle.bar_eval.specs.Comparison.{compared_row, tuple_of}
 use Rattle.bar_eval.proofs.FaceSums.{all-faces, up-to}
 use Rattle.bar_eval.proofs.ComparisonRows.{after-one, boundary-in, section-there, zero-there, first-face, next-face, row-length}
 use Rattle.bar_eval.proofs.comparison.+comparison.Goals as goal

@@ -1,4 +1,4 @@
-use Rattle.std.proofs.Common.{◌≡◌, ◌<◌, ◌+◌, suc, length, get_or, arith, ap, sym, ◌∙◌}
+use Rattle.std.proofs.Common.{◌≡◌, ◌<◌, ◌+◌, length, get_or, arith, ap, sym, ◌∙◌}
 use mathlib.Core.Path.{subst}
 use Rattle.group_table.specs.Tables.{GroupTable, order, product}
 use Rattle.p_groups.specs.PGroups.{order_of}
