@@ -63,7 +63,10 @@ module _ (G : PGroup) where
         ∙ ap (plus q (cocycle (λ i. vector q x i.0) gs)) (C.multiple d k (λ i. vector q y i.0) gs)
 
     pub are_cocycles : GivesCocycles G d
-    are_cocycles x r = (bar-normal minimal d (λ i. vector q x i.0), bar-cocycle minimal d (λ i. vector q x i.0))
+    are_cocycles x r = (
+      bar-normal minimal d (λ i. vector q x i.0),
+      bar-cocycle minimal d (λ i. vector q x i.0),
+    )
 
     pub is_injective : IsInjective G d
     is_injective x r h i = coboundary-zero G d x r h i
@@ -73,6 +76,7 @@ module _ (G : PGroup) where
       row_of_class G d found.0,
       class-row G d u found.0 (λ v. (
         (λ h. found.2 v (near-sym q (monoid (group G)) d (cocycle v) u h)),
-        (λ e. near-sym q (monoid (group G)) d u (cocycle v) (subst (λ w. AreCohomologous q (monoid (group G)) d u (cocycle w)) (sym e) found.1)),
+        (λ e. near-sym q (monoid (group G)) d u (cocycle v)
+            (subst (λ w. AreCohomologous q (monoid (group G)) d u (cocycle w)) (sym e) found.1)),
       )),
     )

@@ -91,7 +91,8 @@ module _ (G : PGroup) where
   has-identity (suc d) [] e k l z = absurd (omega (arith, l))
   has-identity (suc d) (x ∷ xs) e zero l z = inl (below-path _ _ (ap (λ n. n % order_of G) z
       ∙ mod-eq_of_lt G.law.law.some))
-  has-identity (suc d) (x ∷ xs) e (suc k) l z = inr (has-identity d xs (omega (arith, e)) k (omega (arith, l)) z)
+  has-identity (suc d) (x ∷ xs) e (suc k) l z =
+      inr (has-identity d xs (omega (arith, e)) k (omega (arith, l)) z)
 
   pub zero-there : (d : ℕ) (xs : List ℕ) → length xs ≡ d → Contains xs 0
       → compared_row G d xs ≡ replicate (order_of G * rank_of G d) 0

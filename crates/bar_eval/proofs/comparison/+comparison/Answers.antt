@@ -22,7 +22,8 @@ pub compared-returns-then-is_empty-clause-value : goal.compared-returns-then-is_
 compared-returns-then-is_empty-clause-value t c =
     subst (λ xs. IfOk c.one.result (λ r. r.entries ≡ compared_row c.args.res.now.group (length xs) xs))
     (sym (no_items c.args.tuple.now c.if-is_empty.ensures))
-    (subst (λ G. IfOk c.one.result (λ r. r.entries ≡ compared_row G 0 [])) c.algebra.ensures c.one.ensures.value)
+    (subst (λ G. IfOk c.one.result (λ r. r.entries ≡ compared_row G 0 [])) c.algebra.ensures
+    c.one.ensures.value)
 
 pub compared-returns-then-contains-clause-value : goal.compared-returns-then-contains-clause-value
 compared-returns-then-contains-clause-value t c =
@@ -73,7 +74,8 @@ compared_boundary-add-requires-clause-same_length t c =
     c.loop-i.sum.entries _ _
     (let n : length c.in_ok-face.face.items + 1 ≡ length c.args.tuple.now = c.in_ok-face.ensures.length in
     omega (arith, n)) (c.view-in-loop-i.ensures.entries ∙ c.in_ok-value.ensures.value
-    ∙ ap (λ (ys : List ℕ). compared_row c.args.res.now.group (length ys) ys) c.deref-in-loop-i.ensures.value) (c.loop-i.invariant.gathered d some)
+    ∙ ap (λ (ys : List ℕ). compared_row c.args.res.now.group (length ys) ys) c.deref-in-loop-i.ensures.value)
+    (c.loop-i.invariant.gathered d some)
 
 pub compared_boundary-loop-i-preserved : goal.compared_boundary-loop-i-preserved
 compared_boundary-loop-i-preserved t c = record {
@@ -84,7 +86,8 @@ compared_boundary-loop-i-preserved t c = record {
       (c.sign.ensures.value ∙ ap (λ p. signed (p - 1) (alternate false c.loop-i.i)) (c.prime-prime.ensures
       ∙ ap prime_of (c.group.ensures ∙ c.algebra-algebra.ensures)))
       (c.view-in-loop-i.ensures.entries ∙ c.in_ok-value.ensures.value
-      ∙ ap (λ (ys : List ℕ). compared_row c.args.res.now.group (length ys) ys) c.deref-in-loop-i.ensures.value)
+      ∙ ap (λ (ys : List ℕ). compared_row c.args.res.now.group (length ys) ys)
+      c.deref-in-loop-i.ensures.value)
       (let n : length c.in_ok-face.face.items + 1 ≡ length c.args.tuple.now = c.in_ok-face.ensures.length in
       omega (arith, n, e))
       (subst (λ G. tuple_of G d c.in_ok-face.face.items
@@ -100,6 +103,7 @@ compared_boundary-returns-clause-value t c d e =
     c.loop-i.invariant.gathered d e
     ∙ ap (λ k. row_of c.args.res.now.group (rank_of c.args.res.now.group d)
     (up-to c.args.res.now.group d (tuple_of c.args.res.now.group (suc d) c.args.tuple.now) k))
-    (let z : c.loop-i.i ≡ length c.args.tuple.now = omega (arith, c.loop-i-test.false, c.loop-i.auto) in z ∙ e)
+    (let z : c.loop-i.i ≡ length c.args.tuple.now = omega (arith, c.loop-i-test.false, c.loop-i.auto) in
+    z ∙ e)
     ∙ ap (row_of c.args.res.now.group (rank_of c.args.res.now.group d))
     (all-faces c.args.res.now.group d (tuple_of c.args.res.now.group (suc d) c.args.tuple.now))

@@ -27,5 +27,5 @@ pub returns-clause-elements : goal.returns-clause-elements
 returns-clause-elements c = all-pieces (λ x. x < order_of c.args.group.now) c.args.tuple.now
     c.in_ok-face.face.items c.push.new.self.items c.extend_from_slice.new.self.items c.mul.result c.args.i _ _
     c.requires.elements
-    (subst (λ (T : GroupTable). c.mul.result < order T) c.as_group.ensures c.mul.ensures.below) c.in_ok-face.ensures.items c.in_ok-push.ensures.items
-    c.in_ok-extend_from_slice.ensures.items
+    (subst (λ (T : GroupTable). c.mul.result < order T) c.as_group.ensures c.mul.ensures.below)
+    c.in_ok-face.ensures.items c.in_ok-push.ensures.items c.in_ok-extend_from_slice.ensures.items
