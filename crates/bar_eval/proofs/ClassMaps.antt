@@ -1,21 +1,19 @@
 -- What the class map of a p-group does, in one degree.
-use Rattle.std.specs.Prelude.{◌≡◌, ℕ, suc, ◌+◌, ◌*◌, ◌%◌, ◌<◌, List}
-use Rattle.std.proofs.Common.{sym, ◌∙◌, ap, ap₂, arith}
-use Rattle.std.proofs.Math.Nat.{mod-eq_of_lt}
+use Rattle.std.specs.Prelude.{◌≡◌, ℕ, suc, ◌+◌, ◌*◌, ◌%◌, List}
+use Rattle.std.proofs.Common.{sym, ◌∙◌, ap}
 use mathlib.Core.Path.{fun_ext, subst}
 use Rattle.group_modules.specs.Field.{Below, residue, plus}
 use Rattle.group_modules.specs.Tables.{monoid}
 use Rattle.linear_algebra.specs.Modular.{IsCongruent}
-use Rattle.linear_algebra.specs.Rows.{IsRow, add_multiple, entry}
+use Rattle.linear_algebra.specs.Rows.{add_multiple, entry}
 use Rattle.linear_algebra.proofs.Congruences.{congruent_add, congruent_mod, congruent_mul_left, congruent_sym, congruent_trans}
 use Rattle.linear_algebra.proofs.Reducing.{entry_congruent}
-use Rattle.linear_algebra.proofs.Residues.{below-path, plus-residue}
+use Rattle.linear_algebra.proofs.Residues.{below-path}
 use Rattle.resolution_stages.specs.Claims.{ResolutionClaims}
 use Rattle.resolution_stages.proofs.FromDefinitions.{resolution-claims}
 use Rattle.p_groups.specs.PGroups.{PGroup, largest_residue, group, order_of, prime_of}
 use Rattle.p_groups.proofs.Fields.{field, residues}
 use Rattle.group_algebra.specs.Coordinates.{layer_coordinates}
-use Rattle.group_algebra.proofs.Members.{residue-row}
 use Rattle.min_res.specs.Stages.{stage_rows, rank_of}
 use Rattle.min_res.proofs.StageRows.{stage_rows_are}
 use Rattle.chain_maps.specs.Vectors.{vector}
@@ -65,7 +63,10 @@ module _ (G : PGroup) where
         ∙ ap (plus q (cocycle (λ i. vector q x i.0) gs)) (C.multiple d k (λ i. vector q y i.0) gs)
 
     pub are_cocycles : GivesCocycles G d
-    are_cocycles x r = (bar-normal minimal d (λ i. vector q x i.0), bar-cocycle minimal d (λ i. vector q x i.0))
+    are_cocycles x r = (
+      bar-normal minimal d (λ i. vector q x i.0),
+      bar-cocycle minimal d (λ i. vector q x i.0),
+    )
 
     pub is_injective : IsInjective G d
     is_injective x r h i = coboundary-zero G d x r h i
@@ -75,6 +76,7 @@ module _ (G : PGroup) where
       row_of_class G d found.0,
       class-row G d u found.0 (λ v. (
         (λ h. found.2 v (near-sym q (monoid (group G)) d (cocycle v) u h)),
-        (λ e. near-sym q (monoid (group G)) d u (cocycle v) (subst (λ w. AreCohomologous q (monoid (group G)) d u (cocycle w)) (sym e) found.1)),
+        (λ e. near-sym q (monoid (group G)) d u (cocycle v)
+            (subst (λ w. AreCohomologous q (monoid (group G)) d u (cocycle w)) (sym e) found.1)),
       )),
     )

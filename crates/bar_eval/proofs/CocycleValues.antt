@@ -1,5 +1,5 @@
 -- The value of a cocycle by the row where the comparison map takes a tuple.
-use Rattle.std.proofs.Common.{◌≡◌, ℕ, suc, ◌*◌, ◌%◌, ◌<◌, List, length, map, ap, ap₂, sym, ◌∙◌, refl}
+use Rattle.std.proofs.Common.{◌≡◌, ℕ, suc, ◌*◌, ◌%◌, List, length, ap, ap₂, sym, ◌∙◌, refl}
 use Rattle.std.proofs.Math.Nat.{zero-mod}
 use Rattle.std.specs.List.{Contains}
 use Rattle.group_modules.specs.Field.{Below}
@@ -12,7 +12,6 @@ use Rattle.group_algebra.specs.Coordinates.{layer_coordinates}
 use Rattle.min_res.specs.Stages.{rank_of, stage_rows}
 use Rattle.chain_maps.specs.Lifts.{pair}
 use Rattle.chain_maps.specs.Vectors.{vector}
-use Rattle.chain_lift.specs.Embeddings.{element_of}
 use Rattle.chain_lift.proofs.Pairings.{pair-is}
 use Rattle.bar_comparison.proofs.Classes.{bar-normal, tuple-entries}
 use Rattle.bar_eval.specs.Comparison.{tuple_of, compared, compared_row}

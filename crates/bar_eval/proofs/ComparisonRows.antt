@@ -1,11 +1,11 @@
 -- The comparison map by rows.
-use Rattle.std.proofs.Common.{◌≡◌, ℕ, zero, suc, ◌+◌, ◌-◌, ◌*◌, ◌<◌, ◌≤◌, ◌%◌, List, [], ◌∷◌, length, take, drop, get_or, replicate, true, false, inl, inr, arith, ap, ap₂, sym, ◌∙◌, refl}
+use Rattle.std.proofs.Common.{◌≡◌, ℕ, zero, suc, ◌+◌, ◌-◌, ◌*◌, ◌<◌, ◌≤◌, ◌%◌, List, [], ◌∷◌, length, take, drop, get_or, replicate, true, false, inl, inr, arith, ap, ap₂, sym, ◌∙◌}
 use Rattle.std.proofs.lemmas.List.{take_all}
 use Rattle.std.proofs.Math.Nat.{mod-eq_of_lt}
 use Rattle.std.specs.Prelude.{◌==◌}
 use Rattle.std.specs.List.{All, Contains}
 use mathlib.Core.Path.{subst}
-use Rattle.group_modules.specs.Module.{Module, times}
+use Rattle.group_modules.specs.Module.{times}
 use Rattle.group_modules.specs.Field.{Below, residue}
 use Rattle.group_modules.specs.Tables.{monoid, unit}
 use Rattle.linear_algebra.specs.Kernels.{unit_row}
@@ -91,7 +91,8 @@ module _ (G : PGroup) where
   has-identity (suc d) [] e k l z = absurd (omega (arith, l))
   has-identity (suc d) (x ∷ xs) e zero l z = inl (below-path _ _ (ap (λ n. n % order_of G) z
       ∙ mod-eq_of_lt G.law.law.some))
-  has-identity (suc d) (x ∷ xs) e (suc k) l z = inr (has-identity d xs (omega (arith, e)) k (omega (arith, l)) z)
+  has-identity (suc d) (x ∷ xs) e (suc k) l z =
+      inr (has-identity d xs (omega (arith, e)) k (omega (arith, l)) z)
 
   pub zero-there : (d : ℕ) (xs : List ℕ) → length xs ≡ d → Contains xs 0
       → compared_row G d xs ≡ replicate (order_of G * rank_of G d) 0

@@ -1,17 +1,15 @@
 -- The faces of a tuple by its list of numbers.
-use Rattle.std.proofs.Common.{◌≡◌, ◌≢◌, ◌⊎◌, ℕ, zero, suc, ◌+◌, ◌-◌, ◌%◌, ◌<◌, ◌≤◌, Bool, true, false, not, List, [], ◌∷◌, ◌++◌, map, length, take, drop, get_or, inl, inr, arith, ap, ap₂, sym, ◌∙◌, refl}
+use Rattle.std.proofs.Common.{◌≡◌, ◌≢◌, ◌⊎◌, ℕ, zero, suc, ◌+◌, ◌-◌, ◌%◌, ◌<◌, Bool, true, false, not, List, [], ◌∷◌, ◌++◌, length, take, drop, get_or, inl, inr, arith, ap, ap₂, sym, ◌∙◌, refl}
 use Rattle.std.proofs.Math.Nat.{mod-eq_of_lt}
 use Rattle.std.proofs.lemmas.List.{append_assoc, length-drop, take_all}
 use Rattle.std.proofs.lemmas.List.Elements.{All-append, All-drop, All-take}
 use Rattle.std.specs.List.{All}
 use mathlib.Core.Path.{subst}
 use Rattle.group_table.specs.Tables.{product}
-use Rattle.group_modules.specs.Field.{Below}
 use Rattle.group_modules.specs.Tables.{monoid}
 use Rattle.linear_algebra.proofs.Residues.{below-path}
 use Rattle.bar_complex.specs.Boundary.{signed}
 use Rattle.bar_complex.specs.Faces.{alternate, face}
-use Rattle.bar_complex.specs.Tuples.{Tuple}
 use Rattle.p_groups.specs.PGroups.{PGroup, group, order_of}
 use Rattle.chain_lift.specs.Embeddings.{element_of}
 use Rattle.bar_eval.specs.Comparison.{tuple_of}

@@ -1,11 +1,11 @@
 -- The value at the boundary of a tuple, face by face.
-use Rattle.std.proofs.Common.{◌≡◌, ℕ, zero, suc, ◌+◌, List, [], ◌∷◌, false, arith, ap, ap₂, sym, ◌∙◌, refl}
+use Rattle.std.proofs.Common.{◌≡◌, ℕ, zero, suc, false, ap, ap₂, sym, ◌∙◌, refl}
 use mathlib.Core.Path.{fun_ext}
 use Rattle.group_modules.specs.Module.{Monoid, Module, Term, times, lin}
 use Rattle.group_modules.specs.Field.{Below}
 use Rattle.group_modules.specs.Tables.{monoid}
 use Rattle.bar_complex.specs.Boundary.{signed}
-use Rattle.bar_complex.specs.Faces.{each, alternate, face, face_sum}
+use Rattle.bar_complex.specs.Faces.{each, alternate, face}
 use Rattle.bar_complex.specs.Tuples.{Tuple}
 use Rattle.bar_complex.proofs.Faces.{boundary-faces}
 use Rattle.p_groups.specs.PGroups.{PGroup, largest_residue, group, order_of}

@@ -28,8 +28,9 @@ fn one(alloc: Global, algebra: &Algebra) -> Result<Row, Memory>
 /// Where the comparison map takes a tuple of at most `last` elements: the empty one to 1, one with an
 /// identity entry to 0, and each other to the section of what the boundary goes to.
 ///
-/// It calls itself for each face that has no identity entry, so that a tuple of d elements costs at most
-/// (d + 1)! / 2 sections; it holds rows of the free modules of degrees 0 to d alone.
+/// It calls itself for each face, so that a tuple of d elements costs at most (d + 1)! sections, and fewer
+/// where faces have identity entries. It holds at most three rows of each of the free modules of degrees 0
+/// to d at once, beside the resolution.
 #[cycle(comparison)]
 pub(crate) fn compared(alloc: Global, res: &Resolution, tuple: &[u16]) -> Result<Row, Memory>
     requires within { length tuple.now ≤ res.now.last }

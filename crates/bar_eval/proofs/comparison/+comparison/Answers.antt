@@ -1,10 +1,10 @@
-use Rattle.std.proofs.Common.{◌≡◌, ◌≤◌, ◌<◌, ℕ, suc, [], List, IfOk, length, replicate, get_or, false, ◌+◌, ◌-◌, ◌*◌, arith, ap, sym, ◌∙◌, refl}
+use Rattle.std.proofs.Common.{◌≡◌, ℕ, suc, [], List, IfOk, length, replicate, get_or, false, ◌+◌, ◌-◌, arith, ap, sym, ◌∙◌, refl}
 use mathlib.Core.Path.{subst}
 use Rattle.std.proofs.lemmas.Bool.{eqb-true}
 use Rattle.linear_algebra.specs.Rows.{add_multiple}
 use Rattle.fp_rows.specs.Refs.{entries_of}
 use Rattle.fp_rows.specs.Values.{MatrixValue, RowValue}
-use Rattle.p_groups.specs.PGroups.{PGroup, group, order_of, prime_of}
+use Rattle.p_groups.specs.PGroups.{group, prime_of}
 use Rattle.group_modules.specs.Tables.{monoid}
 use Rattle.group_algebra.specs.Coordinates.{row_of}
 use Rattle.min_res.specs.Stages.{rank_of}
@@ -13,7 +13,7 @@ use Rattle.min_res.specs.Defined.{InK, σ}
 use Rattle.bar_complex.specs.Boundary.{signed}
 use Rattle.bar_complex.specs.Faces.{alternate, face as face_of}
 use Rattle.subgroup_list.proofs.Bools.{no_items}
-use Rattle.bar_eval.specs.Comparison.{boundary_row, compared_row, tuple_of}
+use Rattle.bar_eval.specs.Comparison.{compared_row, tuple_of}
 use Rattle.bar_eval.proofs.FaceSums.{all-faces, up-to}
 use Rattle.bar_eval.proofs.ComparisonRows.{after-one, boundary-in, section-there, zero-there, first-face, next-face, row-length}
 use Rattle.bar_eval.proofs.comparison.+comparison.Goals as goal
@@ -22,7 +22,8 @@ pub compared-returns-then-is_empty-clause-value : goal.compared-returns-then-is_
 compared-returns-then-is_empty-clause-value t c =
     subst (λ xs. IfOk c.one.result (λ r. r.entries ≡ compared_row c.args.res.now.group (length xs) xs))
     (sym (no_items c.args.tuple.now c.if-is_empty.ensures))
-    (subst (λ G. IfOk c.one.result (λ r. r.entries ≡ compared_row G 0 [])) c.algebra.ensures c.one.ensures.value)
+    (subst (λ G. IfOk c.one.result (λ r. r.entries ≡ compared_row G 0 [])) c.algebra.ensures
+    c.one.ensures.value)
 
 pub compared-returns-then-contains-clause-value : goal.compared-returns-then-contains-clause-value
 compared-returns-then-contains-clause-value t c =
@@ -73,7 +74,8 @@ compared_boundary-add-requires-clause-same_length t c =
     c.loop-i.sum.entries _ _
     (let n : length c.in_ok-face.face.items + 1 ≡ length c.args.tuple.now = c.in_ok-face.ensures.length in
     omega (arith, n)) (c.view-in-loop-i.ensures.entries ∙ c.in_ok-value.ensures.value
-    ∙ ap (λ (ys : List ℕ). compared_row c.args.res.now.group (length ys) ys) c.deref-in-loop-i.ensures.value) (c.loop-i.invariant.gathered d some)
+    ∙ ap (λ (ys : List ℕ). compared_row c.args.res.now.group (length ys) ys) c.deref-in-loop-i.ensures.value)
+    (c.loop-i.invariant.gathered d some)
 
 pub compared_boundary-loop-i-preserved : goal.compared_boundary-loop-i-preserved
 compared_boundary-loop-i-preserved t c = record {
@@ -84,7 +86,8 @@ compared_boundary-loop-i-preserved t c = record {
       (c.sign.ensures.value ∙ ap (λ p. signed (p - 1) (alternate false c.loop-i.i)) (c.prime-prime.ensures
       ∙ ap prime_of (c.group.ensures ∙ c.algebra-algebra.ensures)))
       (c.view-in-loop-i.ensures.entries ∙ c.in_ok-value.ensures.value
-      ∙ ap (λ (ys : List ℕ). compared_row c.args.res.now.group (length ys) ys) c.deref-in-loop-i.ensures.value)
+      ∙ ap (λ (ys : List ℕ). compared_row c.args.res.now.group (length ys) ys)
+      c.deref-in-loop-i.ensures.value)
       (let n : length c.in_ok-face.face.items + 1 ≡ length c.args.tuple.now = c.in_ok-face.ensures.length in
       omega (arith, n, e))
       (subst (λ G. tuple_of G d c.in_ok-face.face.items
@@ -100,6 +103,7 @@ compared_boundary-returns-clause-value t c d e =
     c.loop-i.invariant.gathered d e
     ∙ ap (λ k. row_of c.args.res.now.group (rank_of c.args.res.now.group d)
     (up-to c.args.res.now.group d (tuple_of c.args.res.now.group (suc d) c.args.tuple.now) k))
-    (let z : c.loop-i.i ≡ length c.args.tuple.now = omega (arith, c.loop-i-test.false, c.loop-i.auto) in z ∙ e)
+    (let z : c.loop-i.i ≡ length c.args.tuple.now = omega (arith, c.loop-i-test.false, c.loop-i.auto) in
+    z ∙ e)
     ∙ ap (row_of c.args.res.now.group (rank_of c.args.res.now.group d))
     (all-faces c.args.res.now.group d (tuple_of c.args.res.now.group (suc d) c.args.tuple.now))

@@ -1,4 +1,4 @@
-use Rattle.std.proofs.Common.{◌≡◌, ◌<◌, ◌+◌, suc, length, get_or, arith, ap, sym, ◌∙◌}
+use Rattle.std.proofs.Common.{◌≡◌, ◌<◌, ◌+◌, length, get_or, arith, ap, sym, ◌∙◌}
 use mathlib.Core.Path.{subst}
 use Rattle.group_table.specs.Tables.{GroupTable, order, product}
 use Rattle.p_groups.specs.PGroups.{order_of}
@@ -27,5 +27,5 @@ pub returns-clause-elements : goal.returns-clause-elements
 returns-clause-elements c = all-pieces (λ x. x < order_of c.args.group.now) c.args.tuple.now
     c.in_ok-face.face.items c.push.new.self.items c.extend_from_slice.new.self.items c.mul.result c.args.i _ _
     c.requires.elements
-    (subst (λ (T : GroupTable). c.mul.result < order T) c.as_group.ensures c.mul.ensures.below) c.in_ok-face.ensures.items c.in_ok-push.ensures.items
-    c.in_ok-extend_from_slice.ensures.items
+    (subst (λ (T : GroupTable). c.mul.result < order T) c.as_group.ensures c.mul.ensures.below)
+    c.in_ok-face.ensures.items c.in_ok-push.ensures.items c.in_ok-extend_from_slice.ensures.items

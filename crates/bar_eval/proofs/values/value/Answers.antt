@@ -1,4 +1,4 @@
-use Rattle.std.proofs.Common.{length, sym, ◌∙◌, refl}
+use Rattle.std.proofs.Common.{length, ◌∙◌}
 use Rattle.fp_rows.specs.Refs.{entries_of}
 use Rattle.group_algebra.proofs.ImageLemmas.{row-of-ref}
 use Rattle.bar_eval.proofs.ClassMaps.{is_linear, are_cocycles, is_injective, each_has_one}
