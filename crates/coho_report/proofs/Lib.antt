@@ -8,3 +8,5 @@ pub mod OwnRings
 pub mod NormalForms
 pub mod Images
 pub mod SubgroupLists
+pub mod ReportSubgroups
+pub mod NumberedLists
