@@ -15,7 +15,9 @@ use Rattle.ring_present.specs.Refusals as ring
 use Rattle.ring_present.specs.declared.fault.RingFault.{RingFault}
 use Rattle.ring_present.specs.declared.fault.RingFault.TheVariants as fault
 use Rattle.coho_report.specs.Reports.{HasFewMonomials}
-use Rattle.coho_report.specs.Refusals.{IsRingRefusal}
+use Rattle.coho_report.specs.Refusals.{IsRefusal, IsRingRefusal, IsSubgroupRefusal, passed_up}
+use Rattle.coho_report.specs.declared.fault.ReportFault.{ReportFault}
+use Rattle.coho_report.specs.declared.fault.ReportFault.TheVariants as report
 
 module _ (G : PGroup) where
   split : (d i : ℕ) → d ≤ suc i → (d ≤ i) ⊎ (d ≡ suc i)
@@ -65,3 +67,16 @@ module _ (G : PGroup) where
         first = λ c from less other t. few c from (omega arith) other t;
       }
   refused k n cap fault.Memory lt few r = tt
+
+  -- the fault of the ring, passed up
+  pub ring_refused : (n cap limit : ℕ) (e : RingFault) → IsRingRefusal G n cap e
+      → IsRefusal G n cap limit (passed_up e)
+  ring_refused n cap limit (fault.TooManyMonomials d count) r = r
+  ring_refused n cap limit fault.Memory r = tt
+
+  -- the fault of the subgroups, where no degree has too many monomials
+  pub subgroup_refused : (n cap limit : ℕ) (e : ReportFault) → HasFewMonomials G n cap
+      → IsSubgroupRefusal G n limit e → IsRefusal G n cap limit e
+  subgroup_refused n cap limit (report.TooManyMonomials d count) few r = absurd r
+  subgroup_refused n cap limit (report.TooLarge i d X) few r = (few, r)
+  subgroup_refused n cap limit report.Memory few r = tt

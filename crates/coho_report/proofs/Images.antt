@@ -5,6 +5,7 @@ use Rattle.std.proofs.lemmas.List.{get_or-map, length-map}
 use Rattle.std.proofs.lemmas.Option.{same_Some}
 use Rattle.std.proofs.lemmas.List.Elements.{All-from_recursion}
 use Rattle.p_groups.specs.PGroups.{PGroup, group, largest_residue, prime_of}
+use Rattle.elementary_subgroups.specs.Bases.{NumberedSubgroup}
 use Rattle.linear_algebra.specs.Residues.{residue}
 use Rattle.graded_polynomials.specs.Polynomials.{Polynomial, Term, IsPolynomial}
 use Rattle.graded_algebra.specs.Algebras.{Generator, degrees}
@@ -23,9 +24,10 @@ use Rattle.ring_present.specs.Values.{GeneratorValue, RingValue, generators_of}
 use Rattle.ring_present.proofs.RelationsOver.{degrees-are}
 use Rattle.coho_report.specs.OwnRings.{IsRingThrough}
 use Rattle.coho_report.specs.Related.{AreRelated}
-use Rattle.coho_report.specs.Subgroups.{restricted, IsImage}
+use Rattle.coho_report.specs.Subgroups.{restricted, IsImage, IsToldOf}
+use Rattle.coho_report.specs.Values.{SubgroupValue}
 use Rattle.coho_report.proofs.OwnRings.{degrees_within, IsWithin}
-use Rattle.coho_report.proofs.Related.{all-related}
+use Rattle.coho_report.proofs.Related.{all-related, related-length}
 
 -- a generator with its class as a vector
 abbrev pub vector_of : (q : ℕ) → GeneratorValue → Generator (Vector q)
@@ -120,3 +122,13 @@ images_over G basis p own gs fs e related =
     (subst (λ d. IsPolynomial q (map (λ g. g.degree) own) d f.terms) (sym image.degree_is)
     (subst (λ ds. IsPolynomial q ds g.degree f.terms) (degrees-are q own) image.form.polynomial)))
     gs fs related
+
+-- there are as many images as generators
+pub told_counts : (G : PGroup) (n : ℕ) (gs : List GeneratorValue) (ss : List NumberedSubgroup)
+    (vs : List SubgroupValue) → AreRelated (IsToldOf G n (generators_of (largest_residue G) gs)) ss vs
+    → All (λ v. length v.images ≡ length gs) vs
+told_counts G n gs ss vs related =
+    let q = largest_residue G in
+    all-related (IsToldOf G n (generators_of q gs)) (λ v. length v.images ≡ length gs)
+    (λ s v told. related-length (IsImage G s.basis told.own) (generators_of q gs) v.images told.images_are
+    ∙ length-map gs (vector_of q)) ss vs related

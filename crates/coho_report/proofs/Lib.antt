@@ -10,3 +10,5 @@ pub mod NormalForms
 pub mod OneLimit
 pub mod Images
 pub mod SubgroupLists
+pub mod ReportSubgroups
+pub mod NumberedLists

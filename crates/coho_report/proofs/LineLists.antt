@@ -60,18 +60,25 @@ bytes_next f lines i line old new lt is before after =
     ∙ ap (λ ls. concat (map f ls)) (sym (take_more lines i line lt
     ∙ ap (λ l. take i lines ++ l ∷ []) (sym is)))
 
--- two parts, each a line and the lines after it
-pub two_parts : {A : Type 0} (f : A → List ℕ) (lines one first two all ms ns : List A) (m n : A)
-    (head ts us : List (List ℕ)) (t u : List ℕ)
-    → one ≡ lines ++ m ∷ [] → first ≡ one ++ ms → two ≡ first ++ n ∷ [] → all ≡ two ++ ns
-    → map f lines ≡ head → f m ≡ t → map f ms ≡ ts → f n ≡ u → map f ns ≡ us
-    → map f all ≡ head ++ ((t ∷ ts) ++ (u ∷ us))
-two_parts f lines one first two all ms ns m n head ts us t u a b c d e p ps q qs =
-    let line = pushed f lines one m head (head ++ t ∷ []) t a e p refl in
-    let part = joined f one ms first (head ++ t ∷ []) ts b line ps in
-    let next = pushed f first two n ((head ++ t ∷ []) ++ ts)
-    (((head ++ t ∷ []) ++ ts) ++ u ∷ []) u c part q refl in
-    joined f two ns all (((head ++ t ∷ []) ++ ts) ++ u ∷ []) us d next qs
-    ∙ append_assoc ((head ++ t ∷ []) ++ ts) (u ∷ []) us
-    ∙ ap (λ xs. xs ++ u ∷ us) (append_assoc head (t ∷ []) ts)
-    ∙ append_assoc head (t ∷ ts) (u ∷ us)
+-- a part: a line, and the lines after it
+part : {A : Type 0} (f : A → List ℕ) (lines one all ms : List A) (m : A) (old ts : List (List ℕ))
+    (t : List ℕ) → one ≡ lines ++ m ∷ [] → all ≡ one ++ ms → map f lines ≡ old → f m ≡ t → map f ms ≡ ts
+    → map f all ≡ old ++ (t ∷ ts)
+part f lines one all ms m old ts t a b before p ps =
+    joined f one ms all (old ++ t ∷ []) ts b (pushed f lines one m old (old ++ t ∷ []) t a before p refl) ps
+    ∙ append_assoc old (t ∷ []) ts
+
+-- three parts
+pub three_parts : {A : Type 0} (f : A → List ℕ) (lines one first two second three all ms ns os : List A)
+    (m n o : A) (head ts us vs : List (List ℕ)) (t u v : List ℕ)
+    → one ≡ lines ++ m ∷ [] → first ≡ one ++ ms → two ≡ first ++ n ∷ [] → second ≡ two ++ ns
+    → three ≡ second ++ o ∷ [] → all ≡ three ++ os
+    → map f lines ≡ head → f m ≡ t → map f ms ≡ ts → f n ≡ u → map f ns ≡ us → f o ≡ v → map f os ≡ vs
+    → map f all ≡ head ++ ((t ∷ ts) ++ ((u ∷ us) ++ (v ∷ vs)))
+three_parts f lines one first two second three all ms ns os m n o head ts us vs t u v a b c d e g before p ps
+    r rs s ss =
+        part f second three all os o ((head ++ (t ∷ ts)) ++ (u ∷ us)) vs v e g
+        (part f first two second ns n (head ++ (t ∷ ts)) us u c d
+        (part f lines one first ms m head ts t a b before p ps) r rs) s ss
+        ∙ append_assoc (head ++ (t ∷ ts)) (u ∷ us) (v ∷ vs)
+        ∙ append_assoc head (t ∷ ts) ((u ∷ us) ++ (v ∷ vs))

@@ -9,55 +9,79 @@ use Rattle.graded_polynomials.specs.AllMonomials.{all_monomials}
 use Rattle.graded_polynomials.specs.Monomials.{IsMonomials}
 use Rattle.graded_polynomials.proofs.AllMonomials.{all-monomials}
 use Rattle.graded_polynomials.proofs.MonomialLists.{monomials-unique}
-use Rattle.graded_algebra.specs.Algebras.{degrees}
+use Rattle.graded_polynomials.specs.Polynomials.{Polynomial}
+use Rattle.graded_algebra.specs.Algebras.{Generator, degrees}
 use Rattle.graded_algebra.specs.Presentations.{IsSpanGenerators}
+use Rattle.graded_algebra.specs.Vectors.{Vector}
 use Rattle.graded_algebra.proofs.SpansUnique.{span-generators-unique}
 use Rattle.presentation_rows.specs.Ranks.{HasRanks}
 use Rattle.presentation_rows.proofs.Existence.{Presented, presented}
 use Rattle.min_res.specs.Stages.{stage_rows, rank_of}
 use Rattle.chain_maps.proofs.Vectors.{product-claims}
 use Rattle.chain_lift.specs.Products.{multiply}
-use Rattle.ring_present.specs.Rings.{cohomology, dual_basis, IsTooMany}
+use Rattle.ring_present.specs.Rings.{cohomology, dual_basis, IsPresentation, IsTooMany}
 use Rattle.coho_report.specs.Values.{ReportValue}
 use Rattle.coho_report.specs.Reports.{IsReport, HasFewMonomials, IsFirstTooMany, ranks_below}
+use Rattle.coho_report.proofs.OwnRings.{degrees_within}
+use Rattle.coho_report.proofs.ReportSubgroups.{all_told}
+use Rattle.coho_report.proofs.SubgroupsExist.{subgroups_exist}
+
+ranks-are : (E : PGroup) → HasRanks (largest_residue E) (rank_of E) (multiply E)
+ranks-are E = record {
+  one = refl;
+  products = λ d e v w i l. (product-claims (largest_residue E) (group E) (layer_coordinates E)
+      (stage_rows E) d e v w).past i l;
+}
+
+-- generators and relations of degrees 1 to n
+presentation : (E : PGroup) (n : ℕ) → (gs : List (Generator (Vector (largest_residue E))))
+    × (rs : List Polynomial) × IsPresentation E n gs rs
+presentation E n =
+    let P = presented (largest_residue E) (rank_of E) (multiply E) (ranks-are E) (field E) n in (
+      P.generators,
+      P.relations,
+      record { generators_are = P.generators_are; relations_are = P.relations_are },
+    )
 
 module _ (G : PGroup) where
   abbrev q : ℕ
   q = largest_residue G
 
-  has-ranks : HasRanks q (rank_of G) (multiply G)
-  has-ranks = record {
-    one = refl;
-    products = λ d e v w i l. (product-claims q (group G) (layer_coordinates G)
-        (stage_rows G) d e v w).past i l;
-  }
+  known : (n : ℕ) → Presented q (rank_of G) (multiply G) (ranks-are G) n
+  known n = presented q (rank_of G) (multiply G) (ranks-are G) (field G) n
 
-  known : (n : ℕ) → Presented q (rank_of G) (multiply G) has-ranks n
-  known n = presented q (rank_of G) (multiply G) has-ranks (field G) n
-
-  a-report : (n : ℕ) → (r : ReportValue) × IsReport G n r
-  a-report n = (
-    record {
-      prime = prime_of G;
-      order = order_of G;
-      degree = n;
-      ranks = ranks_below G (suc n);
-      generators = degrees (known n).generators;
-      relations = (known n).relations;
-    },
-    record {
-      prime = refl;
-      order_is = refl;
-      degree = refl;
-      ranks = refl;
-      generators = (known n).generators;
-      degrees_are = refl;
-      presentation = record {
-        generators_are = (known n).generators_are;
-        relations_are = (known n).relations_are;
-      };
-    },
-  )
+  a_report : (n : ℕ) → (r : ReportValue) × IsReport G n r
+  a_report n =
+      let q = largest_residue G in
+      let gs = (known n).generators in
+      let list = subgroups_exist G.table G.law.law in
+      let told = all_told G n (λ E. presentation E n) gs
+      (degrees_within q (cohomology G) (dual_basis G) n gs (known n).generators_are) list.0 in (
+        record {
+          prime = prime_of G;
+          order = order_of G;
+          degree = n;
+          ranks = ranks_below G (suc n);
+          generators = degrees gs;
+          relations = (known n).relations;
+          subgroups = told.0;
+        },
+        record {
+          prime = refl;
+          order_is = refl;
+          degree = refl;
+          ranks = refl;
+          generators = gs;
+          degrees_are = refl;
+          presentation = record {
+            generators_are = (known n).generators_are;
+            relations_are = (known n).relations_are;
+          };
+          subgroups = list.0;
+          subgroups_are = list.1;
+          told = told.1;
+        },
+      )
 
   -- all monomials of degree n + 1 in the generators of lower degree, and their number
   abbrev monomials : ℕ → List (List ℕ)
@@ -102,7 +126,7 @@ module _ (G : PGroup) where
       go (inl m) = inr (omega arith)
       go (inr m) = inl m
 
-  few-or-first : (n cap : ℕ) → HasFewMonomials G n cap ⊎ IsRefused n cap
+  pub few-or-first : (n cap : ℕ) → HasFewMonomials G n cap ⊎ IsRefused n cap
   few-or-first zero cap = inl (λ d from to x t. absurd (omega (arith, from, to)))
   few-or-first (suc n) cap = go (few-or-first n cap) (cases_lt cap (count n))
     where
@@ -135,11 +159,5 @@ module _ (G : PGroup) where
       )
       go (inl few) (inr l) = inl (λ d from to x t. here few l d from (split d n to) x t)
 
-  pub report_or_refusal : (n cap : ℕ) → ((r : ReportValue) × IsReport G n r × HasFewMonomials G n cap)
-      ⊎ IsRefused n cap
-  report_or_refusal n cap = go (few-or-first n cap)
-    where
-      go : HasFewMonomials G n cap ⊎ IsRefused n cap
-          → ((r : ReportValue) × IsReport G n r × HasFewMonomials G n cap) ⊎ IsRefused n cap
-      go (inl few) = inl ((a-report n).0, (a-report n).1, few)
-      go (inr r) = inr r
+  pub report_exists : (n : ℕ) → (r : ReportValue) × IsReport G n r
+  report_exists n = a_report n

@@ -63,9 +63,9 @@ head_lines r =
 abbrev pub report_lines : ReportValue → List (List ℕ)
 report_lines r =
     head_lines r
-    ++ (numbered (codes "generators ") (length r.generators) ∷ generator_lines r.generators)
-    ++ (numbered (codes "relations ") (length r.relations) ∷ relation_lines r.generators r.relations)
-    ++ (numbered (codes "subgroups ") (length r.subgroups) ∷ all_subgroup_lines r.generators r.subgroups)
+    ++ ((numbered (codes "generators ") (length r.generators) ∷ generator_lines r.generators)
+    ++ ((numbered (codes "relations ") (length r.relations) ∷ relation_lines r.generators r.relations)
+    ++ (numbered (codes "subgroups ") (length r.subgroups) ∷ all_subgroup_lines r.generators r.subgroups)))
 
 -- the answer
 abbrev pub report_text : ReportValue → List ℕ

@@ -1,11 +1,11 @@
 //! The lines of the subgroups of a report.
 
-ghost use Rattle.std.specs.Prelude.{◌≡◌, ◌+◌, ◌<◌, ◌^◌, ◌++◌, All, length, map, IfOk, OnOk};
-ghost use Rattle.gc_poly.specs.Polynomials.{IsOverGenerators};
+ghost use Rattle.std.specs.Prelude.{◌≡◌, ◌+◌, ◌<◌, ◌^◌, ◌++◌, All, length, map, IfOk, OnOk, slice_index_or};
+ghost use Rattle.graded_polynomials.specs.Polynomials.{Polynomial};
 ghost use Rattle.coho_report.specs.Lines.{all_subgroup_lines, basis_line, image_line, image_lines, subgroup_lines};
 
 use crate::subgroups::SubgroupReport;
-use gc_poly::{Gens, Poly, write_text};
+use gc_poly::Gens;
 use group_table::Memory;
 use std::alloc::{AllocError, Global};
 
@@ -27,40 +27,29 @@ fn basis_line(alloc: Global, place: usize, s: &SubgroupReport) -> Result<Vec<u8>
 }
 
 // The name of generator i, and the text of its restriction.
-fn image_line(
-    alloc: Global,
-    gens: &Gens,
-    own: &Gens,
-    i: usize,
-    f: &Poly,
-) -> Result<Vec<u8>, Memory>
+fn image_line(alloc: Global, gens: &Gens, s: &SubgroupReport, i: usize) -> Result<Vec<u8>, Memory>
     requires generator { i < length gens.now.degrees }
-    requires over { IsOverGenerators own.now f.now }
-    ensures { IfOk result (λ line. line.items ≡ image_line gens.now.degrees own.now.degrees i f.now) }
+    requires image { i < length s.now.images }
+    ensures { IfOk result (λ line. (f : Polynomial) → line.items
+        ≡ image_line gens.now.degrees s.now.generators i (slice_index_or s.now.images i f)) }
 {
     let degree = gens.degree(i);
     let number = gens.number(i);
     let mut text = format!(in alloc; "x_{degree}_{number} -> ")?.into_bytes();
-    write_text(own, f, &mut text)?;
+    s.write_image(i, &mut text)?;
     text.push(b'\n')?;
     Ok(text)
 }
 
 // The lines of the restrictions.
-fn image_lines(
-    alloc: Global,
-    gens: &Gens,
-    own: &Gens,
-    images: &[Poly],
-) -> Result<Vec<Vec<u8>>, Memory>
-    requires count { length images.now ≡ length gens.now.degrees }
-    requires over { All (IsOverGenerators own.now) images.now }
+fn image_lines(alloc: Global, gens: &Gens, s: &SubgroupReport) -> Result<Vec<Vec<u8>>, Memory>
+    requires { length s.now.images ≡ length gens.now.degrees }
     ensures { IfOk result (λ lines. map (λ l. l.items) lines.items
-        ≡ image_lines gens.now.degrees own.now.degrees images.now) }
+        ≡ image_lines gens.now.degrees s.now.generators s.now.images) }
 {
     let mut lines = Vec::new(alloc);
-    for i in 0..images.len() {
-        lines.push(image_line(alloc, gens, own, i, &images[i])?)?;
+    for i in 0..s.images() {
+        lines.push(image_line(alloc, gens, s, i)?)?;
     }
     Ok(lines)
 }
@@ -79,7 +68,7 @@ fn push_subgroup_lines(
         ≡ map (λ l. l.items) lines.old.items ++ subgroup_lines gens.now.degrees place s.now) }
 {
     lines.push(basis_line(alloc, place, s)?)?;
-    lines.append(&mut image_lines(alloc, gens, s.gens(), s.images())?)?;
+    lines.append(&mut image_lines(alloc, gens, s)?)?;
     Ok(())
 }
 

@@ -1,9 +1,11 @@
 //! Elementary abelian subgroups, with the restrictions of the generators to them.
 
-ghost use Rattle.std.specs.Prelude.{◌≡◌, ◌≤◌, ◌<◌, ◌^◌, List, length, IfOk, IfErr, slice_index, slice_index_or};
+ghost use Rattle.std.specs.Prelude.{◌≡◌, ◌≤◌, ◌<◌, ◌^◌, ◌++◌, List, length, IfOk, IfErr, OnOk, slice_index, slice_index_or};
 ghost use Rattle.limits.specs.declared.TheConstants.{GREATEST_DEGREE};
 ghost use Rattle.p_groups.specs.PGroups.{largest_residue};
 ghost use Rattle.elementary_subgroups.specs.Bases.{IsSubgroupList, IsSubgroupOf, NumberedSubgroup};
+ghost use Rattle.graded_polynomials.specs.Polynomials.{Polynomial};
+ghost use Rattle.graded_polynomials.specs.Texts.{polynomial_text};
 ghost use Rattle.graded_algebra.specs.Algebras.{Generator};
 ghost use Rattle.graded_algebra.specs.Vectors.{Vector};
 ghost use Rattle.elementary_subgroups.specs.Sets.{IsIn};
@@ -19,7 +21,7 @@ use crate::fault::of_subgroup;
 use crate::own_rings::{OwnRing, shared_ring};
 use chain_lift::EmbedMap;
 use fp_rows::Row;
-use gc_poly::{Gens, Poly};
+use gc_poly::{Poly, write_text};
 use group_table::Memory;
 use min_res::Resolution;
 use ring_present::Ring;
@@ -72,18 +74,21 @@ impl SubgroupReport {
         self.subgroup.basis(i)
     }
 
-    /// The generators of the subgroup's own ring.
-    pub(crate) fn gens(&self) -> &Gens
-        ensures { result.now.degrees ≡ self.now.generators }
+    /// How many restrictions there are.
+    pub(crate) fn images(&self) -> usize
+        ensures { result ≡ length self.now.images }
     {
-        self.own.ring.gens()
+        self.images.len()
     }
 
-    /// The restrictions.
-    pub(crate) fn images(&self) -> &[Poly]
-        ensures { result.now ≡ self.now.images }
+    /// Appends the text of restriction i.
+    pub(crate) fn write_image(&self, i: usize, text: &mut Vec<u8>) -> Result<(), Memory>
+        requires { i < length self.now.images }
+        ensures { OnOk result ((f : Polynomial) → text.new.items
+            ≡ text.old.items
+            ++ polynomial_text self.now.generators (slice_index_or self.now.images i f).terms) }
     {
-        &self.images
+        write_text(self.own.ring.gens(), &self.images[i], text)
     }
 }
 

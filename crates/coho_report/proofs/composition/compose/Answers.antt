@@ -3,28 +3,47 @@ use Rattle.std.proofs.lemmas.Result.{err_from_is_err_and}
 use Rattle.p_groups.specs.PGroups.{PGroup, largest_residue}
 use Rattle.group_table.specs.Tables.{order}
 use Rattle.ring_present.specs.Values.{generators_of}
-use Rattle.coho_report.specs.Reports.{ranks_below}
 use Rattle.ring_present.proofs.RelationsOver.{degrees-are}
+use Rattle.coho_report.specs.Related.{AreRelated}
+use Rattle.coho_report.specs.Reports.{ranks_below}
+use Rattle.coho_report.specs.Subgroups.{IsToldOf}
+use Rattle.coho_report.proofs.Composing.{ring_refused}
+use Rattle.coho_report.proofs.Images.{told_counts}
 use Rattle.coho_report.proofs.composition.compose.Goals as goal
 
 pub returns-in_err-ring-clause-refused : goal.returns-in_err-ring-clause-refused
 returns-in_err-ring-clause-refused c =
     let p = err_from_is_err_and c.from_residual.result c.from_residual.ensures.1 in
-    rw (p.1, p.2) c.in_err-ring.ensures.refused
+    rw (p.1, p.2) (ring_refused c.args.res.now.group c.args.n c.args.cap c.args.limit c.in_err-ring.field-0.0
+    c.in_err-ring.ensures.refused)
+
+pub invariant_of-result : goal.invariant_of-result
+invariant_of-result c =
+    let G = c.args.res.now.group in
+    let ring = c.in_ok-ring.ring in
+    let told = c.in_ok-subgroups.ensures.told in
+    told_counts G ring.degree ring.generators told.0 c.in_ok-subgroups.subgroups.items told.2
 
 pub returns-clause-report : goal.returns-clause-report
 returns-clause-report c =
     let G = c.args.res.now.group in
     let ring = c.in_ok-ring.ring in
+    let through = c.in_ok-ring.ensures.ring in
     let q = largest_residue G in
+    let gs = generators_of q ring.generators in
     let next : c.args.n + 1 ≡ suc c.args.n = omega arith in
+    let told = c.in_ok-subgroups.ensures.told in
     record {
-      prime = c.in_ok-ring.ensures.prime;
+      prime = through.prime_is;
       order_is = c.order-order.ensures.value
           ∙ ap (λ (G : PGroup). order G.table) (c.group.ensures ∙ c.algebra.ensures);
-      degree = c.in_ok-ring.ensures.degree;
+      degree = through.degree_is;
       ranks = c.in_ok-ranks.ensures ∙ ap (ranks_below G) next;
-      generators = generators_of q ring.generators;
+      generators = gs;
       degrees_are = sym (degrees-are q ring.generators);
-      presentation = c.in_ok-ring.ensures.presentation;
+      presentation = through.presentation;
+      subgroups = told.0;
+      subgroups_are = told.1;
+      told = subst (λ n. AreRelated (IsToldOf G n gs) told.0 c.in_ok-subgroups.subgroups.items)
+          through.degree_is told.2;
     }
