@@ -10,3 +10,4 @@ pub mod Images
 pub mod SubgroupLists
 pub mod ReportSubgroups
 pub mod NumberedLists
+pub mod FirstLarge
