@@ -77,6 +77,17 @@ monomials_refused d X = record {
       ++ (decimal X ++ (codes " monomials, above " ++ (decimal MOST_MONOMIALS ++ 10 ∷ [])))));
 }
 
+-- the stage of degree d of subgroup i, counted from 1, has a free module of dimension X
+abbrev pub subgroup_refused : ℕ → ℕ → ℕ → Refusal
+subgroup_refused i d X = record {
+  status = status.Limit;
+  line =
+      codes "coho: limit: stage "
+      ++ (decimal d ++ (codes " of subgroup "
+      ++ (decimal i ++ (codes " has dimension "
+      ++ (decimal X ++ (codes ", above " ++ (decimal GREATEST_DIMENSION ++ 10 ∷ [])))))));
+}
+
 -- a write to out that failed
 abbrev pub write_refused : Refusal
 write_refused = record { status = status.Write; line = codes "coho: write failed" ++ 10 ∷ [] }

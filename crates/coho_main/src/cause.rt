@@ -25,6 +25,13 @@ pub enum Cause {
     Stage { degree: u32, dimension: u64 },
     /// This degree has more than `MOST_MONOMIALS` monomials in generators of lower degree.
     Monomials { degree: u32, count: u64 },
+    /// The free module of the stage of this degree of a listed subgroup, counted from 1, has a dimension above
+    /// `GREATEST_DIMENSION`.
+    SubgroupStage {
+        subgroup: u32,
+        degree: u32,
+        dimension: u64,
+    },
 }
 
 impl Cause {
@@ -39,6 +46,7 @@ impl Cause {
             Cause::Inconsistent(_) => Status::Inconsistent,
             Cause::Stage { .. } => Status::Limit,
             Cause::Monomials { .. } => Status::Limit,
+            Cause::SubgroupStage { .. } => Status::Limit,
         }
     }
 
@@ -70,6 +78,15 @@ impl Cause {
             Cause::Monomials { degree, count } => {
                 format!(in alloc;
                     "coho: limit: degree {degree} has {count} monomials, above {MOST_MONOMIALS}\n"
+                )
+            }
+            Cause::SubgroupStage {
+                subgroup,
+                degree,
+                dimension,
+            } => {
+                format!(in alloc;
+                    "coho: limit: stage {degree} of subgroup {subgroup} has dimension {dimension}, above {GREATEST_DIMENSION}\n"
                 )
             }
         }

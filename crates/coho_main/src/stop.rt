@@ -81,6 +81,15 @@ impl<'a> From<ReportFault> for Stop<'a> {
             ReportFault::TooManyMonomials { degree, count } => {
                 Stop::Refused(Cause::Monomials { degree, count })
             }
+            ReportFault::TooLarge {
+                subgroup,
+                degree,
+                dimension,
+            } => Stop::Refused(Cause::SubgroupStage {
+                subgroup,
+                degree,
+                dimension,
+            }),
             ReportFault::Memory => Stop::Memory,
         }
     }

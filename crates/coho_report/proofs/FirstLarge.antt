@@ -1,5 +1,5 @@
 -- The first subgroup and degree whose dimension is above the limit are one.
-use Rattle.std.proofs.Common.{◌≡◌, ◌∙◌, ℕ, suc, ◌<◌, ◌≤◌, min, List, [], ◌∷◌, ◌++◌, inl, inr, length, refl, sym, ap, subst, arith}
+use Rattle.std.proofs.Common.{◌≡◌, ◌∙◌, ℕ, suc, ◌<◌, min, List, [], ◌∷◌, ◌++◌, inl, inr, length, refl, sym, ap, subst, arith}
 use Rattle.p_groups.specs.PGroups.{PGroup}
 use Rattle.elementary_subgroups.specs.Bases.{NumberedSubgroup}
 use Rattle.elementary_subgroups.specs.Sets.{IsIn}
