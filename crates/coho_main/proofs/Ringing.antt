@@ -5,20 +5,21 @@ use Rattle.limits.specs.declared.TheConstants.{GREATEST_DIMENSION, MOST_MONOMIAL
 use Rattle.p_groups.specs.PGroups.{PGroup}
 use Rattle.power_commutator.specs.Presentations.{Presentation}
 use Rattle.min_res.specs.Values.{ResolutionValue}
-use Rattle.coho_report.specs.Limits.{AreSmall, IsFirstLargeSubgroup}
 use Rattle.coho_report.specs.Values.{ReportValue}
+use Rattle.coho_report.specs.Limits.{AreSmall, IsFirstLargeSubgroup}
 use Rattle.coho_report.specs.Reports.{IsReport, HasFewMonomials, IsFirstTooMany}
 use Rattle.coho_report.specs.Refusals.{IsRefusal}
 use Rattle.coho_report.specs.declared.fault.ReportFault.{ReportFault}
 use Rattle.coho_report.specs.declared.fault.ReportFault.TheVariants as fault
 use Rattle.coho_report.proofs.OneReport.{one_report, one_refusal}
-use Rattle.coho_report.proofs.OneLimit.{one_large_subgroup, small_or_large}
-use Rattle.coho_report.proofs.ReportExists.{report_exists, monomials_decided, subgroups_decided}
+use Rattle.coho_report.proofs.FirstLarge.{none_large, one_subgroup}
+use Rattle.coho_report.proofs.ReportExists.{few-or-first, report_exists}
+use Rattle.coho_report.proofs.ReportSubgroups.{small_or_first_subgroup}
 use Rattle.coho_main.specs.declared.status.Status.TheVariants as status
 use Rattle.coho_main.specs.Groups.{ForGroupOf}
 use Rattle.coho_main.specs.Refusals.{monomials_refused, subgroup_refused}
 use Rattle.coho_main.specs.Resolving.{IsResolutionTo}
-use Rattle.coho_main.specs.Ringing.{IsReportTo, IsReportRefusal, IsMonomialsRefusal, IsSubgroupRefusal, stop_of}
+use Rattle.coho_main.specs.Ringing.{IsReportTo, IsReportRefusal, stop_of}
 use Rattle.coho_main.specs.Stages.{Fit}
 use Rattle.coho_main.specs.Steps.{Refusal}
 use Rattle.coho_main.specs.Stops.{IsRefused}
@@ -41,64 +42,49 @@ module _ (P : Presentation) (n : ℕ) (r : ResolutionValue) (R : IsResolutionTo 
       → IsRefused (λ refusal. ForGroupOf P (λ G. IsReportRefusal G n refusal)) (stop_of e)
   report_stop (fault.TooManyMonomials d X) first =
       record { group = r.group; is_table = R.is_table; holds = inl (d, X, first, refl) }
-  report_stop (fault.TooLarge i d X) large = record {
-    group = r.group;
-    is_table = R.is_table;
-    holds = inr (record {
-      few = large.0;
-      subgroup = i;
-      degree = d;
-      dimension = X;
-      first = large.1;
-      is = refl;
-    });
-  }
+  report_stop (fault.TooLarge i d X) first =
+      record { group = r.group; is_table = R.is_table; holds = inr (first.0, (i, d, X, first.1, refl)) }
   report_stop fault.Memory first = tt
 
--- a first degree with too many monomials, and none
-not_few : (G : PGroup) (n : ℕ) (q : Refusal) → IsMonomialsRefusal G n q → HasFewMonomials G n MOST_MONOMIALS → ⊥
-not_few G n q b few = let first = b.2 in few b.0 first.from first.to b.1 first.is
+module _ (G : PGroup) (n : ℕ) where
+  one_refused : (q r : Refusal) → IsReportRefusal G n q → IsReportRefusal G n r → q ≡ r
+  one_refused q r (inl a) (inl b) =
+      let same = one_refusal G n MOST_MONOMIALS a.0 a.1 b.0 b.1 a.2 b.2 in
+      a.3 ∙ ap (λ d. monomials_refused d a.1) same.0 ∙ ap (monomials_refused b.0) same.1 ∙ sym b.3
+  one_refused q r (inl a) (inr b) = absurd (b.0 a.0 a.2.from a.2.to a.1 a.2.is)
+  one_refused q r (inr a) (inl b) = absurd (a.0 b.0 b.2.from b.2.to b.1 b.2.is)
+  one_refused q r (inr a) (inr b) =
+      let s = a.1 in
+      let t = b.1 in
+      let same = one_subgroup G n GREATEST_DIMENSION s.0 s.1 s.2 t.0 t.1 t.2 s.3 t.3 in
+      s.4 ∙ ap (λ i. subgroup_refused i s.1 s.2) same.0 ∙ ap (λ d. subgroup_refused t.0 d s.2) same.1
+      ∙ ap (subgroup_refused t.0 t.1) same.2 ∙ sym t.4
 
-one_refused : (G : PGroup) (n : ℕ) (q r : Refusal) → IsReportRefusal G n q → IsReportRefusal G n r → q ≡ r
-one_refused G n q r (inl a) (inl b) =
-    let same = one_refusal G n MOST_MONOMIALS a.0 a.1 b.0 b.1 a.2 b.2 in
-    a.3 ∙ ap (λ d. monomials_refused d a.1) same.0 ∙ ap (monomials_refused b.0) same.1 ∙ sym b.3
-one_refused G n q r (inl a) (inr b) = absurd (not_few G n q a b.few)
-one_refused G n q r (inr a) (inl b) = absurd (not_few G n r b a.few)
-one_refused G n q r (inr a) (inr b) =
-    let same = one_large_subgroup G n GREATEST_DIMENSION a.subgroup a.degree a.dimension b.subgroup b.degree
-        b.dimension a.first b.first
-    in
-    a.is ∙ ap (λ i. subgroup_refused i a.degree a.dimension) same.0
-    ∙ ap (λ d. subgroup_refused b.subgroup d a.dimension) same.1.0
-    ∙ ap (subgroup_refused b.subgroup b.degree) same.1.1 ∙ sym b.is
+  some_report : ((r : ReportValue) × IsReportTo G n r) ⊎ ((q : Refusal) × IsReportRefusal G n q)
+  some_report = go (few-or-first G n MOST_MONOMIALS) (small_or_first_subgroup G n GREATEST_DIMENSION)
+      (report_exists G n)
+    where
+      go : HasFewMonomials G n MOST_MONOMIALS
+          ⊎ ((d : ℕ) × (X : ℕ) × IsFirstTooMany G n MOST_MONOMIALS d X)
+          → AreSmall G n GREATEST_DIMENSION
+          ⊎ ((i : ℕ) × (d : ℕ) × (X : ℕ) × IsFirstLargeSubgroup G n GREATEST_DIMENSION i d X)
+          → (r : ReportValue) × IsReport G n r
+          → ((r : ReportValue) × IsReportTo G n r) ⊎ ((q : Refusal) × IsReportRefusal G n q)
+      go (inl few) (inl small) r = inl (r.0, record { few = few; small = small; is = r.1 })
+      go (inl few) (inr first) r = inr (
+        subgroup_refused first.0 first.1 first.2,
+        inr (few, (first.0, first.1, first.2, first.3, refl)),
+      )
+      go (inr first) s r = inr (monomials_refused first.0 first.1, inl (first.0, first.1, first.2, refl))
 
-not_both : (G : PGroup) (n : ℕ) (report : ReportValue) (q : Refusal) → IsReportTo G n report
-    → IsReportRefusal G n q → ⊥
-not_both G n report q a (inl b) = not_few G n q b a.few
-not_both G n report q a (inr b) =
-    small_or_large G n GREATEST_DIMENSION b.subgroup b.degree b.dimension a.small b.first
+  not_both : (r : ReportValue) (q : Refusal) → IsReportTo G n r → IsReportRefusal G n q → ⊥
+  not_both r q a (inl b) = a.few b.0 b.2.from b.2.to b.1 b.2.is
+  not_both r q a (inr b) =
+      let s = b.1 in none_large G n GREATEST_DIMENSION s.0 s.1 s.2 a.small s.3
 
-some_report : (G : PGroup) (n : ℕ) → ((r : ReportValue) × IsReportTo G n r)
-    ⊎ ((q : Refusal) × IsReportRefusal G n q)
-some_report G n = go (monomials_decided G n MOST_MONOMIALS) (subgroups_decided G n GREATEST_DIMENSION)
-  where
-    go : HasFewMonomials G n MOST_MONOMIALS
-        ⊎ ((d : ℕ) × (count : ℕ) × IsFirstTooMany G n MOST_MONOMIALS d count)
-        → AreSmall G n GREATEST_DIMENSION
-        ⊎ ((i : ℕ) × (d : ℕ) × (X : ℕ) × IsFirstLargeSubgroup G n GREATEST_DIMENSION i d X)
-        → ((r : ReportValue) × IsReportTo G n r) ⊎ ((q : Refusal) × IsReportRefusal G n q)
-    go (inr m) s = inr (monomials_refused m.0 m.1, inl (m.0, m.1, m.2, refl))
-    go (inl few) (inr l) = inr (
-      subgroup_refused l.0 l.1 l.2,
-      inr (record { few = few; subgroup = l.0; degree = l.1; dimension = l.2; first = l.3; is = refl }),
-    )
-    go (inl few) (inl small) =
-        let r = report_exists G n in inl (r.0, record { few = few; small = small; is = r.1 })
-
-keeps_words : (G : PGroup) (n : ℕ) (q : Refusal) → IsReportRefusal G n q → q.status ≡ status.Usage → ⊥
-keeps_words G n q (inl a) e = let no = sym (ap (λ (q : Refusal). q.status) a.3) ∙ e in absurd (cc)
-keeps_words G n q (inr a) e = let no = sym (ap (λ (q : Refusal). q.status) a.is) ∙ e in absurd (cc)
+  not_words : (q : Refusal) → IsReportRefusal G n q → q.status ≡ status.Usage → ⊥
+  not_words q (inl a) e = let no = sym (ap (λ (q : Refusal). q.status) a.3) ∙ e in cc
+  not_words q (inr a) e = let no = sym (ap (λ (q : Refusal). q.status) a.1.4) ∙ e in cc
 
 pub report_decided : (n : ℕ) → IsDecided (λ G (report : ReportValue). IsReportTo G n report)
     (λ G refusal. IsReportRefusal G n refusal)
@@ -107,5 +93,5 @@ report_decided n = record {
   one_refusal = λ G q r a b. one_refused G n q r a b;
   not_both = λ G r q a b. not_both G n r q a b;
   some = λ G. some_report G n;
-  keeps = λ G q a e. keeps_words G n q a e;
+  keeps = λ G q a e. not_words G n q a e;
 }

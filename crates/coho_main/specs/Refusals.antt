@@ -67,17 +67,6 @@ stage_refused d X = record {
       ++ (decimal X ++ (codes ", above " ++ (decimal GREATEST_DIMENSION ++ 10 ∷ [])))));
 }
 
--- the stage of degree d of subgroup number i, counted from 1, has a free module of dimension X
-abbrev pub subgroup_refused : ℕ → ℕ → ℕ → Refusal
-subgroup_refused i d X = record {
-  status = status.Limit;
-  line =
-      codes "coho: limit: stage "
-      ++ (decimal d ++ (codes " of subgroup "
-      ++ (decimal i ++ (codes " has dimension "
-      ++ (decimal X ++ (codes ", above " ++ (decimal GREATEST_DIMENSION ++ 10 ∷ [])))))));
-}
-
 -- degree d has X monomials in the generators of lower degree
 abbrev pub monomials_refused : ℕ → ℕ → Refusal
 monomials_refused d X = record {
@@ -86,6 +75,17 @@ monomials_refused d X = record {
       codes "coho: limit: degree "
       ++ (decimal d ++ (codes " has "
       ++ (decimal X ++ (codes " monomials, above " ++ (decimal MOST_MONOMIALS ++ 10 ∷ [])))));
+}
+
+-- the stage of degree d of subgroup i, counted from 1, has a free module of dimension X
+abbrev pub subgroup_refused : ℕ → ℕ → ℕ → Refusal
+subgroup_refused i d X = record {
+  status = status.Limit;
+  line =
+      codes "coho: limit: stage "
+      ++ (decimal d ++ (codes " of subgroup "
+      ++ (decimal i ++ (codes " has dimension "
+      ++ (decimal X ++ (codes ", above " ++ (decimal GREATEST_DIMENSION ++ 10 ∷ [])))))));
 }
 
 -- a write to out that failed

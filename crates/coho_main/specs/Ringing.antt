@@ -2,8 +2,8 @@
 use Rattle.std.specs.Prelude.{◌≡◌, ◌⊎◌, ℕ}
 use Rattle.limits.specs.declared.TheConstants.{GREATEST_DIMENSION, MOST_MONOMIALS}
 use Rattle.p_groups.specs.PGroups.{PGroup}
-use Rattle.coho_report.specs.Limits.{AreSmall, IsFirstLargeSubgroup}
 use Rattle.coho_report.specs.Values.{ReportValue}
+use Rattle.coho_report.specs.Limits.{AreSmall, IsFirstLargeSubgroup}
 use Rattle.coho_report.specs.Reports.{IsReport, HasFewMonomials, IsFirstTooMany}
 use Rattle.coho_report.specs.declared.fault.ReportFault.{ReportFault}
 use Rattle.coho_report.specs.declared.fault.ReportFault.TheVariants as fault
@@ -13,30 +13,26 @@ use Rattle.coho_main.specs.declared.stop.Stop.TheVariants as stop
 use Rattle.coho_main.specs.Refusals.{monomials_refused, subgroup_refused}
 use Rattle.coho_main.specs.Steps.{Refusal}
 
--- the report through degree n, where no degree has too many monomials and no stage over a listed subgroup is
--- too large
+-- the report through degree n, where no degree has too many monomials and no stage of a subgroup is too large
 pub record IsReportTo (G : PGroup) (n : ℕ) (report : ReportValue) : Type 0 where
   pub few : HasFewMonomials G n MOST_MONOMIALS
   pub small : AreSmall G n GREATEST_DIMENSION
   pub is : IsReport G n report
 
 -- the refusal names the first degree to n that has too many monomials
-abbrev pub IsMonomialsRefusal : PGroup → ℕ → Refusal → Type 0
-IsMonomialsRefusal G n refusal =
+abbrev pub IsMonomialRefusal : PGroup → ℕ → Refusal → Type 0
+IsMonomialRefusal G n refusal =
     (d : ℕ) × (X : ℕ) × IsFirstTooMany G n MOST_MONOMIALS d X × (refusal ≡ monomials_refused d X)
 
--- no degree has, and the refusal names the first listed subgroup over which a stage to degree n is too large,
--- and its first such stage
-pub record IsSubgroupRefusal (G : PGroup) (n : ℕ) (refusal : Refusal) : Type 0 where
-  pub few : HasFewMonomials G n MOST_MONOMIALS
-  pub subgroup : ℕ
-  pub degree : ℕ
-  pub dimension : ℕ
-  pub first : IsFirstLargeSubgroup G n GREATEST_DIMENSION subgroup degree dimension
-  pub is : refusal ≡ subgroup_refused subgroup degree dimension
+-- no degree has, and the refusal names the first subgroup and degree to n whose stage is too large
+abbrev pub IsSubgroupRefusal : PGroup → ℕ → Refusal → Type 0
+IsSubgroupRefusal G n refusal =
+    HasFewMonomials G n MOST_MONOMIALS
+    × ((i : ℕ) × (d : ℕ) × (X : ℕ) × IsFirstLargeSubgroup G n GREATEST_DIMENSION i d X
+    × (refusal ≡ subgroup_refused i d X))
 
 abbrev pub IsReportRefusal : PGroup → ℕ → Refusal → Type 0
-IsReportRefusal G n refusal = IsMonomialsRefusal G n refusal ⊎ IsSubgroupRefusal G n refusal
+IsReportRefusal G n refusal = IsMonomialRefusal G n refusal ⊎ IsSubgroupRefusal G n refusal
 
 -- the program's stop at a fault
 abbrev pub stop_of : ReportFault → Stop

@@ -23,11 +23,15 @@ pub enum Cause {
     Inconsistent(TestName),
     /// The free module of the stage of this degree has a dimension above `GREATEST_DIMENSION`.
     Stage { degree: u32, dimension: u64 },
-    /// The free module of the stage of this degree over this subgroup, counted from 1, has a dimension above
-    /// `GREATEST_DIMENSION`.
-    SubgroupStage { subgroup: u32, degree: u32, dimension: u64 },
     /// This degree has more than `MOST_MONOMIALS` monomials in generators of lower degree.
     Monomials { degree: u32, count: u64 },
+    /// The free module of the stage of this degree of a listed subgroup, counted from 1, has a dimension above
+    /// `GREATEST_DIMENSION`.
+    SubgroupStage {
+        subgroup: u32,
+        degree: u32,
+        dimension: u64,
+    },
 }
 
 impl Cause {
@@ -41,8 +45,8 @@ impl Cause {
             Cause::Order => Status::Limit,
             Cause::Inconsistent(_) => Status::Inconsistent,
             Cause::Stage { .. } => Status::Limit,
-            Cause::SubgroupStage { .. } => Status::Limit,
             Cause::Monomials { .. } => Status::Limit,
+            Cause::SubgroupStage { .. } => Status::Limit,
         }
     }
 
@@ -71,6 +75,11 @@ impl Cause {
                     "coho: limit: stage {degree} of the group has dimension {dimension}, above {GREATEST_DIMENSION}\n"
                 )
             }
+            Cause::Monomials { degree, count } => {
+                format!(in alloc;
+                    "coho: limit: degree {degree} has {count} monomials, above {MOST_MONOMIALS}\n"
+                )
+            }
             Cause::SubgroupStage {
                 subgroup,
                 degree,
@@ -78,11 +87,6 @@ impl Cause {
             } => {
                 format!(in alloc;
                     "coho: limit: stage {degree} of subgroup {subgroup} has dimension {dimension}, above {GREATEST_DIMENSION}\n"
-                )
-            }
-            Cause::Monomials { degree, count } => {
-                format!(in alloc;
-                    "coho: limit: degree {degree} has {count} monomials, above {MOST_MONOMIALS}\n"
                 )
             }
         }

@@ -1,6 +1,5 @@
 -- A ring, one degree more.
-use Rattle.std.proofs.Common.{◌≡◌, ◌∙◌, ◌⊎◌, inl, inr, ℕ, zero, suc, ◌+◌, ◌-◌, ◌≤◌, ◌<◌, min, List, [], ◌∷◌, ◌++◌, map, length, All, refl, sym, ap, subst, arith}
-use Rattle.std.specs.List.{AllByRecursion as Each}
+use Rattle.std.proofs.Common.{◌≡◌, ◌∙◌, ◌⊎◌, inl, inr, ℕ, zero, suc, ◌+◌, ◌-◌, ◌≤◌, ◌<◌, min, List, map, length, sym, ap, subst, arith}
 use Rattle.limits.specs.declared.TheConstants.{GREATEST_COUNT}
 use Rattle.p_groups.specs.PGroups.{PGroup, largest_residue}
 use Rattle.graded_polynomials.specs.Monomials.{IsMonomials}

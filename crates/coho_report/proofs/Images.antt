@@ -1,5 +1,5 @@
 -- The restriction of a generator of a ring through a degree.
-use Rattle.std.proofs.Common.{◌≡◌, ◌∙◌, ℕ, ◌-◌, ◌<◌, ◌≤◌, List, [], length, map, ap, sym, refl, subst, arith}
+use Rattle.std.proofs.Common.{◌≡◌, ◌∙◌, ℕ, ◌-◌, ◌<◌, ◌≤◌, List, [], length, map, ap, sym, subst, arith}
 use Rattle.std.specs.Prelude.{slice_index, slice_index_or, All, Option, Some}
 use Rattle.std.proofs.lemmas.List.{get_or-map, length-map}
 use Rattle.std.proofs.lemmas.Option.{same_Some}
@@ -7,8 +7,8 @@ use Rattle.std.proofs.lemmas.List.Elements.{All-from_recursion}
 use Rattle.p_groups.specs.PGroups.{PGroup, group, largest_residue, prime_of}
 use Rattle.elementary_subgroups.specs.Bases.{NumberedSubgroup}
 use Rattle.linear_algebra.specs.Residues.{residue}
-use Rattle.graded_polynomials.specs.Polynomials.{Polynomial, Term, IsPolynomial}
-use Rattle.graded_algebra.specs.Algebras.{Generator, degrees}
+use Rattle.graded_polynomials.specs.Polynomials.{Polynomial, IsPolynomial}
+use Rattle.graded_algebra.specs.Algebras.{Generator}
 use Rattle.graded_algebra.specs.Presentations.{IsNormalForm}
 use Rattle.graded_algebra.specs.Vectors.{Vector}
 use Rattle.presentation_rows.specs.Values.{vector}
@@ -18,7 +18,7 @@ use Rattle.min_res.specs.Stages.{rank_of, stage_rows}
 use Rattle.chain_maps.proofs.Vectors.{vector-claims, extended-past, length-entries}
 use Rattle.chain_maps_along.specs.Along as along
 use Rattle.group_algebra.specs.Coordinates.{layer_coordinates}
-use Rattle.chain_lift.specs.Embeddings.{elementary, elementary_over, embedding, restrict_row}
+use Rattle.chain_lift.specs.Embeddings.{elementary, embedding, restrict_row}
 use Rattle.ring_present.specs.Rings.{cohomology, dual_basis}
 use Rattle.ring_present.specs.Values.{GeneratorValue, RingValue, generators_of}
 use Rattle.ring_present.proofs.RelationsOver.{degrees-are}

@@ -7,8 +7,8 @@ pub mod Related
 pub mod OwnRings
 pub mod CohomologyReports
 pub mod NormalForms
-pub mod OneLimit
 pub mod Images
 pub mod SubgroupLists
 pub mod ReportSubgroups
 pub mod NumberedLists
+pub mod FirstLarge

@@ -77,8 +77,8 @@ pub three_parts : {A : Type 0} (f : A → List ℕ) (lines one first two second 
     → map f all ≡ head ++ ((t ∷ ts) ++ ((u ∷ us) ++ (v ∷ vs)))
 three_parts f lines one first two second three all ms ns os m n o head ts us vs t u v a b c d e g before p ps
     r rs s ss =
-        part f second three all os o ((head ++ (t ∷ ts)) ++ (u ∷ us)) vs v e g
-        (part f first two second ns n (head ++ (t ∷ ts)) us u c d
-        (part f lines one first ms m head ts t a b before p ps) r rs) s ss
-        ∙ append_assoc (head ++ (t ∷ ts)) (u ∷ us) (v ∷ vs)
-        ∙ append_assoc head (t ∷ ts) ((u ∷ us) ++ (v ∷ vs))
+    part f second three all os o ((head ++ (t ∷ ts)) ++ (u ∷ us)) vs v e g
+    (part f first two second ns n (head ++ (t ∷ ts)) us u c d
+    (part f lines one first ms m head ts t a b before p ps) r rs) s ss
+    ∙ append_assoc (head ++ (t ∷ ts)) (u ∷ us) (v ∷ vs)
+    ∙ append_assoc head (t ∷ ts) ((u ∷ us) ++ (v ∷ vs))

@@ -1,14 +1,13 @@
 -- What is the value of a polynomial has a normal form.
-use Rattle.std.proofs.Common.{◌≡◌, ◌∙◌, ℕ, suc, ◌<◌, ◌≤◌, ◌⊎◌, inl, inr, List, [], length, map, arith, ap, sym, refl}
+use Rattle.std.proofs.Common.{◌≡◌, ◌∙◌, ℕ, suc, ◌<◌, ◌≤◌, ◌⊎◌, inl, inr, List, [], length, map, arith, ap, sym}
 use Rattle.std.proofs.lemmas.Bool.{cases_lt}
 use Rattle.std.proofs.lemmas.List.{get_or-map, length-map, get_or_past}
 use Rattle.std.specs.List.{AllByRecursion as Each}
 use Rattle.std.specs.Prelude.{slice_index_or}
 use mathlib.Core.Path.{subst, fun_ext}
 use Rattle.linear_algebra.specs.Modular.{IsFieldModulo}
-use Rattle.linear_algebra.specs.Rows.{entry, row, combination, IsRow, IsMatrix, IsInSpan}
+use Rattle.linear_algebra.specs.Rows.{entry, IsRow, IsMatrix, IsInSpan}
 use Rattle.linear_algebra.specs.Kernels.{IsKernelOf}
-use Rattle.linear_algebra.specs.Choices.{IsPreimage}
 use Rattle.linear_algebra.specs.Residues.{Below, Vector, vector, residue}
 use Rattle.linear_algebra.proofs.Laws.{kernel_exists}
 use Rattle.linear_algebra.proofs.Preimages.{preimage_exists}
@@ -85,9 +84,16 @@ module _ (q : ℕ) (F : IsFieldModulo (suc q)) (H : GradedAlgebra q) where
 
     in-span : (v : Vector q) → IsOfDegree q H d v → IsValue q A gs d v
         → IsInSpan (suc q) values (entry (row-of-vector d v))
-    in-span v of f = (entry u, record { each = λ j. record { same_remainder = ap (λ (b : Below (suc q)). b.0)
-        (sym (value-row q H.mul gs ms values values-are u j)
-        ∙ ap (λ (w : Vector q). w j) (sym same ∙ f.value_is ∙ sym (vector-back d v of))) } })
+    in-span v of f = (
+      entry u,
+      record {
+        each = λ j. record {
+          same_remainder = ap (λ (b : Below (suc q)). b.0)
+              (sym (value-row q H.mul gs ms values values-are u j)
+              ∙ ap (λ (w : Vector q). w j) (sym same ∙ f.value_is ∙ sym (vector-back d v of)));
+        };
+      },
+    )
       where
         u : List ℕ
         u = row_of q ms f.polynomial

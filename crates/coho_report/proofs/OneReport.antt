@@ -1,5 +1,5 @@
 -- A report is one.
-use Rattle.std.proofs.Common.{◌≡◌, ◌∙◌, inl, inr, ℕ, zero, suc, ◌-◌, ◌<◌, min, List, [], ◌∷◌, ◌++◌, map, length, sym, ap, subst, arith}
+use Rattle.std.proofs.Common.{◌≡◌, ◌∙◌, ℕ, ◌-◌, ◌<◌, min, List, length, sym, ap, subst, arith}
 use Rattle.limits.specs.declared.TheConstants.{GREATEST_COUNT}
 use Rattle.p_groups.specs.PGroups.{PGroup, largest_residue}
 use Rattle.std.specs.List.{AllByRecursion as Each}
@@ -20,7 +20,6 @@ use Rattle.graded_algebra.proofs.VectorLemmas.{vector-space}
 use Rattle.chain_lift.specs.Embeddings.{elementary}
 use Rattle.chain_lift.specs.Products.{multiply}
 use Rattle.ring_present.specs.Rings.{cohomology, dual_basis, IsPresentation, IsTooMany}
-use Rattle.coho_report.specs.Limits.{IsFirstLarge, IsFirstLargeSubgroup}
 use Rattle.coho_report.specs.Related.{AreRelated}
 use Rattle.coho_report.specs.Reports.{IsReport, IsFirstTooMany}
 use Rattle.coho_report.specs.Subgroups.{restricted, IsImage, IsToldOf}

@@ -1,9 +1,9 @@
 -- Rings and stages of elementary abelian subgroups.
-use Rattle.std.proofs.Common.{◌≡◌, ◌∙◌, ℕ, zero, suc, ◌+◌, ◌<◌, ◌≤◌, ◌⊎◌, inl, inr, List, [], ◌∷◌, ◌++◌, arith, ap, sym, refl, subst}
-use Rattle.std.specs.Prelude.{IfSome, MatchOption, Option, Some, None, slice_index_or, length}
+use Rattle.std.proofs.Common.{◌≡◌, ◌∙◌, ℕ, zero, suc, ◌+◌, ◌<◌, ◌≤◌, ◌⊎◌, inl, inr, List, [], ◌∷◌, arith, ap, sym, subst}
+use Rattle.std.specs.Prelude.{IfSome, MatchOption, Option, Some, None}
 use Rattle.std.specs.List.{AllByRecursion as Each}
 use Rattle.std.proofs.lemmas.Bool.{cases_lt}
-use Rattle.p_groups.specs.PGroups.{PGroup, largest_residue}
+use Rattle.p_groups.specs.PGroups.{PGroup}
 use Rattle.graded_polynomials.proofs.Terms.{each-append}
 use Rattle.graded_algebra.specs.Algebras.{Algebra, Generator, degrees}
 use Rattle.graded_algebra.specs.Presentations.{IsSpanGenerators, generators_of}
@@ -15,7 +15,7 @@ use Rattle.ring_present.specs.Values.{RingValue}
 use Rattle.chain_lift.specs.Embeddings.{elementary}
 use Rattle.coho_report.specs.OwnRings.{IsKnownRing, IsOwnRing}
 use Rattle.coho_report.specs.declared.own_rings.OwnRing.{OwnRing}
-use Rattle.coho_report.specs.Limits.{dimension, HasSmallStages, IsFirstLarge}
+use Rattle.coho_report.specs.Limits.{dimension, HasSmallStages}
 use Rattle.coho_report.specs.Refusals.{IsStageRefusal}
 
 -- a ring through a degree that is not 0 is that of its group

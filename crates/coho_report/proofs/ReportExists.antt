@@ -1,5 +1,5 @@
 -- There is a report through a degree with few monomials in each degree, or a first degree that has too many.
-use Rattle.std.proofs.Common.{◌≡◌, ◌∙◌, ◌⊎◌, inl, inr, ℕ, zero, suc, ◌-◌, ◌≤◌, ◌<◌, min, List, length, refl, sym, ap, subst, arith}
+use Rattle.std.proofs.Common.{◌≡◌, ◌∙◌, ◌⊎◌, inl, inr, ℕ, zero, suc, ◌-◌, ◌≤◌, ◌<◌, min, List, length, refl, ap, subst, arith}
 use Rattle.std.proofs.lemmas.Bool.{cases_lt}
 use Rattle.limits.specs.declared.TheConstants.{GREATEST_COUNT}
 use Rattle.p_groups.specs.PGroups.{PGroup, largest_residue, group, prime_of, order_of}

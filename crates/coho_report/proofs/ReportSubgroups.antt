@@ -1,6 +1,6 @@
 -- Each subgroup of the list has what is told of it; and the stages over the subgroups are small, or there is a
 -- first one that is not.
-use Rattle.std.proofs.Common.{◌≡◌, ◌∙◌, ◌⊎◌, inl, inr, ℕ, zero, suc, ◌<◌, ◌≤◌, min, List, [], ◌∷◌, ◌++◌, length, refl, sym, ap, subst, arith, append_assoc}
+use Rattle.std.proofs.Common.{◌≡◌, ◌⊎◌, inl, inr, ℕ, zero, suc, ◌<◌, ◌≤◌, min, List, [], ◌∷◌, ◌++◌, length, refl, sym, ap, subst, arith, append_assoc}
 use Rattle.std.specs.List.{AllByRecursion as Each}
 use Rattle.std.proofs.lemmas.Bool.{cases_lt}
 use Rattle.p_groups.specs.PGroups.{PGroup, largest_residue, group}
@@ -13,7 +13,7 @@ use Rattle.elementary_subgroups.proofs.NumberedLists.{subgroups_are_one}
 use Rattle.graded_polynomials.specs.Polynomials.{Polynomial, Term}
 use Rattle.graded_algebra.specs.Algebras.{Generator, degrees}
 use Rattle.graded_algebra.specs.Presentations.{IsNormalForm}
-use Rattle.graded_algebra.specs.Vectors.{Vector, GradedAlgebra}
+use Rattle.graded_algebra.specs.Vectors.{Vector}
 use Rattle.cohomology_algebra.proofs.Ring.{graded, ring-claims}
 use Rattle.min_res.specs.Stages.{stage_rows, rank_of}
 use Rattle.min_res.proofs.StageRows.{stage_rows_are}
@@ -25,7 +25,7 @@ use Rattle.coho_report.specs.Subgroups.{restricted, IsImage, IsToldOf}
 use Rattle.coho_report.specs.Values.{SubgroupValue}
 use Rattle.coho_report.proofs.Images.{restricted_past}
 use Rattle.coho_report.proofs.NormalForms.{normal_form_of_value}
-use Rattle.coho_report.proofs.OwnRings.{IsWithin, positive_degrees}
+use Rattle.coho_report.proofs.OwnRings.{positive_degrees}
 use Rattle.coho_report.proofs.SubgroupLists.{in-last}
 use Rattle.coho_report.proofs.SubgroupsExist.{subgroups_exist}
 

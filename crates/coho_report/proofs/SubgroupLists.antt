@@ -1,5 +1,5 @@
 -- The subgroups of a list, one after the other.
-use Rattle.std.proofs.Common.{◌≡◌, ◌∙◌, ℕ, zero, suc, ◌+◌, ◌<◌, min, List, [], ◌∷◌, ◌++◌, ◌⊎◌, inl, inr, length, take, drop, refl, sym, ap, subst, arith, Some}
+use Rattle.std.proofs.Common.{◌≡◌, ◌∙◌, ℕ, zero, suc, ◌+◌, min, List, [], ◌∷◌, ◌++◌, ◌⊎◌, inl, inr, length, take, drop, refl, sym, ap, subst, arith, Some}
 use Rattle.std.specs.Prelude.{slice_get, slice_index_or}
 use Rattle.p_groups.specs.PGroups.{PGroup}
 use Rattle.elementary_subgroups.specs.Bases.{NumberedSubgroup, IsSubgroupList, IsSubgroupOf}
@@ -9,7 +9,7 @@ use Rattle.elementary_subgroups.proofs.NumberedLists.{subgroup_in}
 use Rattle.min_res.specs.declared.fault.ResFault.{ResFault}
 use Rattle.min_res.specs.declared.fault.ResFault.TheVariants as fault
 use Rattle.chain_lift.specs.Embeddings.{elementary}
-use Rattle.coho_report.specs.Limits.{HasSmallStages, IsSmall}
+use Rattle.coho_report.specs.Limits.{IsSmall}
 use Rattle.coho_report.specs.Refusals.{IsStageRefusal, IsSubgroupRefusal, of_subgroup}
 use Rattle.coho_report.proofs.LineLists.{get-take}
 

@@ -1,8 +1,8 @@
 -- Every group has its list of maximal elementary abelian subgroups.
-use Rattle.std.proofs.Common.{◌≡◌, ℕ, zero, suc, ◌<◌, ◌≤◌, List, [], ◌∷◌, ◌++◌, ◌⊎◌, inl, inr, length, map, true, false, refl, ap, sym, ◌∙◌, subst, arith}
+use Rattle.std.proofs.Common.{◌≡◌, ℕ, zero, suc, ◌<◌, ◌≤◌, List, [], ◌∷◌, ◌++◌, ◌⊎◌, inl, inr, length, true, false, refl, ap, sym, ◌∙◌, subst, arith}
 use Rattle.std.specs.List.{filter}
 use Rattle.std.proofs.lemmas.Bool.{cases_Bool, cases_lt}
-use Rattle.group_table.specs.Tables.{GroupTable, IsGroupTable, order, product}
+use Rattle.group_table.specs.Tables.{GroupTable, IsGroupTable, order}
 use Rattle.elementary_subgroups.specs.Bases.{numbering, numbers, IsBasisFrom, IsNumbered, IsSubgroupList, members_of, NumberedSubgroup}
 use Rattle.elementary_subgroups.specs.Cliques.{CommutesWithAll, IsFull, commutes_test, torsion_test}
 use Rattle.elementary_subgroups.specs.Sets.{IsBefore, IsIn}

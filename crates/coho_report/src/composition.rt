@@ -3,6 +3,7 @@
 ghost use Rattle.std.specs.Prelude.{◌≡◌, ◌+◌, ◌≤◌, ◌<◌, ◌^◌, suc, IfOk, IfErr};
 ghost use Rattle.limits.specs.declared.TheConstants.{GREATEST_DEGREE};
 ghost use Rattle.min_res.specs.Stages.{rank_of};
+ghost use Rattle.coho_report.specs.Cohomology.{IsCohomologyReport};
 ghost use Rattle.coho_report.specs.Limits.{AreSmall};
 ghost use Rattle.coho_report.specs.Reports.{IsReport, HasFewMonomials, ranks_below};
 ghost use Rattle.coho_report.specs.Refusals.{IsRefusal};
@@ -50,6 +51,7 @@ pub fn compose(
     requires high { n ≤ GREATEST_DEGREE }
     requires limit { limit ≤ 2 ^ 28 }
     ensures report { IfOk result (λ report. IsReport res.now.group n report) }
+    ensures cohomology { IfOk result (λ report. IsCohomologyReport res.now.group n report) }
     ensures few { IfOk result (λ report. HasFewMonomials res.now.group n cap) }
     ensures small { IfOk result (λ report. AreSmall res.now.group n limit) }
     ensures refused { IfErr result (IsRefusal res.now.group n cap limit) }

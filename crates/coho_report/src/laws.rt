@@ -24,6 +24,15 @@ pub fn report_exists()
         ⊎ ((i : ℕ) × (d : ℕ) × (X : ℕ) × IsFirstLargeSubgroup G n limit i d X) }
 {}
 
+/// The first degree that has too many monomials is one, with their number, and so are the first subgroup over
+/// which a stage is too large, its first such degree and the dimension.
+pub fn one_refusal()
+    ensures monomials { (G : PGroup) (n cap d x e y : ℕ) → IsFirstTooMany G n cap d x
+        → IsFirstTooMany G n cap e y → (d ≡ e) × (x ≡ y) }
+    ensures subgroups { (G : PGroup) (n limit i d X j e Y : ℕ) → IsFirstLargeSubgroup G n limit i d X
+        → IsFirstLargeSubgroup G n limit j e Y → (i ≡ j) × (d ≡ e) × (X ≡ Y) }
+{}
+
 /// The report on a p-group is that of the cohomology ring of its bar complex, with the restrictions of cocycles
 /// to the maximal elementary abelian subgroups.
 pub fn cohomology_law()

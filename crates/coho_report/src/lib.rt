@@ -15,6 +15,6 @@ mod tests;
 
 pub use composition::compose;
 pub use fault::ReportFault;
-pub use laws::{cohomology_law, one_report, report_exists};
+pub use laws::{cohomology_law, one_refusal, one_report, report_exists};
 pub use lines::{report_lines, write_report};
 pub use report::Report;

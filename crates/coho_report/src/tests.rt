@@ -12,7 +12,12 @@ use std::alloc::Global;
 use std::process::Abort;
 use std::test::Fail;
 
-fn resolved(rt: &impl Abort, alloc: Global, kind: SmallGroup, degree: u32) -> Result<Resolution, Fail>
+fn resolved(
+    rt: &impl Abort,
+    alloc: Global,
+    kind: SmallGroup,
+    degree: u32,
+) -> Result<Resolution, Fail>
     requires { degree ≤ GREATEST_DEGREE }
     ensures { IfOk result (λ r. r.last ≡ degree) }
 {
@@ -42,7 +47,13 @@ fn reports_on_groups(rt: HostRuntime) -> Result<(), Fail> {
         ),
     ] {
         let resolution = resolved(&rt, alloc, kind, degree)?;
-        let report = compose(alloc, &resolution, degree, MOST_MONOMIALS, GREATEST_DIMENSION)?;
+        let report = compose(
+            alloc,
+            &resolution,
+            degree,
+            MOST_MONOMIALS,
+            GREATEST_DIMENSION,
+        )?;
         let answer = write_report(alloc, &report)?;
         assert_eq!(rt; answer.as_slice(), text.as_bytes(), "{text}");
     }
@@ -55,9 +66,35 @@ fn names_the_first_limit(rt: HostRuntime) -> Result<(), Fail> {
     let resolution = resolved(&rt, alloc, SmallGroup::Klein, 3)?;
     // The third degree has four monomials; over the subgroup, the stages have dimensions 4, 8, 12 and 16.
     for (degree, cap, limit, fault) in [
-        (3, 3, 7, ReportFault::TooManyMonomials { degree: 3, count: 4 }),
-        (1, MOST_MONOMIALS, 7, ReportFault::TooLarge { subgroup: 1, degree: 1, dimension: 8 }),
-        (3, MOST_MONOMIALS, 8, ReportFault::TooLarge { subgroup: 1, degree: 2, dimension: 12 }),
+        (
+            3,
+            3,
+            7,
+            ReportFault::TooManyMonomials {
+                degree: 3,
+                count: 4,
+            },
+        ),
+        (
+            1,
+            MOST_MONOMIALS,
+            7,
+            ReportFault::TooLarge {
+                subgroup: 1,
+                degree: 1,
+                dimension: 8,
+            },
+        ),
+        (
+            3,
+            MOST_MONOMIALS,
+            8,
+            ReportFault::TooLarge {
+                subgroup: 1,
+                degree: 2,
+                dimension: 12,
+            },
+        ),
     ] {
         let first = compose(alloc, &resolution, degree, cap, limit).err();
         assert_eq!(rt; first, Some(fault));

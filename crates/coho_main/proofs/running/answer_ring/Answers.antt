@@ -34,5 +34,4 @@ returns c =
     ring_then P c.args.n (fit_of P c.args.n c.in_ok-resolution.resolution R) c.in_ok-report.report
     c.in_ok-report_lines.field-0
     (report_of P c.args.n c.in_ok-resolution.resolution R c.in_ok-report.report c.in_ok-report.ensures.few
-    c.in_ok-report.ensures.small
-    c.in_ok-report.ensures.report) c.in_ok-report_lines.ensures
+    c.in_ok-report.ensures.small c.in_ok-report.ensures.report) c.in_ok-report_lines.ensures

@@ -7,6 +7,7 @@ use Rattle.ring_present.proofs.RelationsOver.{degrees-are}
 use Rattle.coho_report.specs.Related.{AreRelated}
 use Rattle.coho_report.specs.Reports.{ranks_below}
 use Rattle.coho_report.specs.Subgroups.{IsToldOf}
+use Rattle.coho_report.proofs.CohomologyReports.{cohomology-report}
 use Rattle.coho_report.proofs.Composing.{ring_refused}
 use Rattle.coho_report.proofs.Images.{told_counts}
 use Rattle.coho_report.proofs.composition.compose.Goals as goal
@@ -47,3 +48,6 @@ returns-clause-report c =
       told = subst (λ n. AreRelated (IsToldOf G n gs) told.0 c.in_ok-subgroups.subgroups.items)
           through.degree_is told.2;
     }
+
+pub returns-clause-cohomology : goal.returns-clause-cohomology
+returns-clause-cohomology c = cohomology-report c.args.res.now.group c.args.n _ (returns-clause-report c)

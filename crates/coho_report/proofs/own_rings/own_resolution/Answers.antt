@@ -1,4 +1,4 @@
-use Rattle.std.proofs.Common.{◌≡◌, ◌∙◌, ◌<◌, arith, length, ap, subst}
+use Rattle.std.proofs.Common.{◌∙◌, ◌<◌, arith, length, ap}
 use Rattle.std.proofs.lemmas.Result.{err_from_is_err_and}
 use Rattle.group_table.specs.Tables.{GroupTable}
 use Rattle.elementary_subgroups.specs.OwnGroups.{elementary_group}
@@ -6,7 +6,6 @@ use Rattle.p_groups.specs.PGroups.{PGroup}
 use Rattle.min_res.specs.Values.{ResolutionValue}
 use Rattle.chain_lift.specs.Embeddings.{elementary}
 use Rattle.chain_lift.proofs.EmbeddingElements.{elementary-is}
-use Rattle.coho_report.specs.Limits.{HasSmallStages}
 use Rattle.coho_report.proofs.OwnRings.{small_next, large_first}
 use Rattle.coho_report.proofs.own_rings.own_resolution.Goals as goal
 

@@ -1,6 +1,4 @@
-use Rattle.std.proofs.Common.{◌≡◌, ◌∙◌, ◌<◌, length, take, ap, arith}
-use Rattle.std.specs.Prelude.{slice_index_or}
-use Rattle.graded_polynomials.specs.Polynomials.{Polynomial}
+use Rattle.std.proofs.Common.{◌∙◌, ◌<◌, length, take, ap, arith}
 use Rattle.coho_report.specs.Lines.{image_line, image_lines}
 use Rattle.coho_report.proofs.LineLists.{pushed}
 use Rattle.coho_report.proofs.NumberedLists.{lines-next, some-member}

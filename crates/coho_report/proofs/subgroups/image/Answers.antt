@@ -1,9 +1,9 @@
-use Rattle.std.proofs.Common.{◌≡◌, ◌∙◌, ◌≤◌, length, arith, ap, sym}
+use Rattle.std.proofs.Common.{◌∙◌, length, arith, ap, sym}
 use Rattle.fp_rows.specs.Refs.{entries_of}
 use Rattle.p_groups.specs.PGroups.{largest_residue}
 use Rattle.min_res.specs.Stages.{rank_of}
 use Rattle.chain_lift.specs.Embeddings.{elementary}
-use Rattle.ring_present.specs.Values.{GeneratorValue, generators_of}
+use Rattle.ring_present.specs.Values.{generators_of}
 use Rattle.coho_report.proofs.Images.{degree_at, generator_within, image_is, no_generator, restriction_length}
 use Rattle.coho_report.proofs.subgroups.image.Goals as goal
 

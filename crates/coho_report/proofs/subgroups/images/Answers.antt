@@ -1,11 +1,10 @@
-use Rattle.std.proofs.Common.{◌≡◌, ◌∙◌, ◌<◌, max, length, arith, ap, sym, subst}
+use Rattle.std.proofs.Common.{◌∙◌, ◌<◌, max, length, arith, ap, sym, subst}
 use Rattle.std.specs.Prelude.{slice_index_or}
 use Rattle.std.proofs.lemmas.List.{length-map}
 use Rattle.p_groups.specs.PGroups.{largest_residue}
 use Rattle.gc_poly.specs.Generators.{Generators}
 use Rattle.graded_algebra.specs.Algebras.{Generator}
 use Rattle.graded_algebra.specs.Vectors.{Vector}
-use Rattle.presentation_rows.specs.Values.{vector}
 use Rattle.chain_lift.specs.EmbeddingValues.{EmbedValue}
 use Rattle.ring_present.specs.Values.{GeneratorValue, generators_of}
 use Rattle.coho_report.specs.OwnRings.{IsOwnRing, IsRingThrough}

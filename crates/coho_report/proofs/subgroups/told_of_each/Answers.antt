@@ -1,4 +1,4 @@
-use Rattle.std.proofs.Common.{◌≡◌, ◌<◌, All, Global, length, arith, sym, subst}
+use Rattle.std.proofs.Common.{◌<◌, All, Global, length, arith, sym, subst}
 use Rattle.std.specs.declared.rc.Rc.{Rc}
 use Rattle.p_groups.specs.PGroups.{largest_residue}
 use Rattle.elementary_subgroups.specs.Bases.{NumberedSubgroup}
