@@ -1,6 +1,6 @@
-//! Values by hand. In the rows of degree 2, for the basis elements x and y of degree 1: the Klein group has
-//! the boundaries X e_1, Y e_1 + X e_2 and Y e_2, the dihedral group X e_1, Y e_2 and one that is in no square
-//! of the augmentation ideal.
+//! Values by hand. With X = g_1 - 1 and Y = g_2 - 1, the boundaries of e_1 and e_2 of degree 1, those of
+//! degree 2 are X e_1, Y e_1 + X e_2 and Y e_2 in the Klein group. In the dihedral group they are X e_1,
+//! Y e_2 and one whose coefficients lie in the third power of the augmentation ideal.
 
 ghost use Rattle.std.specs.Prelude.{◌≡◌, ◌≤◌, IfOk, length};
 ghost use Rattle.min_res.specs.Stages.{rank_of};

@@ -138,8 +138,8 @@ fn has_classes(table: &RestrictionTable, expected: &[(u32, &[u8])]) -> bool {
     table.len() == expected.len() && table.is_empty() == expected.is_empty()
 }
 
-// On both four-groups, whose basis classes of degree 2 are xx, xy and yy, the class of degree 2 is xy + yy. On
-// the first x_1_1 is x and x_1_2 is 0, on the second the other way round.
+// On both four-groups, whose basis classes of degree 2 are xx, xy and yy, x_2_1 is xy + yy. On the first
+// x_1_1 is x and x_1_2 is 0, on the second x_1_1 is 0 and x_1_2 is x.
 #[test]
 fn restricts_the_generators_of_the_dihedral_group(rt: HostRuntime) -> Result<(), Fail> {
     let group = SmallGroup::Dihedral.group(rt.alloc())?;
