@@ -10,13 +10,16 @@ use Rattle.param_test.proofs.Counts.{counted}
 use Rattle.param_test.proofs.Later.{none-before}
 use Rattle.param_test.proofs.Numbers.{number-one}
 
-module _ (g : Generators) (fs : List Polynomial) (A : AreVariables g) (over : All (IsOverGenerators g) fs) (last t : ℕ)
+module _ (g : Generators) (fs : List Polynomial) (A : AreVariables g) (over : All (IsOverGenerators g) fs)
+    (last t : ℕ)
     (few : (e : ℕ) → e ≤ t → number (length g.degrees) e ≤ 1500) where
   passed : (e : ℕ) → e ≤ t → (AllInIdeal g fs e → ⊥) → IsPassedOver g fs e
-  passed e l n = record { number = number (length g.degrees) e; counted = counted g A e; few = few e l; not_all = n }
+  passed e l n =
+      record { number = number (length g.degrees) e; counted = counted g A e; few = few e l; not_all = n }
 
   -- all are in the ideal in the degree e and in none before
-  pub yes-answer : (e : ℕ) → t ≤ last → 1 ≤ e → e ≤ t → AllInIdeal g fs e → ((d : ℕ) → 1 ≤ d → d < e → AllInIdeal g fs d → ⊥) → IsYes g fs last e
+  pub yes-answer : (e : ℕ) → t ≤ last → 1 ≤ e → e ≤ t → AllInIdeal g fs e
+      → ((d : ℕ) → 1 ≤ d → d < e → AllInIdeal g fs d → ⊥) → IsYes g fs last e
   yes-answer e l low high a before = record {
     low = low;
     high = omega arith;
@@ -34,7 +37,8 @@ module _ (g : Generators) (fs : List Polynomial) (A : AreVariables g) (over : Al
       before = λ d b c. let l : d ≤ t = omega arith in passed d l (none-before g A fs over d t l none);
     }
 
-    pub many-answer : (n : ℕ) → 1 ≤ t → t < last → n ≡ number (length g.degrees) (t + 1) → 1500 < n → IsTooMany g fs last n
+    pub many-answer : (n : ℕ) → 1 ≤ t → t < last → n ≡ number (length g.degrees) (t + 1) → 1500 < n
+        → IsTooMany g fs last n
     many-answer n low l e m = record {
       at = t + 1;
       low = omega arith;
@@ -45,7 +49,8 @@ module _ (g : Generators) (fs : List Polynomial) (A : AreVariables g) (over : Al
     }
 
 -- more than 1,500 variables are too many monomials of degree 1
-pub many-variables : (g : Generators) (fs : List Polynomial) (last n : ℕ) → AreVariables g → 1 ≤ last → n ≡ length g.degrees → 1500 < n → IsTooMany g fs last n
+pub many-variables : (g : Generators) (fs : List Polynomial) (last n : ℕ) → AreVariables g → 1 ≤ last
+    → n ≡ length g.degrees → 1500 < n → IsTooMany g fs last n
 many-variables g fs last n A l e m = record {
   at = 1;
   low = omega arith;

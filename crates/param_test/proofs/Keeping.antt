@@ -3,11 +3,11 @@ use Rattle.std.proofs.Common.{◌≡◌, ◌≢◌, ℕ, zero, suc, ◌+◌, ◌
 use Rattle.std.specs.Prelude.{All, AllPairs, option_map}
 use Rattle.std.specs.List.{AllByRecursion as Each}
 use Rattle.std.proofs.lemmas.Bool.{cases_Bool}
-use Rattle.std.proofs.lemmas.List.{take_more, map-append}
+use Rattle.std.proofs.lemmas.List.{append-nil, take_more, map-append}
 use Rattle.std.proofs.lemmas.List.Elements.{All-from_recursion, recursion_from_All}
 use Rattle.graded_polynomials.specs.Monomials.{exponent, IsWithin, IsTrimmed, IsGreater}
 use Rattle.graded_polynomials.specs.Polynomials.{Term, Polynomial, IsPolynomial, IsSame}
-use Rattle.graded_polynomials.proofs.Terms.{eqb-self, eqb-true, eqb-false}
+use Rattle.graded_polynomials.proofs.Terms.{each-map, eqb-self, eqb-true, eqb-false}
 use Rattle.graded_polynomials.proofs.Exponents.{same-exponents}
 use Rattle.graded_polynomials.proofs.Ordered.{greater-after}
 use Rattle.graded_polynomials.proofs.Stored.{Descending, descending-from, polynomial-unique}
@@ -15,173 +15,29 @@ use Rattle.gc_poly.specs.Generators.{Generators, greatest}
 use Rattle.gc_poly.specs.Polynomials.{IsOverGenerators, IsMonomialOf, IsSumOf}
 use Rattle.gc_poly.proofs.SumLemmas.{take-term}
 use Rattle.param_test.specs.Variables.{variable_degree, is_variable, is_in_variables, restricted, kept_terms, kept, all_kept, variables}
+use Rattle.param_test.proofs.Lists.{each-both, each-take}
 use Rattle.param_test.proofs.Restricting.{zero-of, both, trimmed-restricted, monomial-restricted}
-
--- the exponents of the variables, 0 where m has ended
-abbrev pub padded : ℕ → List ℕ → List ℕ → List ℕ
-padded q [] m = []
-padded q (d ∷ ds) [] = cond (is_variable q d) (0 ∷ padded q ds []) (padded q ds [])
-padded q (d ∷ ds) (e ∷ m) = cond (is_variable q d) (e ∷ padded q ds m) (padded q ds m)
-
-padded-last : (q : ℕ) (ds m : List ℕ) (d : ℕ)
-    → padded q (ds ++ d ∷ []) m ≡ padded q ds m ++ cond (is_variable q d) (exponent m (length ds) ∷ []) []
-padded-last q [] [] d = go (cases_Bool (is_variable q d))
-  where
-    go : (is_variable q d ≡ true) ⊎ (is_variable q d ≡ false) → padded q (d ∷ []) [] ≡ cond (is_variable q d) (0 ∷ []) []
-    go (inl v) = rw v refl
-    go (inr v) = rw v refl
-padded-last q [] (x ∷ m) d = go (cases_Bool (is_variable q d))
-  where
-    go : (is_variable q d ≡ true) ⊎ (is_variable q d ≡ false) → padded q (d ∷ []) (x ∷ m) ≡ cond (is_variable q d) (x ∷ []) []
-    go (inl v) = rw v refl
-    go (inr v) = rw v refl
-padded-last q (a ∷ ds) [] d = go (cases_Bool (is_variable q a)) (padded-last q ds [] d)
-  where
-    go : (is_variable q a ≡ true) ⊎ (is_variable q a ≡ false)
-        → padded q (ds ++ d ∷ []) [] ≡ padded q ds [] ++ cond (is_variable q d) (exponent [] (length ds) ∷ []) []
-        → padded q (a ∷ (ds ++ d ∷ [])) [] ≡ padded q (a ∷ ds) [] ++ cond (is_variable q d) (exponent [] (suc (length ds)) ∷ []) []
-    go (inl v) h = rw v (ap (λ (xs : List ℕ). 0 ∷ xs) h)
-    go (inr v) h = rw v h
-padded-last q (a ∷ ds) (x ∷ m) d = go (cases_Bool (is_variable q a)) (padded-last q ds m d)
-  where
-    go : (is_variable q a ≡ true) ⊎ (is_variable q a ≡ false)
-        → padded q (ds ++ d ∷ []) m ≡ padded q ds m ++ cond (is_variable q d) (exponent m (length ds) ∷ []) []
-        → padded q (a ∷ (ds ++ d ∷ [])) (x ∷ m) ≡ padded q (a ∷ ds) (x ∷ m) ++ cond (is_variable q d) (exponent (x ∷ m) (suc (length ds)) ∷ []) []
-    go (inl v) h = rw v (ap (λ (xs : List ℕ). x ∷ xs) h)
-    go (inr v) h = rw v h
-
-padded-zeros : (q : ℕ) (ds : List ℕ) (k : ℕ) → exponent (padded q ds []) k ≡ 0
-padded-zeros q [] k = refl
-padded-zeros q (d ∷ ds) k = go (cases_Bool (is_variable q d)) (λ k. padded-zeros q ds k) k
-  where
-    go : (is_variable q d ≡ true) ⊎ (is_variable q d ≡ false) → ((k : ℕ) → exponent (padded q ds []) k ≡ 0) → (k : ℕ) → exponent (padded q (d ∷ ds) []) k ≡ 0
-    go (inl v) h zero = rw v refl
-    go (inl v) h (suc k) = rw v (h k)
-    go (inr v) h k = rw v (h k)
-
-padded-exponents : (q : ℕ) (ds m : List ℕ) (k : ℕ) → exponent (padded q ds m) k ≡ exponent (restricted q ds m) k
-padded-exponents q [] m k = refl
-padded-exponents q (d ∷ ds) [] k = padded-zeros q (d ∷ ds) k
-padded-exponents q (d ∷ ds) (x ∷ m) k = go (cases_Bool (is_variable q d)) (λ k. padded-exponents q ds m k) k
-  where
-    go : (is_variable q d ≡ true) ⊎ (is_variable q d ≡ false) → ((k : ℕ) → exponent (padded q ds m) k ≡ exponent (restricted q ds m) k) → (k : ℕ)
-        → exponent (padded q (d ∷ ds) (x ∷ m)) k ≡ exponent (restricted q (d ∷ ds) (x ∷ m)) k
-    go (inl v) h zero = rw v refl
-    go (inl v) h (suc k) = rw v (h k)
-    go (inr v) h k = rw v (h k)
-
-append-empty : {X : Type 0} (xs : List X) → xs ++ [] ≡ xs
-append-empty [] = refl
-append-empty (x ∷ xs) = ap (λ ys. x ∷ ys) (append-empty xs)
-
-or-true : (a : Bool) → (a || true) ≡ true
-or-true true = refl
-or-true false = refl
-
-and-true : (a : Bool) → (a && true) ≡ a
-and-true true = refl
-and-true false = refl
-
-and-both : (a b : Bool) → a ≡ true → b ≡ true → (a && b) ≡ true
-and-both a b e f = rw (e, f) refl
-
--- whether m is in the variables among the first generators and one more
-in-last : (q : ℕ) (ds m : List ℕ) (d : ℕ) → is_in_variables q ds m ≡ true → (is_variable q d || eqb (exponent m (length ds)) 0) ≡ true
-    → is_in_variables q (ds ++ d ∷ []) m ≡ true
-in-last q [] [] d h k = refl
-in-last q [] (x ∷ m) d h k = and-both (is_variable q d || eqb x 0) true k refl
-in-last q (a ∷ ds) [] d h k = refl
-in-last q (a ∷ ds) (x ∷ m) d h k = and-both (is_variable q a || eqb x 0) (is_in_variables q (ds ++ d ∷ []) m) (both h).0 (in-last q ds m d (both h).1 k)
-
--- each generator that occurs is a variable
-in-at : (q : ℕ) (ds m : List ℕ) (i : ℕ) → i < length ds → is_in_variables q ds m ≡ true → (is_variable q (get_or ds i 0) || eqb (exponent m i) 0) ≡ true
-in-at q [] m i l h = absurd (omega (arith, l))
-in-at q (d ∷ ds) [] i l h = or-true (is_variable q (get_or (d ∷ ds) i 0))
-in-at q (d ∷ ds) (x ∷ m) zero l h = (both h).0
-in-at q (d ∷ ds) (x ∷ m) (suc i) l h = in-at q ds m i (omega (arith, l)) (both h).1
-
-length-front : (ds : List ℕ) (i : ℕ) → i ≤ length ds → length (take i ds) ≡ i
-length-front [] zero l = refl
-length-front [] (suc i) l = absurd (omega (arith, l))
-length-front (d ∷ ds) zero l = refl
-length-front (d ∷ ds) (suc i) l = let h = length-front ds i (omega (arith, l)) in omega (arith, h)
-
--- the exponents of the variables among the first i generators
-pub record IsTaken (q : ℕ) (ds m : List ℕ) (i : ℕ) (xs : List ℕ) : Type 0 where
-  pub inside : is_in_variables q (take i ds) m ≡ true
-  pub taken : xs ≡ padded q (take i ds) m
-
-pub taken-start : (q : ℕ) (ds m : List ℕ) (xs : List ℕ) → xs ≡ [] → IsTaken q ds m 0 xs
-taken-start q ds m xs e = record { inside = refl; taken = e }
-
-module _ (q : ℕ) (ds m : List ℕ) (i d x : ℕ) (xs : List ℕ) (l : i < length ds) (d_is : d ≡ get_or ds i 0) (x_is : x ≡ exponent m i) (T : IsTaken q ds m i xs) where
-  front : take (i + 1) ds ≡ take i ds ++ d ∷ []
-  front = take_more ds i 0 l ∙ ap (λ d. take i ds ++ d ∷ []) (sym d_is)
-
-  here : exponent m (length (take i ds)) ≡ x
-  here = ap (exponent m) (length-front ds i (omega arith)) ∙ sym x_is
-
-  inside-more : (is_variable q d || eqb x 0) ≡ true → is_in_variables q (take (i + 1) ds) m ≡ true
-  inside-more h = subst (λ ds. is_in_variables q ds m ≡ true) (sym front)
-      (in-last q (take i ds) m d T.inside (subst (λ x. (is_variable q d || eqb x 0) ≡ true) (sym here) h))
-
-  padded-more : padded q (take (i + 1) ds) m ≡ xs ++ cond (is_variable q d) (x ∷ []) []
-  padded-more = ap (λ ds. padded q ds m) front ∙ padded-last q (take i ds) m d
-      ∙ ap (λ ys. ys ++ cond (is_variable q d) (exponent m (length (take i ds)) ∷ []) []) (sym T.taken)
-      ∙ ap (λ x. xs ++ cond (is_variable q d) (x ∷ []) []) here
-
-  pub taken-more : (v : ℕ) → v ≡ variable_degree q → d ≡ v → IsTaken q ds m (i + 1) (xs ++ x ∷ [])
-  taken-more v w e =
-      let b : is_variable q d ≡ true = rw (e ∙ w) (eqb-self (variable_degree q)) in
-      record { inside = inside-more (rw b refl); taken = sym (padded-more ∙ rw b refl) }
-
-  pub taken-left : (v : ℕ) → v ≡ variable_degree q → d ≢ v → x ≡ 0 → IsTaken q ds m (i + 1) xs
-  taken-left v w n z =
-      let b : is_variable q d ≡ false = eqb-false d (variable_degree q) (λ e. n (e ∙ sym w)) in
-      record { inside = inside-more (rw (b, z) refl); taken = sym (padded-more ∙ rw b (append-empty xs)) }
-
-  pub taken-none : (v : ℕ) → v ≡ variable_degree q → d ≢ v → x ≢ 0 → is_in_variables q ds m ≡ false
-  taken-none v w n z = go (cases_Bool (is_in_variables q ds m))
-    where
-      b : is_variable q d ≡ false
-      b = eqb-false d (variable_degree q) (λ e. n (e ∙ sym w))
-
-      go : (is_in_variables q ds m ≡ true) ⊎ (is_in_variables q ds m ≡ false) → is_in_variables q ds m ≡ false
-      go (inr h) = h
-      go (inl h) = absurd (z (eqb-true x 0 (rw b at (subst (λ x. (is_variable q d || eqb x 0) ≡ true) (sym x_is)
-          (subst (λ d. (is_variable q d || eqb (exponent m i) 0) ≡ true) (sym d_is) (in-at q ds m i l h))))))
-
-take-all : (ds : List ℕ) → take (length ds) ds ≡ ds
-take-all [] = refl
-take-all (d ∷ ds) = ap (λ ds. d ∷ ds) (take-all ds)
-
-module _ (q : ℕ) (ds m : List ℕ) (i : ℕ) (xs : List ℕ) (e : i ≡ length ds) (T : IsTaken q ds m i xs) where
-  whole : take i ds ≡ ds
-  whole = ap (λ i. take i ds) e ∙ take-all ds
-
-  pub taken-inside : is_in_variables q ds m ≡ true
-  taken-inside = subst (λ ds. is_in_variables q ds m ≡ true) whole T.inside
-
-  pub taken-is : (n : List ℕ) → IsWithin ds m → IsTrimmed m → IsTrimmed n → ((k : ℕ) → exponent n k ≡ exponent xs k) → n ≡ restricted q ds m
-  taken-is n w t u h = same-exponents n (restricted q ds m) u (trimmed-restricted q ds m taken-inside w t)
-      (λ k. h k ∙ ap (λ ys. exponent ys k) (T.taken ∙ ap (λ ds. padded q ds m) whole) ∙ padded-exponents q ds m k)
 
 -- greater monomials in the variables stay greater
 first-greater : (x y : ℕ) (a b : List ℕ) → IsGreater (x ∷ a) (y ∷ b) → (y < x) ⊎ ((x ≡ y) × IsGreater a b)
 first-greater x y a b h = go h.at h.more h.before
   where
-    go : (at : ℕ) → exponent (y ∷ b) at < exponent (x ∷ a) at → ((i : ℕ) → i < at → exponent (x ∷ a) i ≡ exponent (y ∷ b) i)
+    go : (at : ℕ) → exponent (y ∷ b) at < exponent (x ∷ a) at
+        → ((i : ℕ) → i < at → exponent (x ∷ a) i ≡ exponent (y ∷ b) i)
         → (y < x) ⊎ ((x ≡ y) × IsGreater a b)
     go zero m f = inl m
-    go (suc k) m f = inr (f 0 (omega arith), record { at = k; more = m; before = λ i l. f (suc i) (omega arith) })
+    go (suc k) m f =
+        inr (f 0 (omega arith), record { at = k; more = m; before = λ i l. f (suc i) (omega arith) })
 
 first-above-empty : (x : ℕ) (a : List ℕ) → IsGreater (x ∷ a) [] → (0 < x) ⊎ ((x ≡ 0) × IsGreater a [])
 first-above-empty x a h = go h.at h.more h.before
   where
-    go : (at : ℕ) → exponent [] at < exponent (x ∷ a) at → ((i : ℕ) → i < at → exponent (x ∷ a) i ≡ exponent [] i)
+    go : (at : ℕ) → exponent [] at < exponent (x ∷ a) at
+        → ((i : ℕ) → i < at → exponent (x ∷ a) i ≡ exponent [] i)
         → (0 < x) ⊎ ((x ≡ 0) × IsGreater a [])
     go zero m f = inl m
-    go (suc k) m f = inr (f 0 (omega arith), record { at = k; more = m; before = λ i l. f (suc i) (omega arith) })
+    go (suc k) m f =
+        inr (f 0 (omega arith), record { at = k; more = m; before = λ i l. f (suc i) (omega arith) })
 
 above-empty : (x : ℕ) (a : List ℕ) → 0 < x → IsGreater (x ∷ a) []
 above-empty x a l = record { at = 0; more = l; before = λ i b. absurd (omega arith) }
@@ -200,25 +56,33 @@ empty-is : (q : ℕ) (ds : List ℕ) → restricted q ds [] ≡ []
 empty-is q [] = refl
 empty-is q (d ∷ ds) = refl
 
-above-restricted : (q : ℕ) (ds a : List ℕ) → is_in_variables q ds a ≡ true → IsWithin ds a → IsGreater a [] → IsGreater (restricted q ds a) []
+above-restricted : (q : ℕ) (ds a : List ℕ) → is_in_variables q ds a ≡ true → IsWithin ds a → IsGreater a []
+    → IsGreater (restricted q ds a) []
 above-restricted q ds [] h w g = absurd (below-empty [] g)
 above-restricted q [] (x ∷ a) h w g = absurd w
-above-restricted q (d ∷ ds) (x ∷ a) h w g = go (cases_Bool (is_variable q d)) (first-above-empty x a g) (λ k. above-restricted q ds a (both h).1 w k)
+above-restricted q (d ∷ ds) (x ∷ a) h w g =
+    go (cases_Bool (is_variable q d)) (first-above-empty x a g) (λ k. above-restricted q ds a (both h).1 w k)
   where
-    go : (is_variable q d ≡ true) ⊎ (is_variable q d ≡ false) → (0 < x) ⊎ ((x ≡ 0) × IsGreater a []) → (IsGreater a [] → IsGreater (restricted q ds a) []) → IsGreater (restricted q (d ∷ ds) (x ∷ a)) []
+    go : (is_variable q d ≡ true) ⊎ (is_variable q d ≡ false) → (0 < x) ⊎ ((x ≡ 0) × IsGreater a [])
+        → (IsGreater a [] → IsGreater (restricted q ds a) []) → IsGreater (restricted q (d ∷ ds) (x ∷ a)) []
     go (inl v) (inl l) r = rw v (above-empty x (restricted q ds a) l)
     go (inl v) (inr e) r = rw (v, e.0) (after-zero (restricted q ds a) (r e.1))
     go (inr v) (inl l) r = absurd (let z = zero-of q d x v 0 (both h).0 in omega (arith, z, l))
     go (inr v) (inr e) r = rw v (r e.1)
 
-pub greater-restricted : (q : ℕ) (ds a b : List ℕ) → is_in_variables q ds a ≡ true → is_in_variables q ds b ≡ true → IsWithin ds a → IsWithin ds b
+pub greater-restricted : (q : ℕ) (ds a b : List ℕ) → is_in_variables q ds a ≡ true
+    → is_in_variables q ds b ≡ true → IsWithin ds a → IsWithin ds b
     → IsGreater a b → IsGreater (restricted q ds a) (restricted q ds b)
 greater-restricted q ds [] b h k w u g = absurd (below-empty b g)
 greater-restricted q [] (x ∷ a) b h k w u g = absurd w
 greater-restricted q (d ∷ ds) (x ∷ a) [] h k w u g = above-restricted q (d ∷ ds) (x ∷ a) h w g
-greater-restricted q (d ∷ ds) (x ∷ a) (y ∷ b) h k w u g = go (cases_Bool (is_variable q d)) (first-greater x y a b g) (λ e. greater-restricted q ds a b (both h).1 (both k).1 w u e)
+greater-restricted q (d ∷ ds) (x ∷ a) (y ∷ b) h k w u g =
+    go (cases_Bool (is_variable q d)) (first-greater x y a b g)
+    (λ e. greater-restricted q ds a b (both h).1 (both k).1 w u e)
   where
-    go : (is_variable q d ≡ true) ⊎ (is_variable q d ≡ false) → (y < x) ⊎ ((x ≡ y) × IsGreater a b) → (IsGreater a b → IsGreater (restricted q ds a) (restricted q ds b)) → IsGreater (restricted q (d ∷ ds) (x ∷ a)) (restricted q (d ∷ ds) (y ∷ b))
+    go : (is_variable q d ≡ true) ⊎ (is_variable q d ≡ false) → (y < x) ⊎ ((x ≡ y) × IsGreater a b)
+        → (IsGreater a b → IsGreater (restricted q ds a) (restricted q ds b))
+        → IsGreater (restricted q (d ∷ ds) (x ∷ a)) (restricted q (d ∷ ds) (y ∷ b))
     go (inl v) (inl l) r = rw v (record { at = 0; more = l; before = λ i b. absurd (omega arith) })
     go (inl v) (inr e) r = rw (v, e.0) (greater-after y (restricted q ds a) (restricted q ds b) (r e.1))
     go (inr v) (inl l) r = absurd (let z = zero-of q d x v 0 (both h).0 in omega (arith, z, l))
@@ -226,79 +90,83 @@ greater-restricted q (d ∷ ds) (x ∷ a) (y ∷ b) h k w u g = go (cases_Bool (
 
 -- what is kept
 each-kept : (q : ℕ) (ds : List ℕ) (P Q : Term → Type 0) (f : List Term)
-    → ((t : Term) → is_in_variables q ds t.monomial ≡ true → P t → Q (record { scalar = t.scalar; monomial = restricted q ds t.monomial }))
+    → ((t : Term) → is_in_variables q ds t.monomial ≡ true → P t
+    → Q (record { scalar = t.scalar; monomial = restricted q ds t.monomial }))
     → Each P f → Each Q (kept_terms q ds f)
 each-kept q ds P Q [] g h = tt
-each-kept q ds P Q (t ∷ f) g h = go (cases_Bool (is_in_variables q ds t.monomial)) (each-kept q ds P Q f g h.1)
+each-kept q ds P Q (t ∷ f) g h =
+    go (cases_Bool (is_in_variables q ds t.monomial)) (each-kept q ds P Q f g h.1)
   where
-    go : (is_in_variables q ds t.monomial ≡ true) ⊎ (is_in_variables q ds t.monomial ≡ false) → Each Q (kept_terms q ds f) → Each Q (kept_terms q ds (t ∷ f))
+    go : (is_in_variables q ds t.monomial ≡ true) ⊎ (is_in_variables q ds t.monomial ≡ false)
+        → Each Q (kept_terms q ds f) → Each Q (kept_terms q ds (t ∷ f))
     go (inl v) r = rw v (g t v h.0, r)
     go (inr v) r = rw v r
-
-each-both : {X : Type 0} (P Q : X → Type 0) (xs : List X) → Each P xs → Each Q xs → Each (λ x. P x × Q x) xs
-each-both P Q [] h k = tt
-each-both P Q (x ∷ xs) h k = ((h.0, k.0), each-both P Q xs h.1 k.1)
-
-each-take : {X : Type 0} (P : X → Type 0) (n : ℕ) (xs : List X) → Each P xs → Each P (take n xs)
-each-take P zero xs h = tt
-each-take P (suc n) [] h = tt
-each-take P (suc n) (x ∷ xs) h = (h.0, each-take P n xs h.1)
 
 descending-take : (n : ℕ) (f : List Term) → Descending f → Descending (take n f)
 descending-take zero f h = tt
 descending-take (suc n) [] h = tt
-descending-take (suc n) (t ∷ f) h = (each-take (λ s. IsGreater t.monomial s.monomial) n f h.0, descending-take n f h.1)
+descending-take (suc n) (t ∷ f) h =
+    (each-take (λ s. IsGreater t.monomial s.monomial) n f h.0, descending-take n f h.1)
 
 pairs-from : (f : List Term) → Descending f → AllPairs (λ s t. IsGreater s.monomial t.monomial) f
 pairs-from [] h i j d l b = absurd (omega arith)
 pairs-from (t ∷ f) h zero zero d l b = absurd (omega arith)
-pairs-from (t ∷ f) h zero (suc j) d l b = All-from_recursion (λ (s : Term). IsGreater t.monomial s.monomial) f h.0 j d (omega (arith, b))
+pairs-from (t ∷ f) h zero (suc j) d l b = All-from_recursion (λ (s : Term). IsGreater t.monomial s.monomial) f
+    h.0 j d (omega (arith, b))
 pairs-from (t ∷ f) h (suc i) zero d l b = absurd (omega arith)
 pairs-from (t ∷ f) h (suc i) (suc j) d l b = pairs-from f h.1 i j d (omega (arith, l)) (omega (arith, b))
 
-descending-kept : (q : ℕ) (ds : List ℕ) (f : List Term) → Each (λ t. IsWithin ds t.monomial) f → Descending f → Descending (kept_terms q ds f)
+descending-kept : (q : ℕ) (ds : List ℕ) (f : List Term) → Each (λ t. IsWithin ds t.monomial) f → Descending f
+    → Descending (kept_terms q ds f)
 descending-kept q ds [] w h = tt
-descending-kept q ds (t ∷ f) w h = go (cases_Bool (is_in_variables q ds t.monomial)) (descending-kept q ds f w.1 h.1)
+descending-kept q ds (t ∷ f) w h =
+    go (cases_Bool (is_in_variables q ds t.monomial)) (descending-kept q ds f w.1 h.1)
   where
-    go : (is_in_variables q ds t.monomial ≡ true) ⊎ (is_in_variables q ds t.monomial ≡ false) → Descending (kept_terms q ds f) → Descending (kept_terms q ds (t ∷ f))
+    go : (is_in_variables q ds t.monomial ≡ true) ⊎ (is_in_variables q ds t.monomial ≡ false)
+        → Descending (kept_terms q ds f) → Descending (kept_terms q ds (t ∷ f))
     go (inl v) r = rw v (
-      each-kept q ds (λ s. IsWithin ds s.monomial × IsGreater t.monomial s.monomial) (λ s. IsGreater (restricted q ds t.monomial) s.monomial) f
+      each-kept q ds (λ s. IsWithin ds s.monomial × IsGreater t.monomial s.monomial)
+          (λ s. IsGreater (restricted q ds t.monomial) s.monomial) f
           (λ s u k. greater-restricted q ds t.monomial s.monomial v u w.0 k.0 k.1)
           (each-both (λ s. IsWithin ds s.monomial) (λ s. IsGreater t.monomial s.monomial) f w.1 h.0),
       r,
     )
     go (inr v) r = rw v r
 
-each-weaker : {X : Type 0} (P Q : X → Type 0) (xs : List X) → ((x : X) → P x → Q x) → Each P xs → Each Q xs
-each-weaker P Q [] g h = tt
-each-weaker P Q (x ∷ xs) g h = (g x h.0, each-weaker P Q xs g h.1)
-
 module _ (g : Generators) (d : ℕ) where
-  pub polynomial-kept : (f : List Term) → IsPolynomial (greatest g) g.degrees d f → IsPolynomial (greatest g) (variables g).degrees d (kept_terms (greatest g) g.degrees f)
+  pub polynomial-kept : (f : List Term) → IsPolynomial (greatest g) g.degrees d f
+      → IsPolynomial (greatest g) (variables g).degrees d (kept_terms (greatest g) g.degrees f)
   polynomial-kept f h = record {
-    over = each-kept (greatest g) g.degrees (λ t. IsMonomialOf g d t.monomial) (λ t. IsMonomialOf (variables g) d t.monomial) f
+    over = each-kept (greatest g) g.degrees (λ t. IsMonomialOf g d t.monomial)
+        (λ t. IsMonomialOf (variables g) d t.monomial) f
         (λ t v m. monomial-restricted g d t.monomial m v) h.over;
-    coefficients = each-kept (greatest g) g.degrees (λ t. (0 < t.scalar) × (t.scalar ≤ greatest g)) (λ t. (0 < t.scalar) × (t.scalar ≤ greatest g)) f
+    coefficients = each-kept (greatest g) g.degrees (λ t. (0 < t.scalar) × (t.scalar ≤ greatest g))
+        (λ t. (0 < t.scalar) × (t.scalar ≤ greatest g)) f
         (λ t v m. m) h.coefficients;
     descending = pairs-from (kept_terms (greatest g) g.degrees f) (descending-kept (greatest g) g.degrees f
-        (each-weaker (λ (t : Term). IsMonomialOf g d t.monomial) (λ (t : Term). IsWithin g.degrees t.monomial) f (λ t m. m.within) h.over)
+        (each-map (λ (t : Term). IsMonomialOf g d t.monomial) (λ (t : Term). IsWithin g.degrees t.monomial)
+        f (λ t m. m.within) h.over)
         (descending-from f h.descending));
   }
 
-  polynomial-take : (n : ℕ) (f : List Term) → IsPolynomial (greatest g) g.degrees d f → IsPolynomial (greatest g) g.degrees d (take n f)
+  polynomial-take : (n : ℕ) (f : List Term) → IsPolynomial (greatest g) g.degrees d f
+      → IsPolynomial (greatest g) g.degrees d (take n f)
   polynomial-take n f h = record {
     over = each-take (λ (t : Term). IsMonomialOf g d t.monomial) n f h.over;
     coefficients = each-take (λ (t : Term). (0 < t.scalar) × (t.scalar ≤ greatest g)) n f h.coefficients;
     descending = pairs-from (take n f) (descending-take n f (descending-from f h.descending));
   }
 
-kept-append : (q : ℕ) (ds : List ℕ) (f h : List Term) → kept_terms q ds (f ++ h) ≡ kept_terms q ds f ++ kept_terms q ds h
+kept-append : (q : ℕ) (ds : List ℕ) (f h : List Term) → kept_terms q ds (f ++ h)
+    ≡ kept_terms q ds f ++ kept_terms q ds h
 kept-append q ds [] h = refl
 kept-append q ds (t ∷ f) h = go (cases_Bool (is_in_variables q ds t.monomial)) (kept-append q ds f h)
   where
-    go : (is_in_variables q ds t.monomial ≡ true) ⊎ (is_in_variables q ds t.monomial ≡ false) → kept_terms q ds (f ++ h) ≡ kept_terms q ds f ++ kept_terms q ds h
+    go : (is_in_variables q ds t.monomial ≡ true) ⊎ (is_in_variables q ds t.monomial ≡ false)
+        → kept_terms q ds (f ++ h) ≡ kept_terms q ds f ++ kept_terms q ds h
         → kept_terms q ds ((t ∷ f) ++ h) ≡ kept_terms q ds (t ∷ f) ++ kept_terms q ds h
-    go (inl v) e = rw v (ap (λ ts. record { scalar = t.scalar; monomial = restricted q ds t.monomial } ∷ ts) e)
+    go (inl v) e =
+        rw v (ap (λ ts. record { scalar = t.scalar; monomial = restricted q ds t.monomial } ∷ ts) e)
     go (inr v) e = rw v e
 
 scalar-at : (f : List Term) (i : ℕ) (m : List ℕ) → option_map (λ t. t.monomial) (slice_get f i) ≡ Some m
@@ -308,7 +176,8 @@ scalar-at (t ∷ f) zero m h = (t.scalar, refl)
 scalar-at (t ∷ f) (suc i) m h = scalar-at f i m h
 
 -- a term with a factor that is no variable is dropped
-pub kept-dropped : (g : Generators) (f out : Polynomial) (i : ℕ) (m : List ℕ) → option_map (λ t. t.monomial) (slice_get f.terms i) ≡ Some m
+pub kept-dropped : (g : Generators) (f out : Polynomial) (i : ℕ) (m : List ℕ)
+    → option_map (λ t. t.monomial) (slice_get f.terms i) ≡ Some m
     → out ≡ record { degree = f.degree; terms = kept_terms (greatest g) g.degrees (take i f.terms) }
     → is_in_variables (greatest g) g.degrees m ≡ false
     → out ≡ record { degree = f.degree; terms = kept_terms (greatest g) g.degrees (take (i + 1) f.terms) }
@@ -317,87 +186,117 @@ kept-dropped g f out i m monomial before v =
     before ∙ ap (λ (ts : List Term). record { degree = f.degree; terms = ts }) (sym (
     ap (kept_terms (greatest g) g.degrees) (take-term f.terms i s.0 m s.1 monomial)
     ∙ kept-append (greatest g) g.degrees (take i f.terms) (record { scalar = s.0; monomial = m } ∷ [])
-    ∙ (rw v (append-empty (kept_terms (greatest g) g.degrees (take i f.terms))))))
+    ∙ (rw v (append-nil (kept_terms (greatest g) g.degrees (take i f.terms))))))
 
 module _ (g : Generators) (f out : Polynomial) (i x : ℕ) (m : List ℕ)
-    (scalar : option_map (λ t. t.scalar) (slice_get f.terms i) ≡ Some x) (monomial : option_map (λ t. t.monomial) (slice_get f.terms i) ≡ Some m)
-    (before : out ≡ record { degree = f.degree; terms = kept_terms (greatest g) g.degrees (take i f.terms) }) where
-  abbrev term : Term
-  term = record { scalar = x; monomial = m }
+    (scalar : option_map (λ t. t.scalar) (slice_get f.terms i) ≡ Some x)
+    (monomial : option_map (λ t. t.monomial) (slice_get f.terms i) ≡ Some m)
+    (before : out ≡ record { degree = f.degree; terms = kept_terms (greatest g) g.degrees (take i f.terms) })
+  where
+    abbrev term : Term
+    term = record { scalar = x; monomial = m }
 
-  added : IsOverGenerators g f → is_in_variables (greatest g) g.degrees m ≡ true → (new : Polynomial)
-      → IsSumOf (variables g) out.degree (out.terms ++ record { scalar = x; monomial = restricted (greatest g) g.degrees m } ∷ []) new
-      → new ≡ record { degree = f.degree; terms = kept_terms (greatest g) g.degrees (take (i + 1) f.terms) }
-  added h v new s = polynomial (s.degree_is ∙ ap (λ (o : Polynomial). o.degree) before)
-      (polynomial-unique (greatest g) (variables g).degrees new.degree f.degree new.terms (kept_terms (greatest g) g.degrees (take (i + 1) f.terms)) s.over
-      (polynomial-kept g f.degree (take (i + 1) f.terms) (polynomial-take g f.degree (i + 1) f.terms h))
-      (subst (λ (ts : List Term). IsSame (greatest g) new.terms ts) sum s.same))
-    where
-      polynomial : {d : ℕ} {w : List Term} → new.degree ≡ d → new.terms ≡ w → new ≡ record { degree = d; terms = w }
-      polynomial e k = rw (← e, ← k) refl
+    added : IsOverGenerators g f → is_in_variables (greatest g) g.degrees m ≡ true → (new : Polynomial)
+        → IsSumOf (variables g) out.degree
+        (out.terms ++ record { scalar = x; monomial = restricted (greatest g) g.degrees m } ∷ []) new
+        → new ≡ record { degree = f.degree; terms = kept_terms (greatest g) g.degrees (take (i + 1) f.terms) }
+    added h v new s = polynomial (s.degree_is ∙ ap (λ (o : Polynomial). o.degree) before)
+        (polynomial-unique (greatest g) (variables g).degrees new.degree f.degree new.terms
+        (kept_terms (greatest g) g.degrees (take (i + 1) f.terms)) s.over
+        (polynomial-kept g f.degree (take (i + 1) f.terms) (polynomial-take g f.degree (i + 1) f.terms h))
+        (subst (λ (ts : List Term). IsSame (greatest g) new.terms ts) sum s.same))
+      where
+        polynomial : {d : ℕ} {w : List Term} → new.degree ≡ d → new.terms ≡ w
+            → new ≡ record { degree = d; terms = w }
+        polynomial e k = rw (← e, ← k) refl
 
-      sum : out.terms ++ record { scalar = x; monomial = restricted (greatest g) g.degrees m } ∷ [] ≡ kept_terms (greatest g) g.degrees (take (i + 1) f.terms)
-      sum = sym (ap (kept_terms (greatest g) g.degrees) (take-term f.terms i x m scalar monomial)
-          ∙ kept-append (greatest g) g.degrees (take i f.terms) (term ∷ [])
-          ∙ (rw v (ap (λ ts. ts ++ record { scalar = x; monomial = restricted (greatest g) g.degrees m } ∷ []) (sym (ap (λ (o : Polynomial). o.terms) before)))))
+        sum : out.terms ++ record { scalar = x; monomial = restricted (greatest g) g.degrees m } ∷ []
+            ≡ kept_terms (greatest g) g.degrees (take (i + 1) f.terms)
+        sum = sym (ap (kept_terms (greatest g) g.degrees) (take-term f.terms i x m scalar monomial)
+            ∙ kept-append (greatest g) g.degrees (take i f.terms) (term ∷ [])
+            ∙ (rw v
+            (ap (λ ts. ts ++ record { scalar = x; monomial = restricted (greatest g) g.degrees m } ∷ [])
+            (sym (ap (λ (o : Polynomial). o.terms) before)))))
 
-  -- any other term is added
-  pub kept-added : (ring : Generators) (n : List ℕ) (new : Polynomial) → ring ≡ variables g → IsOverGenerators g f → is_in_variables (greatest g) g.degrees m ≡ true
-      → n ≡ restricted (greatest g) g.degrees m → IsSumOf ring out.degree (out.terms ++ record { scalar = x; monomial = n } ∷ []) new
-      → new ≡ record { degree = f.degree; terms = kept_terms (greatest g) g.degrees (take (i + 1) f.terms) }
-  kept-added ring n new r h v e s = added h v new
-      (subst (λ m. IsSumOf (variables g) out.degree (out.terms ++ record { scalar = x; monomial = m } ∷ []) new) e
-      (subst (λ r. IsSumOf r out.degree (out.terms ++ record { scalar = x; monomial = n } ∷ []) new) r s))
+    -- any other term is added
+    pub kept-added : (ring : Generators) (n : List ℕ) (new : Polynomial) → ring ≡ variables g
+        → IsOverGenerators g f → is_in_variables (greatest g) g.degrees m ≡ true
+        → n ≡ restricted (greatest g) g.degrees m
+        → IsSumOf ring out.degree (out.terms ++ record { scalar = x; monomial = n } ∷ []) new
+        → new ≡ record { degree = f.degree; terms = kept_terms (greatest g) g.degrees (take (i + 1) f.terms) }
+    kept-added ring n new r h v e s = added h v new
+        (subst
+        (λ m. IsSumOf (variables g) out.degree (out.terms ++ record { scalar = x; monomial = m } ∷ []) new) e
+        (subst (λ r. IsSumOf r out.degree (out.terms ++ record { scalar = x; monomial = n } ∷ []) new) r s))
 
-each-at : (P : Term → Type 0) (f : List Term) (i x : ℕ) (m : List ℕ) → Each P f → option_map (λ t. t.scalar) (slice_get f i) ≡ Some x
+each-at : (P : Term → Type 0) (f : List Term) (i x : ℕ) (m : List ℕ) → Each P f
+    → option_map (λ t. t.scalar) (slice_get f i) ≡ Some x
     → option_map (λ t. t.monomial) (slice_get f i) ≡ Some m → P (record { scalar = x; monomial = m })
 each-at P [] i x m h s k = absurd cc
-each-at P (t ∷ f) zero x m h s k = subst P (let a : t.scalar ≡ x = cc in let b : t.monomial ≡ m = cc in rw (← a, ← b) refl) h.0
+each-at P (t ∷ f) zero x m h s k =
+    subst P (let a : t.scalar ≡ x = cc in let b : t.monomial ≡ m = cc in rw (← a, ← b) refl) h.0
 each-at P (t ∷ f) (suc i) x m h s k = each-at P f i x m h.1 s k
 
-module _ (g ring : Generators) (f : Polynomial) (i : ℕ) (ring_is : ring ≡ variables g) (over : IsOverGenerators g f) where
-  pub kept-over : (out : Polynomial) → out ≡ record { degree = f.degree; terms = kept_terms (greatest g) g.degrees (take i f.terms) } → IsOverGenerators ring out
-  kept-over out b = subst (λ r. IsOverGenerators r out) (sym ring_is) (subst (IsOverGenerators (variables g)) (sym b)
+module _ (g ring : Generators) (f : Polynomial) (i : ℕ) (ring_is : ring ≡ variables g)
+    (over : IsOverGenerators g f) where
+  pub kept-over : (out : Polynomial)
+      → out ≡ record { degree = f.degree; terms = kept_terms (greatest g) g.degrees (take i f.terms) }
+      → IsOverGenerators ring out
+  kept-over out b =
+      subst (λ r. IsOverGenerators r out) (sym ring_is) (subst (IsOverGenerators (variables g)) (sym b)
       (polynomial-kept g f.degree (take i f.terms) (polynomial-take g f.degree i f.terms over)))
 
   module _ (x : ℕ) (m : List ℕ) (scalar : option_map (λ t. t.scalar) (slice_get f.terms i) ≡ Some x)
       (monomial : option_map (λ t. t.monomial) (slice_get f.terms i) ≡ Some m) where
     pub kept-scalar : x < ring.prime
     kept-scalar =
-        let h = each-at (λ t. (0 < t.scalar) × (t.scalar ≤ greatest g)) f.terms i x m over.coefficients scalar monomial in
+        let h = each-at (λ t. (0 < t.scalar) × (t.scalar ≤ greatest g)) f.terms i x m over.coefficients scalar
+        monomial in
         let e = ap (λ (r : Generators). r.prime) ring_is in
         omega (arith, h.0, h.1, e)
 
     pub given-monomial : IsMonomialOf g f.degree m
     given-monomial = each-at (λ t. IsMonomialOf g f.degree t.monomial) f.terms i x m over.over scalar monomial
 
-    pub kept-monomial : (out : Polynomial) → out ≡ record { degree = f.degree; terms = kept_terms (greatest g) g.degrees (take i f.terms) }
-        → (n : List ℕ) → is_in_variables (greatest g) g.degrees m ≡ true → n ≡ restricted (greatest g) g.degrees m → IsMonomialOf ring out.degree n
+    pub kept-monomial : (out : Polynomial)
+        → out ≡ record { degree = f.degree; terms = kept_terms (greatest g) g.degrees (take i f.terms) }
+        → (n : List ℕ) → is_in_variables (greatest g) g.degrees m ≡ true
+        → n ≡ restricted (greatest g) g.degrees m → IsMonomialOf ring out.degree n
     kept-monomial out b n v e = subst (λ r. IsMonomialOf r out.degree n) (sym ring_is)
         (subst (λ d. IsMonomialOf (variables g) d n) (sym (ap (λ (o : Polynomial). o.degree) b))
-        (subst (IsMonomialOf (variables g) f.degree) (sym e) (monomial-restricted g f.degree m given-monomial v)))
+        (subst (IsMonomialOf (variables g) f.degree) (sym e)
+        (monomial-restricted g f.degree m given-monomial v)))
 
 -- all the polynomials
-each-mapped : (g : Generators) (fs : List Polynomial) → Each (IsOverGenerators g) fs → Each (IsOverGenerators (variables g)) (map (kept g) fs)
+each-mapped : (g : Generators) (fs : List Polynomial) → Each (IsOverGenerators g) fs
+    → Each (IsOverGenerators (variables g)) (map (kept g) fs)
 each-mapped g [] h = tt
 each-mapped g (f ∷ fs) h = (polynomial-kept g f.degree f.terms h.0, each-mapped g fs h.1)
 
-degrees-mapped : (g : Generators) (fs : List Polynomial) → Each (λ f. f.degree ≤ 24) fs → Each (λ f. f.degree ≤ 24) (map (kept g) fs)
+degrees-mapped : (g : Generators) (fs : List Polynomial) → Each (λ f. f.degree ≤ 24) fs
+    → Each (λ f. f.degree ≤ 24) (map (kept g) fs)
 degrees-mapped g [] h = tt
 degrees-mapped g (f ∷ fs) h = (h.0, degrees-mapped g fs h.1)
 
-pub all-kept-over : (g : Generators) (fs : List Polynomial) → All (IsOverGenerators g) fs → All (IsOverGenerators (variables g)) (all_kept g fs)
-all-kept-over g fs h = All-from_recursion (IsOverGenerators (variables g)) (map (kept g) fs) (each-mapped g fs (recursion_from_All (IsOverGenerators g) fs h))
+pub all-kept-over : (g : Generators) (fs : List Polynomial) → All (IsOverGenerators g) fs
+    → All (IsOverGenerators (variables g)) (all_kept g fs)
+all-kept-over g fs h = All-from_recursion (IsOverGenerators (variables g)) (map (kept g) fs)
+    (each-mapped g fs (recursion_from_All (IsOverGenerators g) fs h))
 
-pub all-kept-low : (g : Generators) (fs : List Polynomial) → All (λ f. f.degree ≤ 24) fs → All (λ f. f.degree ≤ 24) (all_kept g fs)
-all-kept-low g fs h = All-from_recursion (λ (f : Polynomial). f.degree ≤ 24) (map (kept g) fs) (degrees-mapped g fs (recursion_from_All (λ (f : Polynomial). f.degree ≤ 24) fs h))
+pub all-kept-low : (g : Generators) (fs : List Polynomial) → All (λ f. f.degree ≤ 24) fs
+    → All (λ f. f.degree ≤ 24) (all_kept g fs)
+all-kept-low g fs h = All-from_recursion (λ (f : Polynomial). f.degree ≤ 24) (map (kept g) fs)
+    (degrees-mapped g fs (recursion_from_All (λ (f : Polynomial). f.degree ≤ 24) fs h))
 
-next : (fs : List Polynomial) (i : ℕ) (f : Polynomial) → slice_get fs i ≡ Some f → take (suc i) fs ≡ take i fs ++ f ∷ []
+next : (fs : List Polynomial) (i : ℕ) (f : Polynomial) → slice_get fs i ≡ Some f
+    → take (suc i) fs ≡ take i fs ++ f ∷ []
 next [] i f s = absurd cc
 next (h ∷ fs) zero f s = ap (λ (f : Polynomial). f ∷ []) cc
 next (h ∷ fs) (suc i) f s = ap (λ (fs : List Polynomial). h ∷ fs) (next fs i f s)
 
-pub all-kept-more : (g : Generators) (fs out new : List Polynomial) (i : ℕ) (f k : Polynomial) → slice_get fs i ≡ Some f → k ≡ kept g f
+pub all-kept-more : (g : Generators) (fs out new : List Polynomial) (i : ℕ) (f k : Polynomial)
+    → slice_get fs i ≡ Some f → k ≡ kept g f
     → out ≡ all_kept g (take i fs) → new ≡ out ++ k ∷ [] → new ≡ all_kept g (take (i + 1) fs)
-all-kept-more g fs out new i f k s e h n = n ∙ ap (λ (o : List Polynomial). o ++ k ∷ []) h ∙ ap (λ (k : Polynomial). all_kept g (take i fs) ++ k ∷ []) e
+all-kept-more g fs out new i f k s e h n = n ∙ ap (λ (o : List Polynomial). o ++ k ∷ []) h
+    ∙ ap (λ (k : Polynomial). all_kept g (take i fs) ++ k ∷ []) e
     ∙ sym (ap (map (kept g)) (rw add-one (next fs i f s)) ∙ map-append (kept g) (take i fs) (f ∷ []))

@@ -26,7 +26,8 @@ joined-assoc : (a b c : List ℕ) → joined (joined a b) c ≡ joined a (joined
 joined-assoc [] b c = refl
 joined-assoc (x ∷ a) [] c = refl
 joined-assoc (x ∷ a) (y ∷ b) [] = refl
-joined-assoc (x ∷ a) (y ∷ b) (z ∷ c) = ap₂ (λ (x : ℕ) (xs : List ℕ). x ∷ xs) (omega arith) (joined-assoc a b c)
+joined-assoc (x ∷ a) (y ∷ b) (z ∷ c) =
+    ap₂ (λ (x : ℕ) (xs : List ℕ). x ∷ xs) (omega arith) (joined-assoc a b c)
 
 -- m is a variable times another monomial
 record Divided (v : ℕ) (ds m : List ℕ) : Type 0 where
@@ -43,7 +44,8 @@ record Divided (v : ℕ) (ds m : List ℕ) : Type 0 where
 first-degree : (v d : ℕ) (ds : List ℕ) → d ≡ v → degree (d ∷ ds) (1 ∷ []) ≡ v
 first-degree v d ds e = let z = degree-nil ds in omega (arith, z, e)
 
-divided : (v : ℕ) (ds m : List ℕ) → Each (λ d. d ≡ v) ds → IsWithin ds m → IsTrimmed m → m ≢ [] → Divided v ds m
+divided : (v : ℕ) (ds m : List ℕ) → Each (λ d. d ≡ v) ds → IsWithin ds m → IsTrimmed m → m ≢ []
+    → Divided v ds m
 divided v ds [] h w t n = absurd (n refl)
 divided v [] (x ∷ m) h w t n = absurd w
 divided v (d ∷ ds) (suc zero ∷ []) h w t n = record {
@@ -113,17 +115,24 @@ abbrev IsTimes : ℕ → List ℕ → ℕ → List ℕ → List ℕ → Type 0
 IsTimes q ds d a n = (m : List ℕ) × IsMonomial q ds d m × (fits q ds (joined a m) ≡ true) × (joined a m ≡ n)
 
 -- products with a monomial respect equality
-same-multiple : (q : ℕ) (ds : List ℕ) (d : ℕ) (a : List ℕ) (f g : List Term) → ((m : List ℕ) → fits q ds m ≡ true)
+same-multiple : (q : ℕ) (ds : List ℕ) (d : ℕ) (a : List ℕ) (f g : List Term)
+    → ((m : List ℕ) → fits q ds m ≡ true)
     → IsOver q ds d f → IsOver q ds d g → IsSame q f g → IsSame q (multiple q ds 1 a f) (multiple q ds 1 a g)
-same-multiple q ds d a f g fit F G h = record { at = λ n. go n (multiple-occurs q ds d 1 a f F n) (multiple-occurs q ds d 1 a g G n) }
+same-multiple q ds d a f g fit F G h =
+    record { at = λ n. go n (multiple-occurs q ds d 1 a f F n) (multiple-occurs q ds d 1 a g G n) }
   where
-    there : (n : List ℕ) → IsTimes q ds d a n → IsCongruent (suc q) (coefficient (multiple q ds 1 a f) n) (coefficient (multiple q ds 1 a g) n)
-    there n p = subst (λ n. IsCongruent (suc q) (coefficient (multiple q ds 1 a f) n) (coefficient (multiple q ds 1 a g) n)) p.3
+    there : (n : List ℕ) → IsTimes q ds d a n
+        → IsCongruent (suc q) (coefficient (multiple q ds 1 a f) n) (coefficient (multiple q ds 1 a g) n)
+    there n p =
+        subst
+        (λ n. IsCongruent (suc q) (coefficient (multiple q ds 1 a f) n) (coefficient (multiple q ds 1 a g) n))
+        p.3
         (congruent_trans (congruent_eq (coefficient-multiple q ds d 1 a f F p.0 p.1 p.2))
         (congruent_trans (congruent_mul_left 1 (congruent_mul_left (sign q (swaps ds a p.0)) (h.at p.0)))
         (congruent_eq (sym (coefficient-multiple q ds d 1 a g G p.0 p.1 p.2)))))
 
-    go : (n : List ℕ) → IsTimes q ds d a n ⊎ (coefficient (multiple q ds 1 a f) n ≡ 0) → IsTimes q ds d a n ⊎ (coefficient (multiple q ds 1 a g) n ≡ 0)
+    go : (n : List ℕ) → IsTimes q ds d a n ⊎ (coefficient (multiple q ds 1 a f) n ≡ 0)
+        → IsTimes q ds d a n ⊎ (coefficient (multiple q ds 1 a g) n ≡ 0)
         → IsCongruent (suc q) (coefficient (multiple q ds 1 a f) n) (coefficient (multiple q ds 1 a g) n)
     go n (inl p) y = there n p
     go n (inr x) (inl p) = there n p
@@ -133,18 +142,25 @@ module _ (g : Generators) (A : AreVariables g) where
   abbrev q : ℕ
   q = greatest g
 
-  plain-multiple : (c : ℕ) (m : List ℕ) (t : Term) (f : List Term) → multiple (greatest g) g.degrees c m (t ∷ f)
-      ≡ record { scalar = c * t.scalar; monomial = joined m t.monomial } ∷ multiple (greatest g) g.degrees c m f
+  plain-multiple : (c : ℕ) (m : List ℕ) (t : Term) (f : List Term)
+      → multiple (greatest g) g.degrees c m (t ∷ f)
+      ≡ record { scalar = c * t.scalar; monomial = joined m t.monomial } ∷ multiple (greatest g) g.degrees c m
+      f
   plain-multiple c m t f = rw (fits-variables g (joined m t.monomial) A, sign-variables g m t.monomial A)
-      (ap (λ (s : ℕ). record { scalar = c * s; monomial = joined m t.monomial } ∷ multiple (greatest g) g.degrees c m f) (omega arith))
+      (ap
+      (λ (s : ℕ). record { scalar = c * s; monomial = joined m t.monomial } ∷ multiple (greatest g) g.degrees
+      c m f) (omega arith))
 
   shift-multiple : (x : List ℕ) (c : ℕ) (by : List ℕ) (f : List Term)
-      → multiple (greatest g) g.degrees 1 x (multiple (greatest g) g.degrees c by f) ≡ multiple (greatest g) g.degrees c (joined x by) f
+      → multiple (greatest g) g.degrees 1 x (multiple (greatest g) g.degrees c by f)
+      ≡ multiple (greatest g) g.degrees c (joined x by) f
   shift-multiple x c by [] = refl
   shift-multiple x c by (t ∷ f) =
       ap (λ f. multiple (greatest g) g.degrees 1 x f) (plain-multiple c by t f)
-      ∙ plain-multiple 1 x (record { scalar = c * t.scalar; monomial = joined by t.monomial }) (multiple (greatest g) g.degrees c by f)
-      ∙ term (let z : 1 * (c * t.scalar) ≡ c * t.scalar = omega arith in z) (sym (joined-assoc x by t.monomial)) (shift-multiple x c by f)
+      ∙ plain-multiple 1 x (record { scalar = c * t.scalar; monomial = joined by t.monomial })
+      (multiple (greatest g) g.degrees c by f)
+      ∙ term (let z : 1 * (c * t.scalar) ≡ c * t.scalar = omega arith in z)
+      (sym (joined-assoc x by t.monomial)) (shift-multiple x c by f)
       ∙ sym (plain-multiple c (joined x by) t f)
     where
       term : {a b : ℕ} {m n : List ℕ} {u w : List Term} → a ≡ b → m ≡ n → u ≡ w
@@ -155,43 +171,52 @@ module _ (g : Generators) (A : AreVariables g) where
   shifted x t = record { scalar = t.scalar; by = joined x t.by; of = t.of }
 
   shift-total : (x : List ℕ) (ts : List Multiple)
-      → multiple (greatest g) g.degrees 1 x (total (greatest g) g.degrees ts) ≡ total (greatest g) g.degrees (map (shifted x) ts)
+      → multiple (greatest g) g.degrees 1 x (total (greatest g) g.degrees ts)
+      ≡ total (greatest g) g.degrees (map (shifted x) ts)
   shift-total x [] = refl
   shift-total x (t ∷ ts) =
-      multiple-append (greatest g) g.degrees 1 x (multiple (greatest g) g.degrees t.scalar t.by t.of.terms) (total (greatest g) g.degrees ts)
+      multiple-append (greatest g) g.degrees 1 x (multiple (greatest g) g.degrees t.scalar t.by t.of.terms)
+      (total (greatest g) g.degrees ts)
       ∙ ap₂ (λ (a b : List Term). a ++ b) (shift-multiple x t.scalar t.by t.of.terms) (shift-total x ts)
 
   module _ (fs : List Polynomial) (over : All (IsOverGenerators g) fs) where
     shift-each : (x : List ℕ) (d e : ℕ) → IsMonomialOf g d x → (ts : List Multiple)
-        → Each (IsMultiple (greatest g) g.degrees fs e) ts → Each (IsMultiple (greatest g) g.degrees fs (d + e)) (map (shifted x) ts)
+        → Each (IsMultiple (greatest g) g.degrees fs e) ts
+        → Each (IsMultiple (greatest g) g.degrees fs (d + e)) (map (shifted x) ts)
     shift-each x d e X [] h = tt
     shift-each x d e X (t ∷ ts) h = (
       record {
         given = h.0.given;
         rest = d + h.0.rest;
-        monomial = monomial-joined (greatest g) g.degrees d h.0.rest (d + h.0.rest) x t.by X h.0.monomial refl (fits-variables g (joined x t.by) A);
+        monomial = monomial-joined (greatest g) g.degrees d h.0.rest (d + h.0.rest) x t.by X h.0.monomial refl
+            (fits-variables g (joined x t.by) A);
         degree_is = omega (arith, h.0.degree_is);
       },
       shift-each x d e X ts h.1,
     )
 
     over-each : (r : Polynomial) → IsOneOf r fs → IsOver (greatest g) g.degrees r.degree r.terms
-    over-each r o = (one-of-each (IsOverGenerators g) fs r (recursion_from_All (IsOverGenerators g) fs over) o).over
+    over-each r o =
+        (one-of-each (IsOverGenerators g) fs r (recursion_from_All (IsOverGenerators g) fs over) o).over
 
     product-in-ideal : (x n : List ℕ) (d e : ℕ) → IsMonomialOf g d x → IsMonomialOf g e n
-        → IsInIdeal (greatest g) g.degrees fs e (single n) → IsInIdeal (greatest g) g.degrees fs (d + e) (single (joined x n))
+        → IsInIdeal (greatest g) g.degrees fs e (single n)
+        → IsInIdeal (greatest g) g.degrees fs (d + e) (single (joined x n))
     product-in-ideal x n d e X N i = record {
       multiples = map (shifted x) i.multiples;
       each = shift-each x d e X i.multiples i.each;
       sum = subst (λ f. IsSame (greatest g) f (total (greatest g) g.degrees (map (shifted x) i.multiples)))
           (plain-multiple 1 x (record { scalar = 1; monomial = n }) [])
-          (subst (λ f. IsSame (greatest g) (multiple (greatest g) g.degrees 1 x (single n)) f) (shift-total x i.multiples)
-          (same-multiple (greatest g) g.degrees e x (single n) (total (greatest g) g.degrees i.multiples) (λ m. fits-variables g m A)
+          (subst (λ f. IsSame (greatest g) (multiple (greatest g) g.degrees 1 x (single n)) f)
+          (shift-total x i.multiples)
+          (same-multiple (greatest g) g.degrees e x (single n) (total (greatest g) g.degrees i.multiples)
+          (λ m. fits-variables g m A)
           (N, tt) (over-total (greatest g) g.degrees fs e over-each i.multiples i.each) i.sum));
     }
 
     all-next : (e : ℕ) → AllInIdeal g fs e → AllInIdeal g fs (suc e)
-    all-next e a m M = subst (λ m. IsInIdeal (greatest g) g.degrees fs (suc e * unit_degree g) (single m)) D.product
+    all-next e a m M = subst (λ m. IsInIdeal (greatest g) g.degrees fs (suc e * unit_degree g) (single m))
+        D.product
         (subst (λ d. IsInIdeal (greatest g) g.degrees fs d (single (joined D.by D.rest))) sum
         (product-in-ideal D.by D.rest (unit_degree g) (e * unit_degree g) X N (a D.rest N)))
       where
@@ -203,24 +228,34 @@ module _ (g : Generators) (A : AreVariables g) where
             let l = (low-degree (greatest g)).0 in omega (arith, M.degree_is, k, l, sum)
 
         D : Divided (unit_degree g) g.degrees m
-        D = divided (unit_degree g) g.degrees m (recursion_from_All (λ d. d ≡ unit_degree g) g.degrees A) M.within M.trimmed some
+        D = divided (unit_degree g) g.degrees m (recursion_from_All (λ d. d ≡ unit_degree g) g.degrees A)
+            M.within M.trimmed some
 
         X : IsMonomialOf g (unit_degree g) D.by
-        X = record { within = D.by_within; trimmed = D.by_trimmed; fitting = fits-variables g D.by A; degree_is = D.by_degree }
+        X =
+            record {
+              within = D.by_within;
+              trimmed = D.by_trimmed;
+              fitting = fits-variables g D.by A;
+              degree_is = D.by_degree;
+            }
 
         N : IsMonomialOf g (e * unit_degree g) D.rest
         N = record {
           within = D.rest_within;
           trimmed = D.rest_trimmed;
           fitting = fits-variables g D.rest A;
-          degree_is = let k : degree g.degrees (joined D.by D.rest) ≡ suc e * unit_degree g = ap (degree g.degrees) D.product ∙ M.degree_is in
+          degree_is = let k : degree g.degrees (joined D.by D.rest) ≡ suc e * unit_degree g =
+              ap (degree g.degrees) D.product ∙ M.degree_is in
               omega (arith, degree-joined g.degrees D.by D.rest, D.by_degree, k, sum);
         }
 
     pub all-later : (e k : ℕ) → AllInIdeal g fs e → AllInIdeal g fs (e + k)
     all-later e zero a = subst (AllInIdeal g fs) (let z : e ≡ e + 0 = omega arith in z) a
-    all-later e (suc k) a = subst (AllInIdeal g fs) (let z : suc (e + k) ≡ e + suc k = omega arith in z) (all-next (e + k) (all-later e k a))
+    all-later e (suc k) a = subst (AllInIdeal g fs) (let z : suc (e + k) ≡ e + suc k = omega arith in z)
+        (all-next (e + k) (all-later e k a))
 
     -- where all are in the ideal in one degree, they are in no later degree not
     pub none-before : (d e : ℕ) → d ≤ e → (AllInIdeal g fs e → ⊥) → AllInIdeal g fs d → ⊥
-    none-before d e l n a = n (subst (AllInIdeal g fs) (let z : d + (e - d) ≡ e = omega arith in z) (all-later d (e - d) a))
+    none-before d e l n a =
+        n (subst (AllInIdeal g fs) (let z : d + (e - d) ≡ e = omega arith in z) (all-later d (e - d) a))

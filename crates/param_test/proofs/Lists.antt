@@ -1,5 +1,5 @@
 -- Lists with one more element at the end.
-use Rattle.std.proofs.Common.{◌≡◌, ◌+◌, inl, inr, List, [], ◌∷◌, ◌++◌, length, refl, sym, subst, arith}
+use Rattle.std.proofs.Common.{◌≡◌, ℕ, zero, suc, ◌+◌, inl, inr, List, [], ◌∷◌, ◌++◌, length, take, refl, sym, subst, arith}
 use Rattle.std.specs.List.{AllByRecursion as Each}
 use Rattle.param_test.specs.Firsts.{IsOneOf, IsAscending}
 
@@ -16,7 +16,8 @@ each-one-of P [] y h o = absurd o
 each-one-of P (x ∷ xs) y h (inl e) = subst P (sym e) h.0
 each-one-of P (x ∷ xs) y h (inr o) = each-one-of P xs y h.1 o
 
-pub ascending-snoc : {X : Type 0} (B : X → X → Type 0) (xs : List X) (y : X) → IsAscending B xs → Each (λ x. B x y) xs → IsAscending B (xs ++ y ∷ [])
+pub ascending-snoc : {X : Type 0} (B : X → X → Type 0) (xs : List X) (y : X) → IsAscending B xs
+    → Each (λ x. B x y) xs → IsAscending B (xs ++ y ∷ [])
 ascending-snoc B [] y h b = (tt, tt)
 ascending-snoc B (x ∷ xs) y h b = (each-snoc (λ z. B x z) xs y h.0 b.0, ascending-snoc B xs y h.1 b.1)
 
@@ -32,3 +33,16 @@ one-of-last (x ∷ xs) y z e = inr (one-of-last xs y z e)
 pub length-snoc : {X : Type 0} (xs : List X) (y : X) → length (xs ++ y ∷ []) ≡ length xs + 1
 length-snoc [] y = refl
 length-snoc (x ∷ xs) y = let e : length (xs ++ y ∷ []) ≡ length xs + 1 = length-snoc xs y in omega arith
+
+pub each-both : {X : Type 0} (P Q : X → Type 0) (xs : List X) → Each P xs → Each Q xs → Each (λ x. P x × Q x) xs
+each-both P Q [] h k = tt
+each-both P Q (x ∷ xs) h k = ((h.0, k.0), each-both P Q xs h.1 k.1)
+
+pub each-take : {X : Type 0} (P : X → Type 0) (n : ℕ) (xs : List X) → Each P xs → Each P (take n xs)
+each-take P zero xs h = tt
+each-take P (suc n) [] h = tt
+each-take P (suc n) (x ∷ xs) h = (h.0, each-take P n xs h.1)
+
+pub each-last : {X : Type 0} (P : X → Type 0) (xs : List X) (y : X) → Each P (xs ++ y ∷ []) → P y
+each-last P [] y h = h.0
+each-last P (x ∷ xs) y h = each-last P xs y h.1

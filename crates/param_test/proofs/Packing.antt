@@ -24,10 +24,13 @@ written-more p ys i v r s l e n w = subst (IsWritten p ys (i + 1)) (sym n) (reco
     go : (k : ℕ) → k < i + 1 → (k ≡ i) ⊎ (k ≢ i) → get_or (slice_set r.entries i v) k 0 ≡ get_or ys k 0
     go k b (inl z) = subst (λ k. get_or (slice_set r.entries i v) k 0 ≡ get_or ys k 0) (sym z)
         (get_or-set_same r.entries i v 0 (omega (arith, w.size, l)) ∙ e)
-    go k b (inr z) = get_or-set_other r.entries i k v 0 z ∙ w.entries k (let c : k < i = grind (arith, b, z) in c)
+    go k b (inr z) = get_or-set_other r.entries i k v 0 z
+        ∙ w.entries k (let c : k < i = grind (arith, b, z) in c)
 
-pub written-all : (p : ℕ) (ys : List ℕ) (i : ℕ) (r : RowValue) → i ≡ length ys → IsWritten p ys i r → r ≡ record { p = p; entries = ys }
-written-all p ys i r e w = value w.prime (ext_get_or 0 r.entries ys w.size (λ k l. w.entries k (omega (arith, l, w.size, e))))
+pub written-all : (p : ℕ) (ys : List ℕ) (i : ℕ) (r : RowValue) → i ≡ length ys → IsWritten p ys i r
+    → r ≡ record { p = p; entries = ys }
+written-all p ys i r e w =
+    value w.prime (ext_get_or 0 r.entries ys w.size (λ k l. w.entries k (omega (arith, l, w.size, e))))
   where
     value : {a : ℕ} {xs : List ℕ} → r.p ≡ a → r.entries ≡ xs → r ≡ record { p = a; entries = xs }
     value u v = rw (← u, ← v) refl
@@ -35,7 +38,8 @@ written-all p ys i r e w = value w.prime (ext_get_or 0 r.entries ys w.size (λ k
 pub below-at : (p : ℕ) (ys : List ℕ) (i : ℕ) → Each (λ x. x < p) ys → i < length ys → get_or ys i 0 < p
 below-at p ys i h l = All-from_recursion (λ (x : ℕ). x < p) ys h i 0 l
 
-pub written-start : (p : ℕ) (ys : List ℕ) (r : RowValue) → r ≡ record { p = p; entries = replicate (length ys) 0 } → IsWritten p ys 0 r
+pub written-start : (p : ℕ) (ys : List ℕ) (r : RowValue)
+    → r ≡ record { p = p; entries = replicate (length ys) 0 } → IsWritten p ys 0 r
 written-start p ys r e = subst (IsWritten p ys 0) (sym e) (record {
   prime = refl;
   size = length-replicate (length ys) 0;

@@ -34,12 +34,14 @@ less-after [] v w h = h
 less-after (x ∷ pre) v w h = inr (refl, less-after pre v w h)
 
 -- what is before pre ++ w is before pre or begins with it
-pub less-split : (y pre w : List ℕ) → IsLess y (pre ++ w) → IsLess y pre ⊎ ((v : List ℕ) × (y ≡ pre ++ v) × IsLess v w)
+pub less-split : (y pre w : List ℕ) → IsLess y (pre ++ w)
+    → IsLess y pre ⊎ ((v : List ℕ) × (y ≡ pre ++ v) × IsLess v w)
 less-split y [] w h = inr (y, refl, h)
 less-split [] (x ∷ pre) w h = absurd h
 less-split (z ∷ y) (x ∷ pre) w (inl h) = inl (inl h)
 less-split (z ∷ y) (x ∷ pre) w (inr h) =
-    elim (less-split y pre w h.1) as (λ _. IsLess (z ∷ y) (x ∷ pre) ⊎ ((v : List ℕ) × (z ∷ y ≡ x ∷ (pre ++ v)) × IsLess v w)) [
+    elim (less-split y pre w h.1) as
+    (λ _. IsLess (z ∷ y) (x ∷ pre) ⊎ ((v : List ℕ) × (z ∷ y ≡ x ∷ (pre ++ v)) × IsLess v w)) [
       | inl k ↦ inl (inr (h.0, k))
       | inr k ↦ let e : z ≡ x = h.0 in let f : y ≡ pre ++ k.0 = k.1 in inr (k.0, cc, k.2)
     ]

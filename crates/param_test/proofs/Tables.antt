@@ -9,8 +9,10 @@ use Rattle.gc_poly.specs.Generators.{Generators}
 use Rattle.param_test.specs.Tables.{CandidateValue, degrees_of, AreRestrictions, AreCandidatesOver}
 use Rattle.param_test.specs.Tuples.{AreByDegree}
 
-pub candidates-more : (gs : List Generators) (cs new : List CandidateValue) (c : CandidateValue) → AreCandidatesOver gs cs → length cs < 4294967295 → c.degree ≤ 24
-    → All (λ b. b.degree ≤ c.degree) cs → AreRestrictions gs c.degree c.images → new ≡ cs ++ c ∷ [] → AreCandidatesOver gs new
+pub candidates-more : (gs : List Generators) (cs new : List CandidateValue) (c : CandidateValue)
+    → AreCandidatesOver gs cs → length cs < 4294967295 → c.degree ≤ 24
+    → All (λ b. b.degree ≤ c.degree) cs → AreRestrictions gs c.degree c.images → new ≡ cs ++ c ∷ []
+    → AreCandidatesOver gs new
 candidates-more gs cs new c h few low order restrictions e = subst (AreCandidatesOver gs) (sym e) (record {
   few = let l = length-append cs (c ∷ []) in omega (arith, l);
   low = All-push (λ b. b.degree ≤ 24) cs c h.low low;
@@ -19,22 +21,26 @@ candidates-more gs cs new c h few low order restrictions e = subst (AreCandidate
 })
 
 -- the degrees of the candidates
-module _ (gs : List Generators) (cs : List CandidateValue) (h : AreCandidatesOver gs cs) (ds : List ℕ) (e : ds ≡ degrees_of cs) where
+module _ (gs : List Generators) (cs : List CandidateValue) (h : AreCandidatesOver gs cs) (ds : List ℕ)
+    (e : ds ≡ degrees_of cs) where
   pub degrees-length : length ds ≡ length cs
   degrees-length = ap length e ∙ length-map cs (λ c. c.degree)
 
   none : CandidateValue
   none = record { degree = 0; images = [] }
 
-  degree-at : (i : ℕ) → i < length cs → get_or ds i 0 ≡ (get_or cs i (record { degree = 0; images = [] })).degree
-  degree-at i l = ap (λ ds. get_or ds i 0) e ∙ get_or-map (λ c. c.degree) cs i (record { degree = 0; images = [] }) 0 l
+  degree-at : (i : ℕ) → i < length cs
+      → get_or ds i 0 ≡ (get_or cs i (record { degree = 0; images = [] })).degree
+  degree-at i l = ap (λ ds. get_or ds i 0) e
+      ∙ get_or-map (λ c. c.degree) cs i (record { degree = 0; images = [] }) 0 l
 
   pub degrees-small : (i : ℕ) → slice_index ds i ≤ 24
   degrees-small i = go (cases_lt i (length ds))
     where
       go : (i < length ds) ⊎ (length ds ≤ i) → slice_index ds i ≤ 24
       go (inl l) = let k : i < length cs = omega (arith, l, degrees-length) in
-          let d = degree-at i k in let b = h.low i (record { degree = 0; images = [] }) k in omega (arith, d, b)
+          let d = degree-at i k in let b = h.low i (record { degree = 0; images = [] }) k in
+          omega (arith, d, b)
       go (inr l) = let z = get_or_past ds i 0 l in omega (arith, z)
 
   pub degrees-ordered : AreByDegree ds
@@ -49,5 +55,6 @@ module _ (gs : List Generators) (cs : List CandidateValue) (h : AreCandidatesOve
           let p = h.order i j (record { degree = 0; images = [] }) m k in
           omega (arith, degree-at i n, degree-at j k, p)
 
-pub all-candidates : (cs : List CandidateValue) (ds t : List ℕ) → ds ≡ degrees_of cs → All (λ i. i < length ds) t → All (λ i. i < length cs) t
+pub all-candidates : (cs : List CandidateValue) (ds t : List ℕ) → ds ≡ degrees_of cs
+    → All (λ i. i < length ds) t → All (λ i. i < length cs) t
 all-candidates cs ds t e h = subst (λ n. All (λ i. i < n) t) (ap length e ∙ length-map cs (λ c. c.degree)) h

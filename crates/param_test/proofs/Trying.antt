@@ -7,7 +7,8 @@ use Rattle.param_test.proofs.Numbers.{number-zero, number-one}
 pub few-none : (s d : ℕ) → d < 1 → number s d ≤ 1500
 few-none s d l = let z : d ≡ 0 = omega arith in rw (z, number-zero s) (omega arith)
 
-pub few-more : (s e n : ℕ) → n ≡ number s e → n ≤ 1500 → ((d : ℕ) → d < e → number s d ≤ 1500) → (d : ℕ) → d < e + 1 → number s d ≤ 1500
+pub few-more : (s e n : ℕ) → n ≡ number s e → n ≤ 1500 → ((d : ℕ) → d < e → number s d ≤ 1500) → (d : ℕ)
+    → d < e + 1 → number s d ≤ 1500
 few-more s e n k l h d b = go (cases_lt d e)
   where
     go : (d < e) ⊎ (e ≤ d) → number s d ≤ 1500

@@ -68,7 +68,8 @@ rest y = drop 1 (coefficients y)
 -- the combinations before (a, c) are listed
 pub record IsListed (p n : ℕ) (tried : List (List ℕ)) (a c : List ℕ) : Type 0 where
   pub sparse : IsSparse p n a c
-  pub walked : IsWalked (IsCombination p n) IsBefore (λ _. ⊥) (λ y. IsCombination p n y × Precedes (places y) (rest y) a c) tried
+  pub walked : IsWalked (IsCombination p n) IsBefore (λ _. ⊥)
+      (λ y. IsCombination p n y × Precedes (places y) (rest y) a c) tried
 
 -- the first i entries of the row with the positions a and the coefficients 1 ∷ c, next of which are not 0
 pub record IsSpread (n : ℕ) (a c : List ℕ) (i next : ℕ) (r : List ℕ) : Type 0 where

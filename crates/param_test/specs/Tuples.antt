@@ -16,7 +16,8 @@ total degrees t = sum_by (λ k. slice_index degrees k) t
 
 -- by total degree, then place by place
 abbrev pub IsBefore : List ℕ → List ℕ → List ℕ → Type 0
-IsBefore degrees a b = (total degrees a < total degrees b) ⊎ ((total degrees a ≡ total degrees b) × IsLess a b)
+IsBefore degrees a b = (total degrees a < total degrees b)
+    ⊎ ((total degrees a ≡ total degrees b) × IsLess a b)
 
 -- the candidates do not descend in degree
 abbrev pub AreByDegree : List ℕ → Type 0

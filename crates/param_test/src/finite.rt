@@ -12,9 +12,10 @@ use gc_poly::{Gens, Polys};
 use group_table::Memory;
 use std::alloc::Global;
 
-/// Whether the variables among the generators, those of degree 1 for p = 2 and of degree 2 for odd p, generate
-/// a finite ring modulo the polynomials: in which number of factors all monomials lie in the ideal of what is
-/// left of the polynomials without the terms in other generators. The polynomials are of degree at most 24.
+/// Whether the variables among the generators, those of degree 1 for p = 2 and of degree 2 for odd p,
+/// generate a finite ring modulo the polynomials: in which number of factors all monomials lie in the ideal
+/// of what is left of the polynomials without the terms in other generators. The polynomials are of degree at
+/// most 24.
 pub fn finite_on(alloc: Global, gens: &Gens, fs: &Polys) -> Result<Finite, Memory>
     requires over { All (IsOverGenerators gens.now) fs.now }
     requires low { All (λ f. f.degree ≤ GREATEST_DEGREE) fs.now }

@@ -10,7 +10,8 @@ use gc_poly::{Gens, Mono, Monos};
 use group_table::Memory;
 use std::alloc::Global;
 
-// Adds to the found the monomials of degree `rest` in the variables from i on, each behind the exponents that are chosen for those before.
+// Adds to the found the monomials of degree `rest` in the variables from i on, each behind the exponents that
+// are chosen for those before.
 fn find_monomials(
     alloc: Global,
     ring: &Gens,
@@ -24,7 +25,8 @@ fn find_monomials(
     requires small { rest ≤ 255 }
     requires trimmed { rest ≡ 0 → IsTrimmed chosen.old.items }
     ensures found { OnOk result (found.new.items
-        ≡ found.old.items ++ map (λ m. chosen.old.items ++ m) (all_monomials (greatest ring.now) (drop i ring.now.degrees) rest)) }
+        ≡ found.old.items ++ map (λ m. chosen.old.items ++ m)
+        (all_monomials (greatest ring.now) (drop i ring.now.degrees) rest)) }
     ensures chosen { OnOk result (chosen.new.items ≡ chosen.old.items) }
     ensures ordered { AreOrdered ring.now.degrees }
 {

@@ -97,7 +97,8 @@ fn lengthen(a: &mut Vec<usize>) -> Result<(), Memory>
 pub(crate) fn advance(p: u8, n: usize, a: &mut Vec<usize>, c: &mut Vec<u8>) -> Result<bool, Memory>
     requires prime { 1 < p }
     requires sparse { IsSparse p n a.old.items c.old.items }
-    ensures successor { IfOk result (λ b. b ≡ true → IsSuccessor p n a.old.items c.old.items a.new.items c.new.items) }
+    ensures successor { IfOk result (λ b. b ≡ true
+        → IsSuccessor p n a.old.items c.old.items a.new.items c.new.items) }
     ensures last { IfOk result (λ b. b ≡ false → IsEnd p n a.old.items c.old.items) }
 {
     if turn(p, c) {

@@ -67,7 +67,8 @@ impl ParamTable {
     pub fn add_subgroup(&mut self, gens: Gens) -> Result<(), Memory>
         requires prime { gens.prime ≡ self.old.prime }
         requires before { self.old.candidates ≡ [] }
-        ensures ok { OnOk result (self.new ≡ record self.old { subgroups = self.old.subgroups ++ gens ∷ [] }) }
+        ensures ok { OnOk result (self.new
+            ≡ record self.old { subgroups = self.old.subgroups ++ gens ∷ [] }) }
         ensures err { OnErr result (self.new ≡ self.old) }
     {
         self.subgroups.push(gens)?;

@@ -15,7 +15,9 @@ set-requires-clause-below c =
     omega (arith, l, c.loop-i.invariant.prime)
 
 pub loop-i-preserved : goal.loop-i-preserved
-loop-i-preserved c = written-more (prime_value c.args.p) c.args.entries.now c.loop-i.i _ c.loop-i.row c.set.new.self (omega arith) refl c.set.ensures c.loop-i.invariant
+loop-i-preserved c = written-more (prime_value c.args.p) c.args.entries.now c.loop-i.i _ c.loop-i.row
+    c.set.new.self (omega arith) refl c.set.ensures c.loop-i.invariant
 
 pub returns : goal.returns
-returns c = written-all (prime_value c.args.p) c.args.entries.now c.loop-i.i c.loop-i.row (omega arith) c.loop-i.invariant
+returns c = written-all (prime_value c.args.p) c.args.entries.now c.loop-i.i c.loop-i.row (omega arith)
+    c.loop-i.invariant

@@ -8,6 +8,7 @@ loop-below-preserved c = record {
   high = c.loop-below.invariant.high;
   all = c.loop-below.invariant.all;
   before = λ (d : ℕ) low l.
-      none-before c.args.ring.now c.requires.variables c.args.fs.now c.requires.over d ((c.loop-below.below + c.loop-below.least) / 2) l
+      none-before c.args.ring.now c.requires.variables c.args.fs.now c.requires.over d
+      ((c.loop-below.below + c.loop-below.least) / 2) l
       (c.in_ok-all_in_ideal.ensures.no c.if-branch.false);
 }

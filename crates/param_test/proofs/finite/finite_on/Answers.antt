@@ -10,17 +10,22 @@ use Rattle.param_test.proofs.finite.finite_on.Goals as goal
 
 pub returns-then-variables-gt1500 : goal.returns-then-variables-gt1500
 returns-then-variables-gt1500 c =
-    many-variables (variables c.args.gens.now) (all_kept c.args.gens.now c.args.fs.now) (last_degree (variables c.args.gens.now) (all_kept c.args.gens.now c.args.fs.now))
-    c.count_variables-variables.result (variables-are c.args.gens.now) (omega arith) c.count_variables-variables.ensures c.if-variables-gt1500.true
+    many-variables (variables c.args.gens.now) (all_kept c.args.gens.now c.args.fs.now)
+    (last_degree (variables c.args.gens.now) (all_kept c.args.gens.now c.args.fs.now))
+    c.count_variables-variables.result (variables-are c.args.gens.now) (omega arith)
+    c.count_variables-variables.ensures c.if-variables-gt1500.true
 
 pub finite_in-requires-clause-variables : goal.finite_in-requires-clause-variables
-finite_in-requires-clause-variables c = subst AreVariables (sym c.in_ok-ring.ensures) (variables-are c.args.gens.now)
+finite_in-requires-clause-variables c =
+    subst AreVariables (sym c.in_ok-ring.ensures) (variables-are c.args.gens.now)
 
 pub finite_in-requires-clause-over : goal.finite_in-requires-clause-over
 finite_in-requires-clause-over c =
     subst (λ g. All (IsOverGenerators g) c.in_ok-kept.kept) (sym c.in_ok-ring.ensures)
-    (subst (All (IsOverGenerators (variables c.args.gens.now))) (sym c.in_ok-kept.ensures) (all-kept-over c.args.gens.now c.args.fs.now c.requires.over))
+    (subst (All (IsOverGenerators (variables c.args.gens.now))) (sym c.in_ok-kept.ensures)
+    (all-kept-over c.args.gens.now c.args.fs.now c.requires.over))
 
 pub finite_in-requires-clause-low : goal.finite_in-requires-clause-low
 finite_in-requires-clause-low c =
-    subst (All (λ f. f.degree ≤ 24)) (sym c.in_ok-kept.ensures) (all-kept-low c.args.gens.now c.args.fs.now c.requires.low)
+    subst (All (λ f. f.degree ≤ 24)) (sym c.in_ok-kept.ensures)
+    (all-kept-low c.args.gens.now c.args.fs.now c.requires.low)

@@ -12,6 +12,9 @@ abbrev pub invariant-loop-exponent : goal.invariant-loop-exponent
 invariant-loop-exponent l = record {
   few : l.exponent ≤ 256;
   chosen : l.chosen.items ≡ l.initial.chosen.items;
-  found : l.found.items ++ behind l.initial.chosen.items (remaining (λ r. all_monomials (greatest l.ring) (drop (l.i + 1) l.ring.degrees) r) l.degree l.rest l.exponent)
-      ≡ l.initial.found.items ++ behind l.initial.chosen.items (all_monomials (greatest l.ring) (drop l.i l.ring.degrees) l.rest);
+  found : l.found.items ++ behind l.initial.chosen.items
+      (remaining (λ r. all_monomials (greatest l.ring) (drop (l.i + 1) l.ring.degrees) r) l.degree l.rest
+      l.exponent)
+      ≡ l.initial.found.items ++ behind l.initial.chosen.items
+      (all_monomials (greatest l.ring) (drop l.i l.ring.degrees) l.rest);
 }

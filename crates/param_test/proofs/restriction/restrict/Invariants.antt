@@ -1,5 +1,5 @@
 use Rattle.gc_poly.specs.Generators.{greatest}
-use Rattle.param_test.proofs.Keeping.{IsTaken}
+use Rattle.param_test.proofs.Taking.{IsTaken}
 use Rattle.param_test.proofs.restriction.restrict.Given as goal
 
 abbrev pub invariant-loop-i : goal.invariant-loop-i

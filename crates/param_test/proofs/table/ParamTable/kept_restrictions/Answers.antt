@@ -8,8 +8,10 @@ use Rattle.param_test.proofs.table.ParamTable.kept_restrictions.Goals as goal
 
 pub loop-k-preserved : goal.loop-k-preserved
 loop-k-preserved c = record {
-  kept = restricted-more c.args.gens.now (restriction c.args.self.now c.args.j) c.args.tuple.now c.loop-k.k-index c.restriction.result.now c.in_ok-keep.field-0
-      c.loop-k.kept c.push.new.self (omega arith) c.restriction.ensures.value c.in_ok-keep.ensures c.loop-k.invariant.kept c.in_ok-push.ensures.ok;
+  kept = restricted-more c.args.gens.now (restriction c.args.self.now c.args.j) c.args.tuple.now
+      c.loop-k.k-index c.restriction.result.now c.in_ok-keep.field-0
+      c.loop-k.kept c.push.new.self (omega arith) c.restriction.ensures.value c.in_ok-keep.ensures
+      c.loop-k.invariant.kept c.in_ok-push.ensures.ok;
   over = subst (All (IsOverGenerators c.args.ring.now)) (sym c.in_ok-push.ensures.ok)
       (All-push (IsOverGenerators c.args.ring.now) c.loop-k.kept c.in_ok-keep.field-0 c.loop-k.invariant.over
       (over-kept c.args.gens.now c.args.ring.now c.restriction.result.now c.in_ok-keep.field-0 c.requires.ring

@@ -6,4 +6,5 @@ use Rattle.param_test.proofs.table.ParamTable.passes.Given as goal
 
 -- the restrictions to the first subgroups are finite
 abbrev pub invariant-loop-j : goal.invariant-loop-j
-invariant-loop-j l = (i : ℕ) (g : Generators) → i < l.j → slice_get l.self.subgroups i ≡ Some g → IsFinite g (map (restriction l.self i) l.tuple)
+invariant-loop-j l = (i : ℕ) (g : Generators) → i < l.j → slice_get l.self.subgroups i ≡ Some g
+    → IsFinite g (map (restriction l.self i) l.tuple)
