@@ -56,7 +56,7 @@ fn fit_order(presentation: &Presentation) -> Result<(), Stop<'static>>
 }
 
 // The presentation, where no consistency test is false.
-fn test(alloc: Global, presentation: Presentation) -> Result<Consistent, Stop<'static>>
+fn pass_tests(alloc: Global, presentation: Presentation) -> Result<Consistent, Stop<'static>>
     requires { order presentation ≤ GREATEST_ORDER }
     ensures { Settles (λ c. c) (Test presentation) result }
 {
@@ -72,7 +72,7 @@ pub fn accept(alloc: Global, presentation: Presentation) -> Result<Consistent, S
     ensures { Settles (λ c. c) (Accept presentation) result }
 {
     fit_order(&presentation)?;
-    test(alloc, presentation)
+    pass_tests(alloc, presentation)
 }
 
 /// The consistent presentation of a file, with which each command on a file begins.

@@ -4,7 +4,7 @@ use Rattle.std.proofs.lemmas.Bool.Decides.{nat_tests}
 use Rattle.power_commutator.specs.Presentations.{identity, range}
 use Rattle.power_commutator.proofs.Cyclic.{less-or}
 use Rattle.pc_group.specs.Parts.{elementary_abelian}
-use Rattle.pc_group.proofs.Making.{identity-replicate}
+use Rattle.pc_group.proofs.MadeParts.{identity-replicate}
 use Rattle.pc_text.specs.declared.place.Place.{Place}
 use Rattle.pc_text.specs.declared.place.Place.TheVariants.{Power, Commutator}
 use Rattle.pc_text.specs.Relations.{Relation, same_place, stands}

@@ -6,7 +6,7 @@ use Rattle.std.proofs.lemmas.Bool.Decides.{nat_tests}
 use Rattle.std.proofs.lemmas.List.Elements.{All-set, All-append, All-nil, All-cons}
 use Rattle.limits.specs.declared.TheConstants.{MOST_GENERATORS}
 use Rattle.power_commutator.specs.Presentations.{IsWord}
-use Rattle.pc_group.proofs.Making.{identity-replicate, identity-word}
+use Rattle.pc_group.proofs.MadeParts.{identity-replicate, identity-word}
 use Rattle.pc_text.specs.declared.fault.Kind.TheVariants as kind
 use Rattle.pc_text.specs.declared.place.Place.{Place}
 use Rattle.pc_text.specs.declared.place.Place.TheVariants.{Power, Commutator}

@@ -14,15 +14,15 @@ use Rattle.pc_text.proofs.Given.{one_more, no_relations}
 
 -- the presentation has the words of the first i relations, and the left sides of the others are new
 pub record Made (c : program_text.Content) (i : ℕ) (made : Presentation) : Type 0 where
-  pub is : made ≡ with_relations (prime_value c.frame.prime) c.frame.gens
+  pub is : made ≡ with_relations (prime_value c.generators.prime) c.generators.gens
       (all_shown (take i c.relations.items))
   pub new : AreNew (all_shown (take i c.relations.items)) (all_shown (drop i c.relations.items))
 
 pub made_start : (c : program_text.Content) (made : Presentation) → IsContent (shown_content c)
-    → made ≡ elementary_abelian (prime_value c.frame.prime) c.frame.gens → Made c 0 made
+    → made ≡ elementary_abelian (prime_value c.generators.prime) c.generators.gens → Made c 0 made
 made_start c made good e = record {
   is = e
-      ∙ no_relations (prime_value c.frame.prime) c.frame.gens;
+      ∙ no_relations (prime_value c.generators.prime) c.generators.gens;
   new = good.once;
 }
 
@@ -45,7 +45,7 @@ made_relation c i made x good so lt at =
     let entry : get_or (all_shown c.relations.items) i (shown x) ≡ shown x =
     get_or-map shown c.relations.items i x (shown x) lt ∙ ap shown at in
     subst (λ P. IsRelation P.prime P.gens (shown x)) (sym so.is)
-    (subst (IsRelation (prime_value c.frame.prime) c.frame.gens) entry
+    (subst (IsRelation (prime_value c.generators.prime) c.generators.gens) entry
     (good.relations i (shown x) within))
 
 made_next : (c : program_text.Content) (i : ℕ) (made next : Presentation) (x : program.Relation)
@@ -53,8 +53,8 @@ made_next : (c : program_text.Content) (i : ℕ) (made next : Presentation) (x :
     → i < length c.relations.items → get_or c.relations.items i x ≡ x → next ≡ with_relation made (shown x)
     → Made c (i + 1) next
 made_next c i made next x good so lt at e =
-    let p = prime_value c.frame.prime in
-    let n = c.frame.gens in
+    let p = prime_value c.generators.prime in
+    let n = c.generators.gens in
     let done = all_shown (take i c.relations.items) in
     let left : AreNew done (shown x ∷ all_shown (drop (i + 1) c.relations.items)) =
     subst (AreNew done) (back c.relations.items i x lt at) so.new in
@@ -84,5 +84,5 @@ next_made c xs i made next x good so e lt is set =
 pub made_end : (c : program_text.Content) (i : ℕ) (made : Presentation) → Made c i made
     → length c.relations.items ≤ i → made ≡ presentation_of (shown_content c)
 made_end c i made so le =
-    so.is ∙ ap (λ xs. with_relations (prime_value c.frame.prime) c.frame.gens (all_shown xs))
+    so.is ∙ ap (λ xs. with_relations (prime_value c.generators.prime) c.generators.gens (all_shown xs))
     (take_all i c.relations.items le)

@@ -1,5 +1,5 @@
 -- What a text of the grammar stands for is a presentation.
-use Rattle.std.proofs.Common.{◌≡◌, ◌⊎◌, inl, inr, ℕ, zero, suc, ◌+◌, ◌-◌, ◌<◌, ◌≤◌, ◌==◌, ◌||◌, Bool, true, false, cond, List, [], ◌∷◌, map, length, get_or, refl, sym, ◌∙◌, ap, subst, arith}
+use Rattle.std.proofs.Common.{◌≡◌, ◌⊎◌, inl, inr, ℕ, zero, suc, ◌-◌, ◌<◌, ◌≤◌, ◌==◌, ◌||◌, Bool, true, false, cond, List, [], ◌∷◌, map, length, get_or, refl, sym, ◌∙◌, ap, subst, arith}
 use Rattle.std.specs.Prelude.{Ok, None, Option, Some}
 use Rattle.std.proofs.lemmas.Bool.Decides.{nat_tests}
 use Rattle.std.specs.List.{AllByRecursion as Each}
@@ -7,13 +7,13 @@ use Rattle.std.proofs.lemmas.List.{length-map}
 use Rattle.std.proofs.lemmas.List.Elements.{recursion_from_All}
 use Rattle.limits.specs.declared.TheConstants.{MOST_GENERATORS}
 use Rattle.power_commutator.specs.Presentations.{Presentation, IsPresentation, IsWord, range}
-use Rattle.pc_group.proofs.Making.{identity-replicate, identity-word}
+use Rattle.pc_group.proofs.MadeParts.{identity-replicate, identity-word}
 use Rattle.pc_text.specs.declared.place.Place.{Place}
 use Rattle.pc_text.specs.declared.place.Place.TheVariants.{Power, Commutator}
-use Rattle.pc_text.specs.FromRelations.{word_given, powers_given, commutators_given, with_relations}
+use Rattle.pc_text.specs.FromRelations.{word_given, commutators_given, with_relations}
 use Rattle.pc_text.specs.Relations.{Relation, least, same_place}
-use Rattle.pc_text.specs.Rules.{IsRelation, IsContent}
-use Rattle.pc_text.specs.Texts.{Content, content, presentation_of, prime, read}
+use Rattle.pc_text.specs.Rules.{IsRelation}
+use Rattle.pc_text.specs.Texts.{content, presentation_of, prime, read}
 use Rattle.pc_text.proofs.Given.{get_range}
 use Rattle.pc_text.proofs.Kept.{content_kept}
 use Rattle.pc_text.proofs.PlaceLemmas.{same_is}

@@ -11,7 +11,7 @@ use Rattle.limits.specs.declared.TheConstants.{MOST_GENERATORS}
 use Rattle.group_table.specs.declared.Prime.{Prime}
 use Rattle.group_table.specs.Prime.{prime_value}
 use Rattle.power_commutator.specs.Presentations.{Presentation, IsPresentation, range}
-use Rattle.pc_group.proofs.Making.{range-next}
+use Rattle.pc_group.proofs.MadeParts.{range-next}
 use Rattle.pc_text.specs.declared.place.Place.{Place}
 use Rattle.pc_text.specs.Relations.{Relation}
 use Rattle.pc_text.specs.Texts.{prime, read}

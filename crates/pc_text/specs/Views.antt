@@ -11,7 +11,7 @@ use Rattle.pc_text.specs.declared.relations.Shape.{Shape}
 use Rattle.pc_text.specs.declared.relations.Relation.{Relation}
 use Rattle.pc_text.specs.Relations as table
 use Rattle.pc_text.specs.Lines.{lines_from}
-use Rattle.pc_text.specs.declared.frame.Frame.{Frame}
+use Rattle.pc_text.specs.declared.generators.Generators.{Generators}
 use Rattle.group_table.specs.Prime.{prime_value}
 use Rattle.pc_text.specs.Words.{Naming, by_number}
 use Rattle.pc_text.specs.declared.texts.Content.{Content}
@@ -43,8 +43,8 @@ TextGives view (Ok x) read = read ≡ Ok (view x)
 TextGives view (Err e) read = TextFails e read
 
 -- the generators `g1` to `gn` over the prime of the first lines
-abbrev pub names_of : Frame → Naming
-names_of frame = by_number (prime_value frame.prime) frame.gens
+abbrev pub names_of : Generators → Naming
+names_of generators = by_number (prime_value generators.prime) generators.gens
 
 abbrev pub shown_left : Left → table.Left
 shown_left (left.Power a digits) = table.PowerOf a.now digits.now
@@ -70,8 +70,8 @@ all_shown rs = map shown rs
 
 abbrev pub shown_content : Content → texts.Content
 shown_content c = record {
-  prime = prime_value c.frame.prime;
-  gens = c.frame.gens;
+  prime = prime_value c.generators.prime;
+  gens = c.generators.gens;
   relations = all_shown c.relations.items;
 }
 

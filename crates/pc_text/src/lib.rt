@@ -4,7 +4,7 @@
 
 mod cuts;
 mod fault;
-mod frame;
+mod generators;
 mod laws;
 mod names;
 mod numerals;

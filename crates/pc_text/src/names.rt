@@ -5,7 +5,7 @@ ghost use Rattle.pc_text.specs.Words.{is_g_name, g_generator, factor, above};
 ghost use Rattle.pc_text.specs.Views.{names_of};
 
 use crate::cuts::cut;
-use crate::frame::Frame;
+use crate::generators::Generators;
 use crate::numerals::{is_digits, numeral};
 use limits::MOST_GENERATORS;
 
@@ -32,26 +32,26 @@ pub fn generator(gens: u32, bytes: &[u8]) -> Option<u32>
 }
 
 /// A factor: a generator and its exponent.
-fn factor(frame: Frame, piece: &[u8]) -> Option<(u32, u32)>
-    ensures factor { result ≡ factor (names_of frame) piece.now }
-    ensures range { IfSome result (λ f. (0 < f.0) × (f.0 ≤ frame.gens) × (f.1 < 100)) }
+fn factor(generators: Generators, piece: &[u8]) -> Option<(u32, u32)>
+    ensures factor { result ≡ factor (names_of generators) piece.now }
+    ensures range { IfSome result (λ f. (0 < f.0) × (f.0 ≤ generators.gens) × (f.1 < 100)) }
 {
     match cut(piece, b'^') {
         Some((name, digits)) => {
-            let k = generator(frame.gens, name)?;
-            let e = numeral(2, frame.p() - 1, digits)?;
+            let k = generator(generators.gens, name)?;
+            let e = numeral(2, generators.p() - 1, digits)?;
             Some((k, e))
         }
-        None => Some((generator(frame.gens, piece)?, 1)),
+        None => Some((generator(generators.gens, piece)?, 1)),
     }
 }
 
 /// A factor whose generator comes after this one.
-pub fn factor_above(frame: Frame, least: u32, piece: &[u8]) -> Option<(u32, u32)>
-    ensures factor { result ≡ above least (factor (names_of frame) piece.now) }
-    ensures range { IfSome result (λ f. (0 < f.0) × (f.0 ≤ frame.gens) × (f.1 < 100)) }
+pub fn factor_above(generators: Generators, least: u32, piece: &[u8]) -> Option<(u32, u32)>
+    ensures factor { result ≡ above least (factor (names_of generators) piece.now) }
+    ensures range { IfSome result (λ f. (0 < f.0) × (f.0 ≤ generators.gens) × (f.1 < 100)) }
 {
-    match factor(frame, piece) {
+    match factor(generators, piece) {
         Some((k, e)) if least < k => Some((k, e)),
         _ => None,
     }

@@ -37,7 +37,7 @@ fn presentation(alloc: Global, content: &Content) -> Result<Presentation, Memory
     requires { IsContent (shown_content content.now) }
     ensures { IfOk result (λ p. p ≡ presentation_of (shown_content content.now)) }
 {
-    let mut made = Presentation::new(alloc, content.frame.prime, content.frame.gens)?;
+    let mut made = Presentation::new(alloc, content.generators.prime, content.generators.gens)?;
     for relation in &content.relations {
         set_word(alloc, &mut made, relation)?;
     }

@@ -7,7 +7,7 @@ ghost use Rattle.pc_text.specs.Views.{names_of, LineGives, shown_left, shown_sha
 
 use crate::cuts::{cut, strip};
 use crate::fault::{Kind, LineFault, LineStop};
-use crate::frame::Frame;
+use crate::generators::Generators;
 use crate::names::{generator, is_name};
 use crate::numerals::{is_digits, numeral};
 use crate::place::Place;
@@ -36,8 +36,8 @@ pub struct Relation {
     pub word: Vec<u8>,
 }
 
-fn power_shape(frame: Frame, bytes: &[u8]) -> Option<Left<'_>>
-    ensures shape { option_map shown_left result ≡ power_shape (names_of frame) bytes.now }
+fn power_shape(generators: Generators, bytes: &[u8]) -> Option<Left<'_>>
+    ensures shape { option_map shown_left result ≡ power_shape (names_of generators) bytes.now }
     ensures len { IfSome result (λ s. name_len s ≤ length bytes.now) }
 {
     let (name, digits) = cut(bytes, b'^')?;
@@ -48,8 +48,8 @@ fn power_shape(frame: Frame, bytes: &[u8]) -> Option<Left<'_>>
     }
 }
 
-fn commutator_shape(frame: Frame, bytes: &[u8]) -> Option<Left<'_>>
-    ensures shape { option_map shown_left result ≡ commutator_shape (names_of frame) bytes.now }
+fn commutator_shape(generators: Generators, bytes: &[u8]) -> Option<Left<'_>>
+    ensures shape { option_map shown_left result ≡ commutator_shape (names_of generators) bytes.now }
     ensures len { IfSome result (λ s. name_len s ≤ length bytes.now) }
 {
     let (second, rest) = cut(bytes, b',')?;
@@ -61,24 +61,24 @@ fn commutator_shape(frame: Frame, bytes: &[u8]) -> Option<Left<'_>>
     }
 }
 
-fn left_shape(frame: Frame, bytes: &[u8]) -> Option<Left<'_>>
-    ensures shape { option_map shown_left result ≡ left_shape (names_of frame) bytes.now }
+fn left_shape(generators: Generators, bytes: &[u8]) -> Option<Left<'_>>
+    ensures shape { option_map shown_left result ≡ left_shape (names_of generators) bytes.now }
     ensures len { IfSome result (λ s. name_len s ≤ length bytes.now) }
 {
     match bytes {
-        [b'[', names @ ..] => commutator_shape(frame, names),
-        _ => power_shape(frame, bytes),
+        [b'[', names @ ..] => commutator_shape(generators, names),
+        _ => power_shape(generators, bytes),
     }
 }
 
 /// The parts of a line.
-fn line_shape(frame: Frame, bytes: &[u8]) -> Option<Shape<'_>>
-    ensures shape { option_map shown_shape result ≡ shape (names_of frame) bytes.now }
+fn line_shape(generators: Generators, bytes: &[u8]) -> Option<Shape<'_>>
+    ensures shape { option_map shown_shape result ≡ shape (names_of generators) bytes.now }
     ensures len { IfSome result (λ s. s.column + length s.right.now ≤ length bytes.now + 1) }
     ensures name_len { IfSome result (λ s. name_len s.left ≤ length bytes.now) }
 {
     let (left, rest) = cut(bytes, b' ')?;
-    let parts = left_shape(frame, left)?;
+    let parts = left_shape(generators, left)?;
     let right = strip(b"= ", rest)?;
     if right.is_empty() {
         return None;
@@ -97,26 +97,26 @@ fn bad(kind: Kind, column: usize) -> LineFault
 }
 
 /// The left side of the parts.
-fn left_side(frame: Frame, left: Left<'_>) -> Result<Place, LineFault>
+fn left_side(generators: Generators, left: Left<'_>) -> Result<Place, LineFault>
     requires { name_len left ≤ 2 ^ 16 }
-    ensures side { result ≡ left_side (names_of frame) (shown_left left.entry) }
+    ensures side { result ≡ left_side (names_of generators) (shown_left left.entry) }
     ensures column { IfErr result (λ bad. bad.column ≤ 2 ^ 20) }
 {
     match left {
         Left::Power(name, digits) => {
-            let Some(i) = generator(frame.gens, name) else {
+            let Some(i) = generator(generators.gens, name) else {
                 return Err(bad(Kind::BadGenerator, 1));
             };
-            if numeral(frame.p(), frame.p(), digits).is_none() {
+            if numeral(generators.p(), generators.p(), digits).is_none() {
                 return Err(bad(Kind::BadPower, name.len() + 2));
             }
             Ok(Place::Power(i))
         }
         Left::Commutator(second, first) => {
-            let Some(j) = generator(frame.gens, second) else {
+            let Some(j) = generator(generators.gens, second) else {
                 return Err(bad(Kind::BadGenerator, 2));
             };
-            let Some(i) = generator(frame.gens, first) else {
+            let Some(i) = generator(generators.gens, first) else {
                 return Err(bad(Kind::BadGenerator, second.len() + 3));
             };
             if i < j {
@@ -158,23 +158,23 @@ fn stands(place: Place, earlier: &[Relation]) -> bool
 #[tactic(auto, using(crate::proofs::LineLemmas::stands_shown))]
 pub fn read_relation(
     alloc: Global,
-    frame: Frame,
+    generators: Generators,
     earlier: &[Relation],
     bytes: &[u8],
 ) -> Result<Relation, LineStop>
     requires { length bytes.now ≤ 2 ^ 16 }
     ensures gives { LineGives shown result
-        (relation (names_of frame) (map shown earlier.now) bytes.now true) }
+        (relation (names_of generators) (map shown earlier.now) bytes.now true) }
     ensures column { IfErr result HasSmallColumn }
 {
-    let Some(parts) = line_shape(frame, bytes) else {
+    let Some(parts) = line_shape(generators, bytes) else {
         return Err(LineStop::Fault(bad(Kind::BadLine, 1)));
     };
-    let place = match left_side(frame, parts.left) {
+    let place = match left_side(generators, parts.left) {
         Ok(place) => place,
         Err(fault) => return Err(LineStop::Fault(fault)),
     };
-    let word = word(alloc, frame, least(place), parts.column, parts.right)?;
+    let word = word(alloc, generators, least(place), parts.column, parts.right)?;
     if stands(place, earlier) {
         return Err(LineStop::Fault(bad(Kind::Repeated, 1)));
     }

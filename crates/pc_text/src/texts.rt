@@ -10,7 +10,7 @@ ghost use Rattle.pc_text.specs.Views.{names_of, TextGives, TextFails, shown, all
 
 use crate::cuts::{cut, strip};
 use crate::fault::{Kind, LineStop, TextFault};
-use crate::frame::Frame;
+use crate::generators::Generators;
 use crate::numerals::numeral;
 use crate::relations::{Relation, read_relation};
 use group_table::Prime;
@@ -20,7 +20,7 @@ use std::alloc::Global;
 /// What a text says: the prime and the number of generators, and the relations in order.
 #[derive(Debug, Drop)]
 pub struct Content {
-    pub frame: Frame,
+    pub generators: Generators,
     pub relations: Vec<Relation>,
 }
 
@@ -64,38 +64,42 @@ fn in_line(line: u32, stop: LineStop) -> TextFault
 /// The relation of the first line, and the text after it.
 fn next_relation<'a>(
     alloc: Global,
-    frame: Frame,
+    generators: Generators,
     found: &[Relation],
     number: u32,
     text: &'a [u8],
 ) -> Result<(Relation, &'a [u8]), TextFault>
     requires few { length text.now ≤ LONGEST_TEXT }
     requires more { 0 < length text.now }
-    ensures ok { IfOk result (λ x. GoesOn (names_of frame) (all_shown found.now)
+    ensures ok { IfOk result (λ x. GoesOn (names_of generators) (all_shown found.now)
         (shown x.0) number text.now x.1.now) }
     ensures err { IfErr result (λ e. TextFails e
-        (relations (names_of frame) (all_shown found.now) (lines_from number text.now))) }
+        (relations (names_of generators) (all_shown found.now) (lines_from number text.now))) }
 {
     let Some((bytes, next)) = cut(text, b'\n') else {
         return Err(at(Kind::BadLine, number));
     };
-    match read_relation(alloc, frame, found, bytes) {
+    match read_relation(alloc, generators, found, bytes) {
         Ok(relation) => Ok((relation, next)),
         Err(stop) => Err(in_line(number, stop)),
     }
 }
 
 /// The relations of the lines from line 4 on.
-fn relations_of(alloc: Global, frame: Frame, text: &[u8]) -> Result<Vec<Relation>, TextFault>
+fn relations_of(
+    alloc: Global,
+    generators: Generators,
+    text: &[u8],
+) -> Result<Vec<Relation>, TextFault>
     requires { length text.now ≤ LONGEST_TEXT }
     ensures { TextGives (λ v. all_shown v.items) result
-        (relations (names_of frame) [] (lines_from 4 text.now)) }
+        (relations (names_of generators) [] (lines_from 4 text.now)) }
 {
     let mut found: Vec<Relation> = Vec::new(alloc);
     let mut rest = text;
     let mut number: u32 = 4;
     while !rest.is_empty() {
-        match next_relation(alloc, frame, &found, number, rest) {
+        match next_relation(alloc, generators, &found, number, rest) {
             Ok((relation, next)) => {
                 if found.push(relation).is_err() {
                     return Err(TextFault::Memory);
@@ -142,9 +146,12 @@ fn content_by_cuts(alloc: Global, text: &[u8]) -> Result<Content, TextFault>
     let Some(gens) = count_of(third) else {
         return Err(at(Kind::BadCount, 3));
     };
-    let frame = Frame { prime, gens };
-    let relations = relations_of(alloc, frame, rest)?;
-    Ok(Content { frame, relations })
+    let generators = Generators { prime, gens };
+    let relations = relations_of(alloc, generators, rest)?;
+    Ok(Content {
+        generators,
+        relations,
+    })
 }
 
 /// What a text says, or its first fault.

@@ -6,23 +6,23 @@ ghost use Rattle.pc_text.specs.Views.{names_of, LineGives, HasSmallColumn};
 
 use crate::cuts::first_part;
 use crate::fault::{Kind, LineFault, LineStop};
-use crate::frame::Frame;
+use crate::generators::Generators;
 use crate::names::factor_above;
 use std::alloc::Global;
 
 /// The exponents of the word at this column, whose generators come after least.
 pub fn word(
     alloc: Global,
-    frame: Frame,
+    generators: Generators,
     least: u32,
     column: usize,
     bytes: &[u8],
 ) -> Result<Vec<u8>, LineStop>
     requires { column + length bytes.now ≤ 2 ^ 20 }
-    ensures gives { LineGives (λ w. w.items) result (word (names_of frame) least column bytes.now) }
+    ensures gives { LineGives (λ w. w.items) result (word (names_of generators) least column bytes.now) }
     ensures column { IfErr result HasSmallColumn }
 {
-    let mut exponents = vec![in alloc; 0u8; frame.gens as usize]?;
+    let mut exponents = vec![in alloc; 0u8; generators.gens as usize]?;
     if bytes == b"1".as_slice() {
         return Ok(exponents);
     }
@@ -31,7 +31,7 @@ pub fn word(
     let mut rest = bytes;
     loop {
         let (piece, after) = first_part(rest, b'*');
-        let Some((k, e)) = factor_above(frame, last, piece) else {
+        let Some((k, e)) = factor_above(generators, last, piece) else {
             return Err(LineStop::Fault(LineFault {
                 kind: Kind::BadWord,
                 column: at,
