@@ -1,15 +1,13 @@
 -- Worked values of the definitions, and witnesses of the premises of the laws.
-use Rattle.std.proofs.Common.{◌≡◌, ℕ, ◌<◌, inl, inr, List, [], ◌∷◌, length, Some, None, true, false, arith, refl}
+use Rattle.std.proofs.Common.{◌≡◌, ℕ, List, [], ◌∷◌, length, None, false, arith, refl}
 use Rattle.graded_polynomials.specs.Monomials.{IsMonomial}
-use Rattle.param_test.specs.Variables.{is_in_variables, restricted, kept_terms, variables}
+use Rattle.param_test.specs.Variables.{is_in_variables, restricted, kept_terms}
 use Rattle.param_test.specs.declared.answer.Finite.TheVariants.{Yes}
 use Rattle.param_test.specs.Finiteness.{last_degree, IsAnswer}
 use Rattle.param_test.specs.Counting.{number}
 use Rattle.param_test.specs.Bounds.{bound_of}
-use Rattle.param_test.specs.Firsts.{AreFirst, NonePasses}
 use Rattle.param_test.specs.Combinations.{IsCombination, places, coefficients, AreCandidates}
 use Rattle.param_test.specs.Tuples.{Ascends}
-use Rattle.param_test.specs.Tables.{TableValue}
 use Rattle.param_test.specs.Parameters.{IsFoundIn}
 
 -- the bound of no degrees, of 4, of 1, 2 and of 2, 2

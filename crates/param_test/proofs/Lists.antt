@@ -34,7 +34,8 @@ pub length-snoc : {X : Type 0} (xs : List X) (y : X) → length (xs ++ y ∷ [])
 length-snoc [] y = refl
 length-snoc (x ∷ xs) y = let e : length (xs ++ y ∷ []) ≡ length xs + 1 = length-snoc xs y in omega arith
 
-pub each-both : {X : Type 0} (P Q : X → Type 0) (xs : List X) → Each P xs → Each Q xs → Each (λ x. P x × Q x) xs
+pub each-both : {X : Type 0} (P Q : X → Type 0) (xs : List X) → Each P xs → Each Q xs
+    → Each (λ x. P x × Q x) xs
 each-both P Q [] h k = tt
 each-both P Q (x ∷ xs) h k = ((h.0, k.0), each-both P Q xs h.1 k.1)
 

@@ -207,7 +207,8 @@ module _ (p n : ℕ) (prime : 1 < p) where
           k.0 ∙ r.1 in elim k.1 as (λ _. Or e f a c) [
             | inl g ↦ elim (shifted-between n 0 e a b v.ascends m h g) as (λ _. Or e f a c) [
               | inl i ↦ inl (inr (m, inl i))
-              | inr i ↦ elim (top-greatest p f c v.digits (omega (arith, m, v.same_length, s.same_length)) t) as
+              | inr i ↦ elim (top-greatest p f c v.digits
+                  (omega (arith, m, v.same_length, s.same_length)) t) as
                   (λ _. Or e f a c)
                   [ inl j ↦ inl (inr (m, inr (i, j))) | inr j ↦ inr (i, j) ]
             ]
@@ -232,7 +233,8 @@ module _ (p n : ℕ) (prime : 1 < p) where
         record {
           some = omega (arith, size);
           ascends =
-              subst (λ w. Ascends 0 n w) (sym q) (run-ascends 0 0 (length a + 1) n (omega arith) (omega arith));
+              subst (λ w. Ascends 0 n w) (sym q)
+              (run-ascends 0 0 (length a + 1) n (omega arith) (omega arith));
           digits = ones-digits p d prime o;
           same_length = omega (arith, size, s.same_length);
         };

@@ -1,6 +1,6 @@
 -- Candidates and parameters are one.
-use Rattle.std.proofs.Common.{◌≡◌, ℕ, ◌<◌, ◌⊎◌, inl, inr, List, length, Option, None, Some, arith, ap, refl}
-use Rattle.param_test.specs.Firsts.{IsLess, IsFirstPassing, NonePasses}
+use Rattle.std.proofs.Common.{◌≡◌, ℕ, ◌⊎◌, inl, inr, List, length, Option, None, Some, arith, ap, refl}
+use Rattle.param_test.specs.Firsts.{IsLess}
 use Rattle.param_test.specs.Combinations.{IsCombination, places, coefficients, AreCandidates}
 use Rattle.param_test.specs.Combinations.{IsBefore as IsEarlier}
 use Rattle.param_test.specs.Odometers.{Precedes}

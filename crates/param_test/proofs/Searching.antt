@@ -1,7 +1,6 @@
 -- The ends of the search.
-use Rattle.std.proofs.Common.{◌≡◌, ℕ, ◌<◌, ◌≤◌, List, [], ◌∷◌, ◌++◌, length, arith, sym, subst}
+use Rattle.std.proofs.Common.{◌≡◌, ℕ, ◌<◌, ◌≤◌, List, [], length, arith, sym, subst}
 use Rattle.std.specs.Prelude.{All, slice_index_or}
-use Rattle.std.specs.List.{AllByRecursion as Each}
 use Rattle.param_test.specs.Firsts.{IsFirstPassing, NonePasses}
 use Rattle.param_test.specs.Tuples.{IsTuple}
 use Rattle.param_test.proofs.Lists.{each-last}

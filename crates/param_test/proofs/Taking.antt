@@ -1,21 +1,12 @@
 -- The exponents of the variables in a monomial, taken one after another.
-use Rattle.std.proofs.Common.{◌≡◌, ◌≢◌, ℕ, zero, suc, ◌+◌, ◌<◌, ◌≤◌, List, [], ◌∷◌, ◌++◌, length, take, get_or, Bool, true, false, cond, eqb, ◌&&◌, ◌||◌, ◌⊎◌, inl, inr, Some, slice_get, map, add-one, arith, ap, sym, subst, ◌∙◌, refl}
-use Rattle.std.specs.Prelude.{All, AllPairs, option_map}
-use Rattle.std.specs.List.{AllByRecursion as Each}
+use Rattle.std.proofs.Common.{◌≡◌, ◌≢◌, ℕ, zero, suc, ◌+◌, ◌<◌, ◌≤◌, List, [], ◌∷◌, ◌++◌, length, take, get_or, Bool, true, false, cond, eqb, ◌&&◌, ◌||◌, ◌⊎◌, inl, inr, arith, ap, sym, subst, ◌∙◌, refl}
 use Rattle.std.proofs.lemmas.Bool.{cases_Bool}
-use Rattle.std.proofs.lemmas.List.{append-nil, take_more, map-append}
-use Rattle.std.proofs.lemmas.List.Elements.{All-from_recursion, recursion_from_All}
-use Rattle.graded_polynomials.specs.Monomials.{exponent, IsWithin, IsTrimmed, IsGreater}
-use Rattle.graded_polynomials.specs.Polynomials.{Term, Polynomial, IsPolynomial, IsSame}
+use Rattle.std.proofs.lemmas.List.{append-nil, take_more}
+use Rattle.graded_polynomials.specs.Monomials.{exponent, IsWithin, IsTrimmed}
 use Rattle.graded_polynomials.proofs.Terms.{eqb-self, eqb-true, eqb-false}
 use Rattle.graded_polynomials.proofs.Exponents.{same-exponents}
-use Rattle.graded_polynomials.proofs.Ordered.{greater-after}
-use Rattle.graded_polynomials.proofs.Stored.{Descending, descending-from, polynomial-unique}
-use Rattle.gc_poly.specs.Generators.{Generators, greatest}
-use Rattle.gc_poly.specs.Polynomials.{IsOverGenerators, IsMonomialOf, IsSumOf}
-use Rattle.gc_poly.proofs.SumLemmas.{take-term}
-use Rattle.param_test.specs.Variables.{variable_degree, is_variable, is_in_variables, restricted, kept_terms, kept, all_kept, variables}
-use Rattle.param_test.proofs.Restricting.{zero-of, both, trimmed-restricted, monomial-restricted}
+use Rattle.param_test.specs.Variables.{variable_degree, is_variable, is_in_variables, restricted}
+use Rattle.param_test.proofs.Restricting.{both, trimmed-restricted}
 
 -- the exponents of the variables, 0 where m has ended
 abbrev pub padded : ℕ → List ℕ → List ℕ → List ℕ
