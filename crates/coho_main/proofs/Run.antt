@@ -123,6 +123,7 @@ module _ (answer : Status) (err err_now : Option (List ℕ)) (n m : ℕ) where
     not_read (cause.Inconsistent name) e = cc
     not_read (cause.Stage d X) e = cc
     not_read (cause.Monomials d X) e = cc
+    not_read (cause.SubgroupStage i d X) e = cc
 
     abbrev ReadTold : Type 0
     ReadTold = (path : List ℕ) × IsRead words path × Rose (before path) (now path)
