@@ -40,17 +40,19 @@ module _ (path : List ℕ) (n : ℕ) (files : Content) (lines : Answers) (old ne
   of_report : (P : Presentation) (left mid end : Content) → Load path files (Ok P) left
       → after_fit P n tt mid (Ok lines) end → TellsRing path n files old new
   of_report P left mid end load (inr h) = absurd (let no = h.2 in cc)
-  of_report P left mid end load (inl h) = record {
-    presentation = P;
-    left = left;
-    loaded = load;
-    group = h.2.0.group;
-    is_table = h.2.0.is_table;
-    report = h.0;
-    written = subst (λ ls. Appends old new (concat ls))
-        (let e : ◌≡◌ {A = Result Answers Refusal} (Ok lines) (Ok (report_lines h.0)) = h.3.0 in cc) wrote;
-    cohomology = cohomology-report h.2.0.group n h.0 h.2.0.holds.is;
-  }
+  of_report P left mid end load (inl h) =
+      let same : ◌≡◌ {A = Result Answers Refusal} (Ok lines) (Ok (report_lines h.0)) = h.3.0 in
+      let told : lines ≡ report_lines h.0 = cc in
+      record {
+        presentation = P;
+        left = left;
+        loaded = load;
+        group = h.2.0.group;
+        is_table = h.2.0.is_table;
+        report = h.0;
+        written = subst (λ (ls : Answers). Appends old new (concat ls)) told wrote;
+        cohomology = cohomology-report h.2.0.group n h.0 h.2.0.holds.is;
+      }
 
   of_fit : (P : Presentation) (left end : Content) → Load path files (Ok P) left
       → AnswerRing P n left (Ok lines) end → TellsRing path n files old new
@@ -98,7 +100,7 @@ not_answered stop.Write e = cc
 not_answered stop.Memory e = cc
 
 -- a run that stopped is not answered
-pub stop_not_answered : {P : Type 0} (s : Stop) (answer : Status) (err err_now : Option (List ℕ)) (k m : ℕ)
-    → Reported s answer err err_now k m → answer ≡ status.Answered → P
-stop_not_answered s answer err err_now k m r e =
+pub stop_not_answered : {P : Type 0} (s : Stop) (ended : Status) (err err_now : Option (List ℕ)) (k m : ℕ)
+    → Reported s ended err err_now k m → ended ≡ status.Answered → P
+stop_not_answered s ended err err_now k m r e =
     absurd (not_answered s (sym (r (λ is. let no : status.Answered ≡ status.Memory = sym e ∙ is in cc)).0 ∙ e))
