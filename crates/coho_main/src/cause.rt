@@ -16,15 +16,25 @@ pub enum Cause {
     /// The text is longer than `LONGEST_TEXT` bytes.
     Length,
     /// The first fault of the text.
-    Text { kind: Kind, line: u32, column: u32 },
+    Text {
+        kind: Kind,
+        line: u32,
+        column: u32,
+    },
     /// The order is above `GREATEST_ORDER`.
     Order,
     /// The first false consistency test.
     Inconsistent(TestName),
     /// The free module of the stage of this degree has a dimension above `GREATEST_DIMENSION`.
-    Stage { degree: u32, dimension: u64 },
+    Stage {
+        degree: u32,
+        dimension: u64,
+    },
     /// This degree has more than `MOST_MONOMIALS` monomials in generators of lower degree.
-    Monomials { degree: u32, count: u64 },
+    Monomials {
+        degree: u32,
+        count: u64,
+    },
     /// The free module of the stage of this degree of a listed subgroup, counted from 1, has a dimension above
     /// `GREATEST_DIMENSION`.
     SubgroupStage {
