@@ -1,6 +1,6 @@
 -- Words and files have one outcome, which is refused by the words exactly where they are not those of a
 -- command.
-use Rattle.std.proofs.Common.{◌≡◌, ◌≢◌, ◌∙◌, ◌⊎◌, inl, inr, ℕ, ◌+◌, List, take, refl, sym, ap, subst}
+use Rattle.std.proofs.Common.{◌≡◌, ◌∙◌, inl, inr, ℕ, ◌+◌, List, take, refl, sym, ap, subst}
 use Rattle.std.specs.declared.option.Option.{Option}
 use Rattle.std.specs.declared.option.Option.TheVariants.{None, Some}
 use Rattle.std.specs.declared.result.Result.{Result}
@@ -18,10 +18,8 @@ use Rattle.power_commutator.specs.Presentations.{Presentation, first_fault}
 use Rattle.coho_report.specs.Lines.{report_lines}
 use Rattle.coho_main.specs.declared.status.Status.TheVariants as status
 use Rattle.coho_main.specs.Groups.{IsTableOf}
-use Rattle.coho_main.specs.Outcome.{Ask, ReadFront, ReadText, FitLength, OrFault, Present, FitOrder, UnlessFalse, Test, Accept, Load, Layers, Stages, FitStages, Report, Answer, AnswerGroup, AnswerResolve, AnswerRing, Reply, Comes, group_lines, stage_lines, Ending, ending, Outcome}
+use Rattle.coho_main.specs.Outcome.{Ask, ReadFront, ReadText, FitLength, OrFault, FitOrder, UnlessFalse, Accept, Load, Layers, Stages, FitStages, Report, Answer, AnswerGroup, AnswerResolve, AnswerRing, Reply, Comes, group_lines, stage_lines, Ending, ending, Outcome}
 use Rattle.coho_main.specs.Refusals.{read_refused, words_refused}
-use Rattle.coho_main.specs.Ringing.{IsReportTo, IsReportRefusal}
-use Rattle.coho_main.specs.Stages.{AreStagesTo, Fit, IsStageRefusal}
 use Rattle.coho_main.specs.Steps.{Refusal, ◌>>=◌, OrRefuse, OnGroup}
 use Rattle.coho_main.specs.Words.{Command, Group, Resolve, Ring, command, path_of}
 use Rattle.coho_main.proofs.Loads.{after_length, after_order, after_text}

@@ -37,8 +37,8 @@ pub no_generator : GeneratorValue
 no_generator = record { degree = 0; class = [] }
 
 -- generator i of a ring through degree n has a degree from 1 to n
-pub generator_within : (G : PGroup) (n : ℕ) (R : RingValue) → IsRingThrough G n R → (i : ℕ) (g : GeneratorValue)
-    → i < length R.generators → (1 ≤ (slice_index_or R.generators i g).degree)
+pub generator_within : (G : PGroup) (n : ℕ) (R : RingValue) → IsRingThrough G n R → (i : ℕ)
+    (g : GeneratorValue) → i < length R.generators → (1 ≤ (slice_index_or R.generators i g).degree)
     × ((slice_index_or R.generators i g).degree ≤ n)
 generator_within G n R ring i g l =
     let q = largest_residue G in
@@ -47,7 +47,8 @@ generator_within G n R ring i g l =
     let all : All Within gs = All-from_recursion Within gs
     (degrees_within q (cohomology G) (dual_basis G) n gs ring.presentation.generators_are) in
     let same = get_or-map (vector_of q) R.generators i g (vector_of q g) l in
-    subst Within same (all i (vector_of q g) (let z = length-map R.generators (vector_of q) in omega (arith, z, l)))
+    let count = length-map R.generators (vector_of q) in
+    subst Within same (all i (vector_of q g) (omega (arith, count, l)))
 
 -- the degree of generator i, as the list of degrees has it
 pub degree_at : (R : RingValue) (gens : Generators) (i d : ℕ)
@@ -62,7 +63,8 @@ pub restriction_length : (G H : PGroup) (basis : List ℕ) (g : Option PGroup) (
     → g ≡ Some (elementary G (length basis)) → g ≡ Some H → y ≡ restrict_row G basis d x
     → length y ≡ rank_of H d
 restriction_length G H basis g d x y known also e =
-    let same : elementary G (length basis) ≡ H = same_Some (elementary G (length basis)) H (sym known ∙ also) in
+    let same : elementary G (length basis) ≡ H =
+    same_Some (elementary G (length basis)) H (sym known ∙ also) in
     ap (λ (r : List ℕ). length r) e
     ∙ length-entries (rank_of (elementary G (length basis)) d)
     (restricted G basis d (vector (largest_residue G) x)) ∙ ap (λ E. rank_of E d) same
@@ -80,7 +82,8 @@ module _ (G : PGroup) (basis : List ℕ) where
 
   -- the row of a restriction stands for the restriction on vectors
   pub row_is_restricted : (d : ℕ) (x : List ℕ)
-      → vector (largest_residue G) (restrict_row G basis d x) ≡ restricted G basis d (vector (largest_residue G) x)
+      → vector (largest_residue G) (restrict_row G basis d x)
+      ≡ restricted G basis d (vector (largest_residue G) x)
   row_is_restricted d x =
       let claims = vector-claims (largest_residue G) (rank_of E d) in
       claims.of_vector (restricted G basis d (vector (largest_residue G) x))

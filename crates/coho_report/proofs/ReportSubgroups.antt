@@ -1,5 +1,5 @@
--- Each subgroup of the list has what is told of it; and the stages over the subgroups are small, or there is a
--- first one that is not.
+-- Each subgroup of the list has what is told of it; and the stages over the subgroups are small, or there is
+-- a first one that is not.
 use Rattle.std.proofs.Common.{◌≡◌, ◌⊎◌, inl, inr, ℕ, zero, suc, ◌<◌, ◌≤◌, min, List, [], ◌∷◌, ◌++◌, length, refl, sym, ap, subst, arith, append_assoc}
 use Rattle.std.specs.List.{AllByRecursion as Each}
 use Rattle.std.proofs.lemmas.Bool.{cases_lt}
@@ -44,10 +44,14 @@ form_exists E n gs rs P d to v of =
     (claims.classes.onto d to v of)
 
 module _ (G : PGroup) (n : ℕ) (presented : (E : PGroup)
-    → (gs : List (Generator (Vector (largest_residue E)))) × (rs : List Polynomial) × IsPresentation E n gs rs)
+    → (gs : List (Generator (Vector (largest_residue E)))) × (rs : List Polynomial)
+    × IsPresentation E n gs rs)
   where
-    image_exists : (basis : List ℕ) (own : List (Generator (Vector (largest_residue G)))) (rs : List Polynomial)
-        → IsPresentation (elementary G (length basis)) n own rs → (g : Generator (Vector (largest_residue G)))
+    abbrev OfGroup : Type 0
+    OfGroup = Generator (Vector (largest_residue G))
+
+    image_exists : (basis : List ℕ) (own : List OfGroup) (rs : List Polynomial)
+        → IsPresentation (elementary G (length basis)) n own rs → (g : OfGroup)
         → g.degree ≤ n → (f : Polynomial) × IsImage G basis own g f
     image_exists basis own rs P g to =
         let v = restricted G basis g.degree g.class in
@@ -57,9 +61,9 @@ module _ (G : PGroup) (n : ℕ) (presented : (E : PGroup)
           record { degree_is = refl; form = form.1 },
         )
 
-    images_exist : (basis : List ℕ) (own : List (Generator (Vector (largest_residue G)))) (rs : List Polynomial)
+    images_exist : (basis : List ℕ) (own : List OfGroup) (rs : List Polynomial)
         → IsPresentation (elementary G (length basis)) n own rs
-        → (gs : List (Generator (Vector (largest_residue G)))) → Each (λ g. (1 ≤ g.degree) × (g.degree ≤ n)) gs
+        → (gs : List OfGroup) → Each (λ g. (1 ≤ g.degree) × (g.degree ≤ n)) gs
         → (fs : List Polynomial) × AreRelated (IsImage G basis own) gs fs
     images_exist basis own rs P [] within = ([], tt)
     images_exist basis own rs P (g ∷ gs) within =
@@ -67,7 +71,7 @@ module _ (G : PGroup) (n : ℕ) (presented : (E : PGroup)
         let rest = images_exist basis own rs P gs within.1 in
         (first.0 ∷ rest.0, (first.1, rest.1))
 
-    told_exists : (gs : List (Generator (Vector (largest_residue G))))
+    told_exists : (gs : List OfGroup)
         → Each (λ g. (1 ≤ g.degree) × (g.degree ≤ n)) gs → (s : NumberedSubgroup)
         → (v : SubgroupValue) × IsToldOf G n gs s v
     told_exists gs within s =
@@ -84,7 +88,7 @@ module _ (G : PGroup) (n : ℕ) (presented : (E : PGroup)
           },
         )
 
-    pub all_told : (gs : List (Generator (Vector (largest_residue G))))
+    pub all_told : (gs : List OfGroup)
         → Each (λ g. (1 ≤ g.degree) × (g.degree ≤ n)) gs → (ss : List NumberedSubgroup)
         → (vs : List SubgroupValue) × AreRelated (IsToldOf G n gs) ss vs
     all_told gs within [] = ([], tt)

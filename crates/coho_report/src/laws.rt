@@ -1,5 +1,5 @@
-//! A group has one report through a degree, or a first degree that has too many monomials, or a first subgroup
-//! over which a stage is too large.
+//! A group has one report through a degree, or a first degree that has too many monomials, or a first
+//! subgroup over which a stage is too large.
 
 ghost use Rattle.std.specs.Prelude.{◌≡◌, ◌⊎◌, ℕ};
 ghost use Rattle.p_groups.specs.PGroups.{PGroup};

@@ -16,7 +16,8 @@ loop-d-init c =
       group = ap (λ (r : ResolutionValue). r.group) c.in_ok-resolution.ensures
           ∙ elementary-is c.args.res.now.group c.in_ok-build.field-0 s (c.in_ok-build.ensures
           ∙ c.in_ok-own.ensures.table
-          ∙ ap (λ (T : GroupTable). elementary_group T.p s) (c.as_group-group.ensures ∙ ap (λ (G : PGroup). G.table) (c.group.ensures ∙ c.algebra.ensures)));
+          ∙ ap (λ (T : GroupTable). elementary_group T.p s) (c.as_group-group.ensures
+          ∙ ap (λ (G : PGroup). G.table) (c.group.ensures ∙ c.algebra.ensures)));
       last = ap (λ (r : ResolutionValue). r.last) c.in_ok-resolution.ensures;
       small = λ d from to. absurd (omega (arith, from, to));
     }
@@ -34,7 +35,8 @@ loop-d-preserved c =
 
 pub returns-in_err-extend-clause-refused : goal.returns-in_err-extend-clause-refused
 returns-in_err-extend-clause-refused c =
-    let p = err_from_is_err_and c.from_residual-in_err-extend.result c.from_residual-in_err-extend.ensures.1 in
+    let p = err_from_is_err_and c.from_residual-in_err-extend.result
+    c.from_residual-in_err-extend.ensures.1 in
     let E = elementary c.args.res.now.group (length c.args.e.now.basis) in
     let before = c.loop-d.invariant in
     let below : c.loop-d._d < c.args.n = omega arith in

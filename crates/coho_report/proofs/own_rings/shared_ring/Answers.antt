@@ -13,4 +13,5 @@ returns-clause-known c =
     subst (All Known) (sym c.in_ok-push.ensures.items)
     (All-push Known c.args.known.now.items c.in_ok-shared-2.field-0 c.requires.known
     (known_ring c.args.res.now.group c.args.n c.args.limit (length c.args.e.now.basis) c.in_ok-own.own.value
-    c.in_ok-shared-2.field-0.value c.in_ok-own.ensures.own c.in_ok-own.ensures.small c.in_ok-shared-2.ensures))
+    c.in_ok-shared-2.field-0.value c.in_ok-own.ensures.own c.in_ok-own.ensures.small
+    c.in_ok-shared-2.ensures))

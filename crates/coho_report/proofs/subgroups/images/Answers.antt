@@ -45,5 +45,6 @@ loop-i-preserved c =
     c.in_ok-image.field-0 c.loop-i.invariant count
     (subst (λ (m : EmbedValue). (g : Generator (Vector (largest_residue m.group)))
     → IsImage m.group m.basis (generators_of (largest_residue m.group) c.args.own.now.ring.generators)
-    (slice_index_or (generators_of (largest_residue m.group) R.generators) c.loop-i.i g) c.in_ok-image.field-0)
+    (slice_index_or (generators_of (largest_residue m.group) R.generators) c.loop-i.i g)
+    c.in_ok-image.field-0)
     same c.in_ok-image.ensures) c.in_ok-push.ensures.items

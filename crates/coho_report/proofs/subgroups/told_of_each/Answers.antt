@@ -28,7 +28,8 @@ returns-in-Err-clause-refused c =
     subst (IsSubgroupRefusal G n c.args.limit) (sym c.of_subgroup.ensures)
     (refused_at G c.args.list.now c.loop-i.i c.get-e.result.now c.requires.list c.get-e.ensures n c.args.limit
     c.in-Err.fault c.loop-i.invariant.small
-    (subst (λ n. IsStageRefusal (elementary G (length c.get-e.result.now.basis)) n c.args.limit c.in-Err.fault)
+    (subst (λ n. IsStageRefusal (elementary G (length c.get-e.result.now.basis)) n c.args.limit
+    c.in-Err.fault)
     c.degree-n.ensures.value c.in-Err.ensures.refused))
 
 pub loop-i-preserved : goal.loop-i-preserved
