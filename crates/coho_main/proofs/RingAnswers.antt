@@ -1,14 +1,13 @@
 -- An answer to `ring` tells the cohomology ring.
-use Rattle.std.proofs.Common.{◌≡◌, ◌≢◌, List, ℕ, inl, inr, sym, ap, subst, ◌∙◌}
+use Rattle.std.proofs.Common.{◌≡◌, ◌≢◌, List, ℕ, inl, inr, sym, subst, ◌∙◌}
 use Rattle.std.specs.declared.option.Option.{Option}
 use Rattle.std.specs.declared.option.Option.TheVariants.{None, Some}
 use Rattle.std.specs.declared.result.Result.{Result}
-use Rattle.std.specs.declared.result.Result.TheVariants.{Ok, Err}
+use Rattle.std.specs.declared.result.Result.TheVariants.{Ok}
 use Rattle.std.specs.List.{concat}
 use Rattle.std.specs.Io.KnownBytes.{Appends}
 use Rattle.coho_io.specs.Content.{Content}
 use Rattle.power_commutator.specs.Presentations.{Presentation}
-use Rattle.coho_report.specs.Values.{ReportValue}
 use Rattle.coho_report.specs.Lines.{report_lines}
 use Rattle.coho_report.proofs.CohomologyReports.{cohomology-report}
 use Rattle.coho_main.specs.declared.status.Status.{Status}
@@ -17,14 +16,14 @@ use Rattle.coho_main.specs.declared.cause.Cause.{Cause}
 use Rattle.coho_main.specs.declared.cause.Cause.TheVariants as cause
 use Rattle.coho_main.specs.declared.stop.Stop.{Stop}
 use Rattle.coho_main.specs.declared.stop.Stop.TheVariants as stop
-use Rattle.coho_main.specs.Outcome.{Ask, Load, Answer, AnswerRing, Reply, Comes}
+use Rattle.coho_main.specs.Outcome.{Load, AnswerRing, Reply, Comes}
 use Rattle.coho_main.specs.Refusals.{words_refused}
 use Rattle.coho_main.specs.RingAnswers.{TellsRing, TellsRingOf}
 use Rattle.coho_main.specs.Run.{OfFiles}
 use Rattle.coho_main.specs.Steps.{Refusal, OrRefuse}
 use Rattle.coho_main.specs.Stops.{refusal_of, told}
-use Rattle.coho_main.specs.Words.{Command, Ring, command}
-use Rattle.coho_main.proofs.Replies.{Lines, lines_of, MeetsOf, after_fit, report_answer}
+use Rattle.coho_main.specs.Words.{Ring, command}
+use Rattle.coho_main.proofs.Replies.{Lines, lines_of, MeetsOf, after_fit}
 use Rattle.coho_main.proofs.Run.{Reported}
 
 abbrev Answers : Type 0

@@ -1,5 +1,5 @@
 -- A report is that of the cohomology ring of the bar complex, with restrictions of cocycles.
-use Rattle.std.specs.Prelude.{◌≡◌, ℕ, List, [], ◌∷◌, length, map, refl}
+use Rattle.std.specs.Prelude.{ℕ, List, [], ◌∷◌, length, map, refl}
 use Rattle.std.proofs.Common.{◌∙◌, inl, inr}
 use mathlib.Core.Path.{subst, fun_ext}
 use Rattle.group_modules.specs.Field.{Below}
@@ -7,13 +7,12 @@ use Rattle.group_modules.specs.Tables.{monoid}
 use Rattle.resolution_stages.proofs.FromDefinitions.{resolution-claims}
 use Rattle.p_groups.specs.PGroups.{PGroup, largest_residue, group, order_of}
 use Rattle.p_groups.proofs.Fields.{field}
-use Rattle.elementary_subgroups.specs.Bases.{NumberedSubgroup, IsSubgroupList, IsSubgroupOf}
+use Rattle.elementary_subgroups.specs.Bases.{NumberedSubgroup, IsSubgroupOf}
 use Rattle.elementary_subgroups.specs.Sets.{IsIn}
 use Rattle.elementary_subgroups.proofs.NumberedLists.{subgroup_in}
 use Rattle.group_algebra.specs.Coordinates.{layer_coordinates}
 use Rattle.min_res.specs.Stages.{stage_rows, rank_of}
 use Rattle.min_res.proofs.StageRows.{stage_rows_are}
-use Rattle.chain_maps.specs.Vectors.{extended}
 use Rattle.chain_maps.proofs.Vectors.{extended-at}
 use Rattle.chain_maps_along.specs.Along as along
 use Rattle.bar_complex.proofs.Cohomologous.{near-trans}
@@ -26,8 +25,7 @@ use Rattle.cohomology_algebra.specs.Claims.{vector_cocycle}
 use Rattle.group_cocycles.specs.Cocycles.{GroupCochain, AreCohomologous}
 use Rattle.group_cocycles.specs.Rings.{cochain_of, cocycles_of}
 use Rattle.group_cocycles.proofs.Rings.{degrees-same, value-cocycle}
-use Rattle.chain_lift.specs.MapsAlong.{restrict}
-use Rattle.chain_lift.specs.Embeddings.{elementary, elementary_over, embedding}
+use Rattle.chain_lift.specs.Embeddings.{elementary, embedding}
 use Rattle.chain_lift.proofs.EmbeddingElements.{homomorphism}
 use Rattle.ring_present.proofs.Cohomology.{cohomology-ring}
 use Rattle.coho_report.specs.Related.{AreRelated}

@@ -1,8 +1,8 @@
-use Rattle.std.proofs.Common.{Err, Ok, List, Vec, Global, ℕ, subst, ◌≡◌}
+use Rattle.std.proofs.Common.{Err, Ok, Vec, Global, ℕ, subst, ◌≡◌}
 use Rattle.std.proofs.lemmas.Result.{err_from_is_err_and}
 use Rattle.power_commutator.specs.Presentations.{Presentation}
 use Rattle.coho_main.specs.Outcome.{Accept, ReadText}
-use Rattle.coho_main.specs.Stops.{HasReadCause, IsReadStop, OnlyReads, Settles}
+use Rattle.coho_main.specs.Stops.{HasReadCause, IsReadStop, Settles}
 use Rattle.coho_main.proofs.Chain.{path_cause, reads_stop, reads_then, settled_cause}
 use Rattle.coho_main.proofs.Loads.{itself, load_stop, load_then, text_stop, text_then}
 use Rattle.coho_main.proofs.loading.load.Goals as goal
