@@ -38,6 +38,8 @@ pub mod Skipped
 pub mod Examples
 pub mod OpenLine
 pub mod Witness
+pub mod ThreePowers
+pub mod ExchangeExample
 pub mod LeftLists
 pub mod Results
 pub mod Choosing
