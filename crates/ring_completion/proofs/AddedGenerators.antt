@@ -64,8 +64,8 @@ pub multiple-more : (q : ℕ) (ds es : List ℕ) (d c : ℕ) (m : List ℕ) (f :
 multiple-more q ds es d c m [] w o = refl
 multiple-more q ds es d c m (t ∷ f) w o =
     ap₂ (λ (b : Bool) (s : ℕ). cond b
-        (record { scalar = c * (sign q s * t.scalar); monomial = joined m t.monomial } ∷ multiple q (ds ++ es)
-        c m f) (multiple q (ds ++ es) c m f))
+    (record { scalar = c * (sign q s * t.scalar); monomial = joined m t.monomial } ∷ multiple q (ds ++ es)
+    c m f) (multiple q (ds ++ es) c m f))
     (fits-more q ds es (joined m t.monomial) (within-joined ds m t.monomial w o.0.within))
     (swaps-more ds es m t.monomial w o.0.within)
     ∙ ap (λ (r : List Term). cond (fits q ds (joined m t.monomial))
@@ -81,14 +81,19 @@ module _ (q n : ℕ) (ds es : List ℕ) (above : Each (λ e. n < e) es) (rs : Li
   total-more [] h = refl
   total-more (t ∷ ts) h =
       ap₂ (λ (f g : List Term). f ++ g)
-          (multiple-more q ds es t.of.degree t.scalar t.by t.of.terms h.0.monomial.within
-          (over t.of h.0.given)) (total-more ts h.1)
+      (multiple-more q ds es t.of.degree t.scalar t.by t.of.terms h.0.monomial.within
+      (over t.of h.0.given)) (total-more ts h.1)
 
   each-up : (ts : List Multiple) → Each (IsMultiple q ds rs (suc n)) ts
       → Each (IsMultiple q (ds ++ es) rs (suc n)) ts
   each-up ts h = each-map (IsMultiple q ds rs (suc n)) (IsMultiple q (ds ++ es) rs (suc n)) ts
-      (λ t h. record { given = h.given; rest = h.rest; monomial =
-      monomial-more q ds es h.rest t.by h.monomial; degree_is = h.degree_is }) h
+      (λ t h. record {
+        given = h.given;
+        rest = h.rest;
+        monomial =
+            monomial-more q ds es h.rest t.by h.monomial;
+        degree_is = h.degree_is;
+      }) h
 
   each-down : (ts : List Multiple) → Each (IsMultiple q (ds ++ es) rs (suc n)) ts
       → Each (IsMultiple q ds rs (suc n)) ts
@@ -102,12 +107,20 @@ module _ (q n : ℕ) (ds es : List ℕ) (above : Each (λ e. n < e) es) (rs : Li
       }) h
 
   pub ideal-up : (f : List Term) → IsInIdeal q ds rs (suc n) f → IsInIdeal q (ds ++ es) rs (suc n) f
-  ideal-up f i = record { multiples = i.multiples; each = each-up i.multiples i.each; sum =
-      rw (total-more i.multiples i.each) i.sum }
+  ideal-up f i = record {
+    multiples = i.multiples;
+    each = each-up i.multiples i.each;
+    sum =
+        rw (total-more i.multiples i.each) i.sum;
+  }
 
   pub ideal-down : (f : List Term) → IsInIdeal q (ds ++ es) rs (suc n) f → IsInIdeal q ds rs (suc n) f
-  ideal-down f i = record { multiples = i.multiples; each = each-down i.multiples i.each; sum =
-      rw (total-more i.multiples (each-down i.multiples i.each)) at i.sum }
+  ideal-down f i = record {
+    multiples = i.multiples;
+    each = each-down i.multiples i.each;
+    sum =
+        rw (total-more i.multiples (each-down i.multiples i.each)) at i.sum;
+  }
 
 single-is-power : (ds : List ℕ) → single ds ≡ power (length ds) 1
 single-is-power [] = refl
@@ -168,8 +181,12 @@ module _ (q n : ℕ) {V : Type 0} (A : Algebra V) (gs : List (Generator V)) (g :
         total q (degrees gs) i.multiples,
         record {
           over = over-total q (degrees gs) rs (suc n) over i.multiples i.each;
-          ideal = record { multiples = i.multiples; each = i.each; sum =
-              same-refl (total q (degrees gs) i.multiples) };
+          ideal = record {
+            multiples = i.multiples;
+            each = i.each;
+            sum =
+                same-refl (total q (degrees gs) i.multiples);
+          };
         },
         (λ m. i.sum.at m),
       )
@@ -197,8 +214,11 @@ module _ (q n : ℕ) {V : Type 0} (A : Algebra V) (gs : List (Generator V)) (g :
   pub left-with-last : AreLeft q A (gs ++ g ∷ []) rs (suc n) (ms ++ power (length (degrees gs)) 1 ∷ [])
   unfolding last
   left-with-last = record {
-    some = record { each = λ i l. each i l (cases_lt i (length ms)); descending =
-        λ i j b l. descending i j b l (cases_lt j (length ms)) };
+    some = record {
+      each = λ i l. each i l (cases_lt i (length ms));
+      descending =
+          λ i j b l. descending i j b l (cases_lt j (length ms));
+    };
     each = λ k l h. not-leading k l h (cases_lt k (length ms));
     all = λ m k. all m
         (last-case q (degrees gs) g.degree (suc n) m generators (let z = degree-is in omega (arith, z))
@@ -209,13 +229,20 @@ module _ (q n : ℕ) {V : Type 0} (A : Algebra V) (gs : List (Generator V)) (g :
           → IsMonomial q (degrees (gs ++ g ∷ [])) (suc n) (slice_index_or (ms ++ last ∷ []) i [])
       each i l (inl b) = rw (degrees-append gs (g ∷ []), get_or_append_left ms (last ∷ []) [] i b)
           (monomial-more q (degrees gs) (g.degree ∷ []) (suc n) (slice_index_or ms i []) (L.some.each i b))
-      each i l (inr b) = rw (degrees-append gs (g ∷ []), is-last i l b, last-is,
-          ← single-is-power (degrees gs), ← degree-is) (monomial-single q (degrees gs) g.degree)
+      each i l (inr b) = rw (
+        degrees-append gs (g ∷ []),
+        is-last i l b,
+        last-is,
+        ← single-is-power (degrees gs),
+        ← degree-is,
+      ) (monomial-single q (degrees gs) g.degree)
 
       descending : (i j : ℕ) → i < j → j < length (ms ++ last ∷ []) → (j < length ms) ⊎ (length ms ≤ j)
           → IsGreater (slice_index_or (ms ++ last ∷ []) i []) (slice_index_or (ms ++ last ∷ []) j [])
-      descending i j b l (inl c) = rw (get_or_append_left ms (last ∷ []) [] i (omega (arith, b, c)),
-          get_or_append_left ms (last ∷ []) [] j c) (L.some.descending i j b c)
+      descending i j b l (inl c) = rw (
+        get_or_append_left ms (last ∷ []) [] i (omega (arith, b, c)),
+        get_or_append_left ms (last ∷ []) [] j c,
+      ) (L.some.descending i j b c)
       descending i j b l (inr c) = let e = is-last j l c in let f : i < length ms = omega (arith, e, b) in
           rw (e, last-is, get_or_append_left ms (last ∷ []) [] i f)
           (greater-than-last (degrees gs) (slice_index_or ms i []) (L.some.each i f).within
@@ -245,12 +272,22 @@ module _ (q n : ℕ) {V : Type 0} (A : Algebra V) (gs : List (Generator V)) (g :
         where
           go : IsListed ms m ⊎ IsLeading q A (IsConsequence q A gs rs (suc n)) m
               → IsListed (ms ++ last ∷ []) m ⊎ IsLeading q A (IsConsequence q A (gs ++ g ∷ []) rs (suc n)) m
-          go (inl i) = inl (i.0, (let e = length-append ms (last ∷ []) in let b = i.1 in omega (arith, b, e)),
-              get_or_append_left ms (last ∷ []) [] i.0 i.1 ∙ i.2)
-          go (inr h) = inr record { member = h.member; is_member = up h.member h.is_member; here = h.here;
-              above = h.above }
-      all m (inr k) = inl (length ms, (let e = length-append ms (last ∷ []) in omega (arith, e)),
-          last-is ∙ sym (k.1 ∙ single-is-power (degrees gs)))
+          go (inl i) = inl (
+            i.0,
+            (let e = length-append ms (last ∷ []) in let b = i.1 in omega (arith, b, e)),
+            get_or_append_left ms (last ∷ []) [] i.0 i.1 ∙ i.2,
+          )
+          go (inr h) = inr record {
+            member = h.member;
+            is_member = up h.member h.is_member;
+            here = h.here;
+            above = h.above;
+          }
+      all m (inr k) = inl (
+        length ms,
+        (let e = length-append ms (last ∷ []) in omega (arith, e)),
+        last-is ∙ sym (k.1 ∙ single-is-power (degrees gs)),
+      )
 
 -- the values of the list with the generator's class behind
 pub list-values-with-last : (q d : ℕ) (mul : ℕ → ℕ → Vector q → Vector q → Vector q)
@@ -278,8 +315,10 @@ list-values-with-last q d mul gs g ns all ms values w N U S V e h = record {
     go : (i : ℕ) → i < length (ms ++ last ∷ []) → (i < length ms) ⊎ (length ms ≤ i)
         → vector q (row (values ++ w ∷ []) i) ≡ evaluate (vectors q mul) (gs ++ g ∷ [])
         (slice_index_or (ms ++ last ∷ []) i [])
-    go i l (inl b) = rw (row_before_push values w i (let z = V.count in omega (arith, b, z)),
-        get_or_append_left ms (last ∷ []) [] i b)
+    go i l (inl b) = rw (
+      row_before_push values w i (let z = V.count in omega (arith, b, z)),
+      get_or_append_left ms (last ∷ []) [] i b,
+    )
         (V.each i b ∙ sym (from-more (vectors q mul) 0 (unit q 0) gs (g ∷ []) (slice_index_or ms i [])
         (S.each i b).within))
     go i l (inr b) = let f : i ≡ length ms =

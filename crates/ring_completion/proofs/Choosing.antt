@@ -75,8 +75,13 @@ module _ (q : ℕ) (V : Type 0) (A : Algebra V) (In : ℕ → V → Type 0) (L :
                 ⊎ IsLeading q A (IsRelation q A gs (degree (degrees gs) r)) r
                 → StandardBelow m (suc k) ⊎ HasLeadingQuotient q A gs m
             status (inl s) = inl (next h (λ f t P. one-quotient k (degree (degrees gs) r) f r t Q P s))
-            status (inr s) = inr record { generator = k; degree = degree (degrees gs) r; quotient = r;
-                is_quotient = Q; leads = s }
+            status (inr s) = inr record {
+              generator = k;
+              degree = degree (degrees gs) r;
+              quotient = r;
+              is_quotient = Q;
+              leads = s;
+            }
 
         go : StandardBelow m k ⊎ HasLeadingQuotient q A gs m → (0 < exponent m k) ⊎ (exponent m k ≤ 0)
             → StandardBelow m (suc k) ⊎ HasLeadingQuotient q A gs m

@@ -100,18 +100,19 @@ module _ (q : ℕ) (field : IsFieldModulo (suc q)) (mul : ℕ → ℕ → Vector
     unfolding difference
     difference-consequence i j e s I J x d = generator-multiple q (Vector q) (vectors q mul) In L gs field
         positive free n rs R i (δ j + e) _ I d record {
-      over = each-append (λ (t : Term). IsMonomial q (degrees gs) (δ j + e) t.monomial) (products j s)
-          (scaled q (generator_times q (degrees gs) j s))
-          (P.reduced j e s J x low).over
-          (over-scaled q (degrees gs) (δ j + e) q (generator_times q (degrees gs) j s)
-          (over-multiple q (degrees gs) (δ j) e (δ j + e) 1 (power j 1) (alone s) J (x.monomial, tt) refl));
-      vanishes = linear-append q (Vector q) (vectors q mul) L.space (evaluate (vectors q mul) gs)
-          (products j s) (scaled q (generator_times q (degrees gs) j s))
-          ∙ ap₂ (vectors q mul).add (P.value_is j e s J x low)
-          (linear-scaled q (Vector q) (vectors q mul) L.space (evaluate (vectors q mul) gs) q
-          (generator_times q (degrees gs) j s))
-          ∙ add-minus q (Vector q) (vectors q mul) L.space _;
-    }
+          over = each-append (λ (t : Term). IsMonomial q (degrees gs) (δ j + e) t.monomial) (products j s)
+              (scaled q (generator_times q (degrees gs) j s))
+              (P.reduced j e s J x low).over
+              (over-scaled q (degrees gs) (δ j + e) q (generator_times q (degrees gs) j s)
+              (over-multiple q (degrees gs) (δ j) e (δ j + e) 1 (power j 1) (alone s) J
+              (x.monomial, tt) refl));
+          vanishes = linear-append q (Vector q) (vectors q mul) L.space (evaluate (vectors q mul) gs)
+              (products j s) (scaled q (generator_times q (degrees gs) j s))
+              ∙ ap₂ (vectors q mul).add (P.value_is j e s J x low)
+              (linear-scaled q (Vector q) (vectors q mul) L.space (evaluate (vectors q mul) gs) q
+              (generator_times q (degrees gs) j s))
+              ∙ add-minus q (Vector q) (vectors q mul) L.space _;
+        }
       where
         low : δ j + e < suc n
         low = let p = degree-positive (degrees gs) i positive I.within in omega (arith, p, d)
@@ -326,7 +327,7 @@ module _ (q : ℕ) (field : IsFieldModulo (suc q)) (mul : ℕ → ℕ → Vector
         echelon-vector : (i : ℕ) → i < length E → IsVector q mul gs (suc n) rs ms C (vector q (row E i))
         echelon-vector i l = let s = e.spanned i l in
             rw (sym (fun_ext (λ j. residue-same q (s.1.each j))))
-                (vector-sum q mul gs (suc n) rs ms C rows critical-vector s.0 (length rows) (omega arith))
+            (vector-sum q mul gs (suc n) rs ms C rows critical-vector s.0 (length rows) (omega arith))
 
         pub leading-if-pivot : (i k : ℕ) → i < length E → pivot (row E i) ≡ k → k < length ms
             → IsLeading q (vectors q mul) (T q mul gs (suc n) rs ms C) (slice_index_or ms k [])

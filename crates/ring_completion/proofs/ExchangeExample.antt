@@ -1,14 +1,14 @@
--- A completion with an exchange that is not 0: the polynomials in x over F_2 with the generators y = x, u = x^2
--- and v = x^3, in degree 4. The relations are y^2 + u and y u + v, and y (y u + v) + u (y^2 + u) = y v + u^2
--- leads at the candidate y v.
-use Rattle.std.proofs.Common.{◌≡◌, ◌≢◌, ℕ, zero, suc, ◌+◌, ◌*◌, ◌<◌, ◌≤◌, Bool, true, false, cond, eqb, ◌%◌, List, [], ◌∷◌, length, ◌⊎◌, inl, inr, arith, ap, sym, subst, ◌∙◌, refl}
+-- A completion with an exchange that is not 0: the polynomials in x over F_2, in degree 4, with the generators
+-- y, u and v of the classes x, x^2 and x^3. The relations are y^2 + u and y u + v, and their consequence
+-- y (y u + v) + u (y^2 + u), which is y v + u^2, leads at the candidate y v.
+use Rattle.std.proofs.Common.{◌≡◌, ◌≢◌, ℕ, zero, suc, ◌+◌, ◌*◌, ◌<◌, ◌≤◌, Bool, true, false, cond, eqb, ◌%◌, List, [], ◌∷◌, length, ◌⊎◌, inl, arith, ap, sym, subst, ◌∙◌, refl}
 use Rattle.std.specs.Prelude.{slice_index_or}
 use Rattle.std.proofs.Math.Path.{fun_ext}
 use Rattle.std.proofs.lemmas.List.{get_or_past}
-use Rattle.linear_algebra.specs.Rows.{entry, row, pivot, IsRow, IsMatrix, IsEchelon, IsEchelonOf, IsInSpan}
+use Rattle.linear_algebra.specs.Rows.{entry, row, pivot, IsMatrix, IsEchelonOf, IsInSpan}
 use Rattle.linear_algebra.proofs.Congruences.{congruent_eq}
 use Rattle.linear_algebra.proofs.Spans.{in_span_congruent, in_span_row, in_span_zero, are_in_span_self}
-use Rattle.graded_polynomials.specs.Monomials.{IsMonomial, IsGreater, exponent, degree, fits, joined, sign, swaps}
+use Rattle.graded_polynomials.specs.Monomials.{IsMonomial, IsGreater, degree, fits, joined, sign, swaps}
 use Rattle.graded_polynomials.specs.Polynomials.{Term, Polynomial}
 use Rattle.graded_polynomials.specs.Texts.{power}
 use Rattle.graded_polynomials.proofs.Exponents.{joined-cancel}
@@ -24,7 +24,7 @@ use Rattle.presentation_rows.proofs.RowTerms.{row-of-is-row}
 use Rattle.ring_completion.specs.Candidates.{AreSome, IsListed, IsQuotient, AreCandidates, AreLeft}
 use Rattle.ring_completion.specs.Completions.{alone, generator_times, degree_of, IsGenerator, IsStandardOf, IsReduced, AreProducts}
 use Rattle.ring_completion.specs.Eliminations.{AreForms, AreCritical, IsExchange, IsSquare, exchange}
-use Rattle.ring_completion.specs.Left.{without_pivots, IsCompletion}
+use Rattle.ring_completion.specs.Left.{IsCompletion}
 use Rattle.ring_completion.proofs.Choosing.{are-candidates}
 use Rattle.ring_completion.proofs.Factors.{quotient-exists, quotient-divides}
 use Rattle.ring_completion.proofs.FormRows.{form-of-product}
@@ -96,7 +96,8 @@ quotients-standard zero (suc (suc zero)) e r l Q = standard-at e 1 (omega arith)
     (joined-cancel (power 2 1) r (least 1) Q.monomial.trimmed (is-least 1 (omega arith)).trimmed Q.product)
     Q.monomial
 quotients-standard zero (suc (suc (suc i))) e r l Q =
-    absurd (not-past (suc (suc (suc i))) e r (1 ∷ 0 ∷ 1 ∷ []) (let z : 3 ≤ suc (suc (suc i)) = omega arith in z)
+    absurd (not-past (suc (suc (suc i))) e r (1 ∷ 0 ∷ 1 ∷ [])
+    (let z : 3 ≤ suc (suc (suc i)) = omega arith in z)
     Q)
 quotients-standard (suc zero) zero e r l Q =
     absurd (let z : 1 ≤ 0 = quotient-divides 1 (degrees gs) 0 e r (0 ∷ 2 ∷ []) Q in omega (arith, z))
@@ -157,7 +158,8 @@ sign-two n = go (eqb (n % 2) 0)
 
 product-value : (i : ℕ) (s : List ℕ)
     → value (algebra 1 line) gs (generator_times 1 (degrees gs) i s) ≡ single (unit 1 0)
-product-value i s = rw (fits-two (degrees gs) (joined (power i 1) s), sign-two (swaps (degrees gs) (power i 1) s))
+product-value i s =
+    rw (fits-two (degrees gs) (joined (power i 1) s), sign-two (swaps (degrees gs) (power i 1) s))
     (ap single (one-value (joined (power i 1) s)))
 
 are-products : AreProducts 1 (algebra 1 line) gs 4 products
@@ -285,8 +287,12 @@ are-critical = record {
     each (suc k) l = absurd (omega (arith, l))
 
 pub completion : IsCompletion 1 line.mul gs given.0 4 ms products forms rows
-completion =
-    record { candidates = candidates; products_are = are-products; forms_are = are-forms; critical = are-critical }
+completion = record {
+  candidates = candidates;
+  products_are = are-products;
+  forms_are = are-forms;
+  critical = are-critical;
+}
 
 reduced : IsEchelonOf 2 2 rows rows
 reduced = record {
@@ -320,7 +326,8 @@ reduced = record {
 
 -- so y v leads in the consequences, and u^2 is what is left
 pub y-v-leads : IsLeading 1 (algebra 1 line) (IsConsequence 1 (algebra 1 line) gs given.0 4) (1 ∷ 0 ∷ 1 ∷ [])
-y-v-leads = (candidate-pivots 1 3 field line gs positive given.0 given.1 ms products forms rows rows completion
+y-v-leads = (candidate-pivots 1 3 field line gs positive given.0 given.1 ms products forms rows rows
+    completion
     reduced 0 (let z : 0 < 2 = omega arith in z)).1 (0, (let z : 0 < 1 = omega arith in z), refl)
 
 pub u-squared-left : AreLeft 1 (algebra 1 line) gs given.0 4 ((0 ∷ 2 ∷ []) ∷ [])

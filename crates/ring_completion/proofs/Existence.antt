@@ -219,7 +219,7 @@ module _ (q : ℕ) (field : IsFieldModulo (suc q)) (mul : ℕ → ℕ → Vector
         form-of-product q mul gs (suc n) rs ms C.some i s (listed-if-found ms (joined (power i 1) s) b)
     form-same i s p l h (inl o) (inl z) (inr b) = let r = reduced-product i s o z in
         same-consequence q mul gs (suc n) rs ms C.some (generator_times q (degrees gs) i s ++ scaled q r.0)
-            (generator_times q (degrees gs) i s ++ scaled q (polynomial_of ms (row_of q ms r.0)))
+        (generator_times q (degrees gs) i s ++ scaled q (polynomial_of ms (row_of q ms r.0)))
         (over-plus q mul gs (suc n) rs ms C.some (generator_times q (degrees gs) i s)
         (polynomial_of ms (row_of q ms r.0)) q (over-here i s o z) (over-list C.some (row_of q ms r.0)))
         (record {
@@ -254,14 +254,14 @@ module _ (q : ℕ) (field : IsFieldModulo (suc q)) (mul : ℕ → ℕ → Vector
       same = λ i e s I X d. let z = X.monomial.degree_is in let p =
           degree-positive (degrees gs) i positive I.within in
           form-same i s (I, rw z X) (omega (arith, z, p, d)) (rw z d) (decided i s)
-              (cases_eq (δ i + degree (degrees gs) s) (suc n))
-              (cases_Bool (is_listed ms (joined (power i 1) s)));
+          (cases_eq (δ i + degree (degrees gs) s) (suc n))
+          (cases_Bool (is_listed ms (joined (power i 1) s)));
       listed = λ i e s I X d l. let z = X.monomial.degree_is in let p =
           degree-positive (degrees gs) i positive I.within in
           ap (row_of q ms)
-              (form-listed i s (I, rw z X) (omega (arith, z, p, d)) (rw z d) l (decided i s)
-              (cases_eq (δ i + degree (degrees gs) s) (suc n))
-              (cases_Bool (is_listed ms (joined (power i 1) s))));
+          (form-listed i s (I, rw z X) (omega (arith, z, p, d)) (rw z d) l (decided i s)
+          (cases_eq (δ i + degree (degrees gs) s) (suc n))
+          (cases_Bool (is_listed ms (joined (power i 1) s))));
     }
 
     pub form-length : (i : ℕ) (s : List ℕ) → length (forms i s) ≡ length ms

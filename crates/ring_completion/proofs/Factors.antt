@@ -109,8 +109,11 @@ pub two-factors : (q : ℕ) (ds : List ℕ) (i j e f : ℕ) (n k m : List ℕ) �
 two-factors q ds i j e f n k m ne Q P = let r = quotient-exists q ds e j n Q.monomial below in (
   r.0,
   r.1,
-  record { monomial = r.1.monomial; product =
-      same r.0 r.1.product (trimmed-joined (power i 1) r.0 (power-trimmed i) r.1.monomial.trimmed) },
+  record {
+    monomial = r.1.monomial;
+    product =
+        same r.0 r.1.product (trimmed-joined (power i 1) r.0 (power-trimmed i) r.1.monomial.trimmed);
+  },
 )
   where
     exponents : exponent (power i 1) j + exponent n j ≡ exponent (power j 1) j + exponent k j
@@ -147,11 +150,11 @@ swaps-earlier (d ∷ ds) i zero l = absurd (omega (arith, l))
 swaps-earlier (d ∷ ds) zero (suc j) l =
     let a = swaps-empty ds (power j 1) in let b = degree-nil ds in
     let e : degree ds (power j 1) * (d * 1) + swaps ds (power j 1) []
-        ≡ (d * 1 + degree ds []) * (d * 0 + degree ds (power j 1)) = rw (a, b) (omega arith) in e
+    ≡ (d * 1 + degree ds []) * (d * 0 + degree ds (power j 1)) = rw (a, b) (omega arith) in e
 swaps-earlier (d ∷ ds) (suc i) (suc j) l =
     let a = swaps-earlier ds i j (omega (arith, l)) in
     let e : degree ds (power j 1) * (d * 0) + swaps ds (power j 1) (power i 1)
-        ≡ (d * 0 + degree ds (power i 1)) * (d * 0 + degree ds (power j 1)) = rw a (omega arith) in e
+    ≡ (d * 0 + degree ds (power i 1)) * (d * 0 + degree ds (power j 1)) = rw a (omega arith) in e
 
 -- where a product with a generator does not fit, the generator is of odd degree and a factor already
 one-more : (e : Bool) (y : ℕ) (f g : Bool) → ((not e || leb y 1) && f) ≡ true
@@ -193,19 +196,23 @@ unfit-factor q [] i n a b c = false≢true (sym c ∙ fits-none (joined (power i
     fits-none : (m : List ℕ) → fits q [] m ≡ true
     fits-none m = refl
 unfit-factor q (d ∷ ds) i [] a b c = false≢true (sym c ∙ ap (fits q (d ∷ ds)) (joined-right (power i 1)) ∙ a)
-unfit-factor q (d ∷ ds) zero (y ∷ n) a b c = let r = one-more (is_exterior q d) y (fits q ds n) true b c in
-    (ap (is_exterior q) (let e = degree-nil ds in let z : d * 1 + degree ds [] ≡ d = omega (arith, e) in z)
-        ∙ r.0, r.1)
+unfit-factor q (d ∷ ds) zero (y ∷ n) a b c = let r = one-more (is_exterior q d) y (fits q ds n) true b c in (
+  ap (is_exterior q) (let e = degree-nil ds in let z : d * 1 + degree ds [] ≡ d = omega (arith, e) in z)
+      ∙ r.0,
+  r.1,
+)
 unfit-factor q (d ∷ ds) (suc i) (y ∷ n) a b c =
     let z : ((not (is_exterior q d) || leb y 1) && fits q ds (joined (power i 1) n)) ≡ false =
-        ap (λ z. (not (is_exterior q d) || leb z 1) && fits q ds (joined (power i 1) n))
-        (let e : y ≡ 0 + y = omega arith in e) ∙ c in
+    ap (λ z. (not (is_exterior q d) || leb z 1) && fits q ds (joined (power i 1) n))
+    (let e : y ≡ 0 + y = omega arith in e) ∙ c in
     let r = unfit-factor q ds i n (and-right (not (is_exterior q d) || leb 0 1) (fits q ds (power i 1)) a)
-        (and-right (not (is_exterior q d) || leb y 1) (fits q ds n) b)
+    (and-right (not (is_exterior q d) || leb y 1) (fits q ds n) b)
     (and-none (not (is_exterior q d) || leb y 1) (fits q ds (joined (power i 1) n))
-    (and-left (not (is_exterior q d) || leb y 1) (fits q ds n) b) z) in
-    (ap (is_exterior q) (let e : d * 0 + degree ds (power i 1) ≡ degree ds (power i 1) = omega arith in e)
-        ∙ r.0, r.1)
+    (and-left (not (is_exterior q d) || leb y 1) (fits q ds n) b) z) in (
+      ap (is_exterior q) (let e : d * 0 + degree ds (power i 1) ≡ degree ds (power i 1) = omega arith in e)
+          ∙ r.0,
+      r.1,
+    )
 
 -- the square of a generator of odd degree does not fit
 pub square-unfit : (q : ℕ) (ds : List ℕ) (i : ℕ) → IsMonomial q ds (degree ds (power i 1)) (power i 1)
@@ -221,7 +228,7 @@ square-unfit q ds i I o = go ds i I.within o
         let x : is_exterior q d ≡ true = ap (is_exterior q) (sym e) ∙ o in rw x refl
     go (d ∷ ds) (suc i) w o = let e : d * 0 + degree ds (power i 1) ≡ degree ds (power i 1) = omega arith in
         ap (λ b. (not (is_exterior q d) || leb (0 + 0) 1) && b) (go ds i w (ap (is_exterior q) (sym e) ∙ o))
-            ∙ and-false (not (is_exterior q d) || leb (0 + 0) 1)
+        ∙ and-false (not (is_exterior q d) || leb (0 + 0) 1)
       where
         and-false : (b : Bool) → (b && false) ≡ false
         and-false true = refl

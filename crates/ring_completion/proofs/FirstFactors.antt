@@ -16,11 +16,11 @@ earlier-is-greater i j s t l c d = record {
   more = let a = exponent-joined (power i 1) s i in let b = power-here i 1 in let e =
       exponent-joined (power j 1) t i in
       let f = power-elsewhere j 1 i (λ z. omega (arith, z, l)) in let g = d i l in
-          omega (arith, a, b, e, f, g);
+      omega (arith, a, b, e, f, g);
   before = λ k b. let a = exponent-joined (power i 1) s k in let z =
       power-elsewhere i 1 k (λ e. omega (arith, e, b)) in let x = c k b in
       let e = exponent-joined (power j 1) t k in let f =
-          power-elsewhere j 1 k (λ y. omega (arith, y, b, l)) in let g = d k (omega (arith, b, l)) in
+      power-elsewhere j 1 k (λ y. omega (arith, y, b, l)) in let g = d k (omega (arith, b, l)) in
       omega (arith, a, z, x, e, f, g);
 }
 

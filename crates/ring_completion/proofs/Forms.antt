@@ -79,8 +79,8 @@ module _ (q : ℕ) (V : Type 0) (A : Algebra V) (In : ℕ → V → Type 0) (L :
       ≡ times B (s (power j 1) (joined (power i 1) r)) (linear B (forms j) h)
   agree i j e r k m g h l I J M clear d G H =
       ap (times B si)
-          (through q V A In L gs field positive free n rs R W B S products P j e J low-j (forms i) r t.0 g M
-          t.1.standing.reduced t.1.standing.value_is G.reduced G.value_is
+      (through q V A In L gs field positive free n rs R W B S products P j e J low-j (forms i) r t.0 g M
+      t.1.standing.reduced t.1.standing.value_is G.reduced G.value_is
       ∙ ap (times B (s (power j 1) r))
       (linear-times q W B S (λ a. linear B (forms i) (products j a)) (λ a. linear B (forms j) (products i a))
       (sign q (δ i * δ j))
@@ -191,7 +191,7 @@ module _ (q : ℕ) (V : Type 0) (A : Algebra V) (In : ℕ → V → Type 0) (L :
       → IsQuotient q (degrees gs) i e k m → e ≤ n
   low-quotient i e k m M Q = let f = factor-of q (degrees gs) i e (suc n) k m M Q in
       let p = degree-positive (degrees gs) i positive f.generator.within in let z = f.sum in
-          omega (arith, p, z)
+      omega (arith, p, z)
 
   -- by any factor
   form-by-any : (m : List ℕ) (v : W) → IsMonomial q (degrees gs) (suc n) m → (a : HasForm m v)

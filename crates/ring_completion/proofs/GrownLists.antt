@@ -64,8 +64,12 @@ module _ (q : ℕ) {V : Type 0} (A : Algebra V) (gs new : List (Generator V)) (n
               (ap (is_pivot kernel) (let z : 0 + k ≡ k = omega arith in z) ∙ f) in (s.0, s.1, s.2 ∙ e)
 
   pub lists-grow : AreStandardLists q A (gs ++ new) (suc n) (lists ++ without_pivots kernel 0 ms ∷ [])
-  lists-grow = record { some = λ e l. some-at e l (cases_lt e n); each =
-      λ e k l b. each-at e k l b (cases_lt e n); all = λ e m l X. all-at e m l X (cases_lt e n) }
+  lists-grow = record {
+    some = λ e l. some-at e l (cases_lt e n);
+    each =
+        λ e k l b. each-at e k l b (cases_lt e n);
+    all = λ e m l X. all-at e m l X (cases_lt e n);
+  }
     where
       is-last : (e : ℕ) → e < suc n → n ≤ e → e ≡ n
       is-last e l b = omega (arith, l, b)
@@ -73,8 +77,11 @@ module _ (q : ℕ) {V : Type 0} (A : Algebra V) (gs new : List (Generator V)) (n
       some-at : (e : ℕ) → e < suc n → (e < n) ⊎ (n ≤ e)
           → AreSome q (degrees (gs ++ new)) (suc e) (slice_index_or grown e [])
       some-at e l (inl b) = rw (before e b)
-          record { each = λ i c. monomial-up q A gs new (suc e) _ ((S.some e b).each i c); descending =
-          (S.some e b).descending }
+          record {
+            each = λ i c. monomial-up q A gs new (suc e) _ ((S.some e b).each i c);
+            descending =
+                (S.some e b).descending;
+          }
       some-at e l (inr b) = rw (is-last e l b, last) here-some
 
       each-at : (e k : ℕ) → e < suc n → k < length (slice_index_or grown e []) → (e < n) ⊎ (n ≤ e)

@@ -89,8 +89,8 @@ coefficient-assoc : (q : ℕ) (ds a b : List ℕ) (c e : ℕ) (f : List Term) (n
 coefficient-assoc q ds a b c e [] n = congruent_refl 0
 coefficient-assoc q ds a b c e (t ∷ f) n =
     rw joined-assoc
-        (go (cases_Bool (fits q ds (joined a (joined b t.monomial))))
-        (cases_Bool (fits q ds (joined b t.monomial))) (coefficient-assoc q ds a b c e f n))
+    (go (cases_Bool (fits q ds (joined a (joined b t.monomial))))
+    (cases_Bool (fits q ds (joined b t.monomial))) (coefficient-assoc q ds a b c e f n))
   where
     m : List ℕ
     m = joined a (joined b t.monomial)

@@ -44,8 +44,12 @@ module _ (q : ℕ) (V : Type 0) (A : Algebra V) (In : ℕ → V → Type 0) (L :
     low = let p = degree-positive (degrees gs) i positive I.within in omega (arith, p, d)
 
     sums : (f : List Term) → IsOver q (degrees gs) e f → IsSum i e f
-    sums [] o = record { polynomial = []; reduced = record { over = tt; standard = tt }; value_is = refl;
-        form_is = refl }
+    sums [] o = record {
+      polynomial = [];
+      reduced = record { over = tt; standard = tt };
+      value_is = refl;
+      form_is = refl;
+    }
     sums (t ∷ f) o = made
         (reduced-exists q V A In L gs e (known q V A In L gs field positive free n rs R e low) field
         (alone t.monomial) (o.0, tt)) (sums f o.1)

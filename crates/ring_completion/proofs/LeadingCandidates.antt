@@ -167,8 +167,11 @@ module _ (q : ℕ) (field : IsFieldModulo (suc q)) (mul : ℕ → ℕ → Vector
         f = factor-of q (degrees gs) i.0 (degree (degrees gs) k.0) (suc n) k.0 m M' k.1
 
         standard : IsStandardOf q (vectors q mul) gs (degree (degrees gs) k.0) k.0
-        standard = record { monomial = k.1.monomial; standard =
-            C.each l.0 i.0 (degree (degrees gs) k.0) k.0 l.1 (rw l.2 k.1) }
+        standard = record {
+          monomial = k.1.monomial;
+          standard =
+              C.each l.0 i.0 (degree (degrees gs) k.0) k.0 l.1 (rw l.2 k.1);
+        }
 
         x : ℕ
         x = sign q (swaps (degrees gs) (power i.0 1) k.0)

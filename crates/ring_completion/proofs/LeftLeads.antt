@@ -32,8 +32,11 @@ module _ (q : ℕ) (field : IsFieldModulo (suc q)) (mul : ℕ → ℕ → Vector
     (V : AreValues q (vectors q mul) gs ms values) (K : IsKernelOf (suc q) values kernel) where
   pub kernel-relation : (i : ℕ) → i < length kernel
       → IsRelation q (vectors q mul) gs d (polynomial_of ms (row kernel i))
-  kernel-relation i l = record { over = over-list S (row kernel i); vanishes =
-      value-of-kernel q mul gs ms values V (row kernel i) (K.in_kernel i l) }
+  kernel-relation i l = record {
+    over = over-list S (row kernel i);
+    vanishes =
+        value-of-kernel q mul gs ms values V (row kernel i) (K.in_kernel i l);
+  }
 
   clean-row : (f : List Term) → IsRelation q (vectors q mul) gs d f
       → IsClean q field (degrees gs) d ns M (vectors q mul) (IsConsequence q (vectors q mul) gs rs d)
@@ -54,7 +57,7 @@ module _ (q : ℕ) (field : IsFieldModulo (suc q)) (mul : ℕ → ℕ → Vector
   leads-at-pivots k l = (
     (λ h. let c = clean h in
         pivot-of-member S field.above_one (vectors q mul) (IsRelation q (vectors q mul) gs d) kernel K.echelon
-            c.member (clean-row c.member c.is_member c.clean) k l c.here c.above),
+        c.member (clean-row c.member c.is_member c.clean) k l c.here c.above),
     (λ p. leading-of-row S field.above_one (vectors q mul) (IsRelation q (vectors q mul) gs d) kernel
         K.echelon p.0 k p.1 p.2 l (kernel-relation p.0 p.1)),
   )

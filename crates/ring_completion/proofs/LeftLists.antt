@@ -14,8 +14,12 @@ Stood K k xs i = (j : ℕ) × (j < length xs)
 stood-later : (K : List (List ℕ)) (k : ℕ) (x : List ℕ) (xs : List (List ℕ)) (y : List ℕ)
     → (j : ℕ) × (j < length xs) × (y ≡ slice_index_or xs j []) × (is_pivot K (suc k + j) ≡ false)
     → (j : ℕ) × (j < length (x ∷ xs)) × (y ≡ slice_index_or (x ∷ xs) j []) × (is_pivot K (k + j) ≡ false)
-stood-later K k x xs y s = (suc s.0, (let l = s.1 in omega (arith, l)), s.2,
-    ap (is_pivot K) (let e : k + suc s.0 ≡ suc k + s.0 = omega arith in e) ∙ s.3)
+stood-later K k x xs y s = (
+  suc s.0,
+  (let l = s.1 in omega (arith, l)),
+  s.2,
+  ap (is_pivot K) (let e : k + suc s.0 ≡ suc k + s.0 = omega arith in e) ∙ s.3,
+)
 
 pub stood : (K : List (List ℕ)) (k : ℕ) (xs : List (List ℕ)) (i : ℕ) → i < length (without_pivots K k xs)
     → Stood K k xs i

@@ -34,7 +34,7 @@ module _ (q : ℕ) (W : Type 0) (B : Algebra W) (S : IsSpace q W B) where
   linear-times u v c P [] h e = sym (times-zero q W B S c)
   linear-times u v c P (t ∷ g) h e =
       ap₂ B.add (ap (times B t.scalar) (e t.monomial h.0) ∙ times-times q W B S t.scalar c _
-          ∙ ap (λ k. times B k (v t.monomial)) (let z : t.scalar * c ≡ c * t.scalar = omega arith in z)
+      ∙ ap (λ k. times B k (v t.monomial)) (let z : t.scalar * c ≡ c * t.scalar = omega arith in z)
       ∙ sym (times-times q W B S c t.scalar _)) (linear-times u v c P g h.1 e)
       ∙ sym (times-add q W B S c _ _)
 

@@ -72,7 +72,7 @@ module _ (q : ℕ) (field : IsFieldModulo (suc q)) (mul : ℕ → ℕ → Vector
           × IsStandard q (vectors q mul) gs d (slice_index_or ms k []))
       at k b ne (inl t) = let p = pivot-if-found kernel k t in
           inl (congruent_eq
-              (coefficient-at ms (row kernel i) (listed-apart S) k b ∙ ap (entry (row kernel i)) (sym p.2)
+          (coefficient-at ms (row kernel i) (listed-apart S) k b ∙ ap (entry (row kernel i)) (sym p.2)
           ∙ K.echelon.cleared p.0 i p.1 l (λ e. ne (sym p.2 ∙ ap (λ j. pivot (row kernel j)) e))))
       at k b ne (inr f) = inr (S.each k b, (standards k b).1 (none-if-not-found kernel k f))
 
@@ -121,7 +121,7 @@ module _ (q : ℕ) (field : IsFieldModulo (suc q)) (mul : ℕ → ℕ → Vector
     here = λ l. let a : pivot (row kernel i) < pivot (row kernel (suc i)) =
         K.echelon.ascending i (suc i) (omega arith) (omega (arith, s.count, l)) in
         let b : row rows 0 ≡ row kernel (suc i) = s.each 1 (omega (arith, l))
-            ∙ ap (row kernel) (let e : i + 1 ≡ suc i = omega arith in e) in
+        ∙ ap (row kernel) (let e : i + 1 ≡ suc i = omega arith in e) in
         rw b (omega (arith, a, own));
   }
     where
@@ -164,20 +164,20 @@ module _ (q : ℕ) (field : IsFieldModulo (suc q)) (mul : ℕ → ℕ → Vector
   from-split [] [] k i s = refl
   from-split [] (u ∷ rows) k i s = absurd (let b : i < length kernel = omega (arith, s.count) in
       let e : u ≡ row kernel i =
-          s.each 0 (omega arith) ∙ ap (row kernel) (let z : i + 0 ≡ i = omega arith in z) in
+      s.each 0 (omega arith) ∙ ap (row kernel) (let z : i + 0 ≡ i = omega arith in z) in
       let h : k ≤ pivot (row kernel i) = (rw e at (s.here (omega arith))) in
-          omega (arith, h, pivot-inside i b, s.places))
+      omega (arith, h, pivot-inside i b, s.places))
   from-split (m ∷ rest) [] k i s =
       inl (standard, from-split rest [] (suc k) i (skip s (λ l. absurd (omega (arith, l)))))
     where
       standard : IsStandard q (vectors q mul) gs d m
       standard = let b : k < length ms = omega (arith, s.places) in
           let e : m ≡ slice_index_or ms k [] = s.monomial 0 (omega arith)
-              ∙ ap (λ x. slice_index_or ms x []) (let z : k + 0 ≡ k = omega arith in z) in
+          ∙ ap (λ x. slice_index_or ms x []) (let z : k + 0 ≡ k = omega arith in z) in
           rw e ((standards k b).1 (no-pivot s (λ l. absurd (omega (arith, l)))))
   from-split (m ∷ rest) (u ∷ rows) k i s =
       go (cases_order k (pivot u)) (λ x. from-split rest (u ∷ rows) (suc k) i x)
-          (λ x. from-split rest rows (suc k) (suc i) x)
+      (λ x. from-split rest rows (suc k) (suc i) x)
     where
       b : k < length ms
       b = omega (arith, s.places)

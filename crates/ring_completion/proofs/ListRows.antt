@@ -33,7 +33,7 @@ descending-terms (m ∷ ms) (zero ∷ u) h =
     descending-terms ms u (λ i j b l. h (suc i) (suc j) (omega arith) (omega arith))
 descending-terms (m ∷ ms) (suc c ∷ u) h =
     AllPairs-cons (λ (s t : Term). IsGreater s.monomial t.monomial) (record { scalar = suc c; monomial = m })
-        (polynomial_of ms u)
+    (polynomial_of ms u)
     (All-from_recursion (λ (t : Term). IsGreater m t.monomial) (polynomial_of ms u)
     (each-term (λ t. IsGreater m t.monomial) ms u (λ k c l e. h 0 (suc k) (omega arith) (omega arith))))
     (descending-terms ms u (λ i j b l. h (suc i) (suc j) (omega arith) (omega arith)))
@@ -108,7 +108,7 @@ module _ {q d : ℕ} {ds : List ℕ} {ms : List (List ℕ)} (S : AreSome q ds d 
         → IsPivot E k
     pivot-of-member f s k l here above =
         first_place_is_pivot (suc q) (length E) s.0 (λ i j. entry (row E i) j) (λ i. pivot (row E i))
-            (entry (row_of q ms f))
+        (entry (row_of q ms f))
         (HasPivots-from_echelon e) (Combines-from_combination s.1) k
         (λ j b. congruent_trans (at j (omega arith)) (above (slice_index_or ms j []) (S.descending j k b l)))
         (λ z. not-zero (congruent_trans (congruent_sym (at k l)) z) here)

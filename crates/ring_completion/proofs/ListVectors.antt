@@ -37,9 +37,11 @@ module _ (q : ℕ) (mul : ℕ → ℕ → Vector q → Vector q → Vector q) (m
   coefficients-empty = fun_ext (λ j. residue-same q (row-empty q ms j))
 
   front : (t : Term) (f : List Term) → IsSame q (t ∷ f) (f ++ scaled t.scalar (alone t.monomial))
-  front t f = record { at = λ m. congruent_eq
-      (go m (cases_Bool (same t.monomial m))
-      ∙ sym (coefficient-append f (scaled t.scalar (alone t.monomial)) m)) }
+  front t f = record {
+    at = λ m. congruent_eq
+        (go m (cases_Bool (same t.monomial m))
+        ∙ sym (coefficient-append f (scaled t.scalar (alone t.monomial)) m));
+  }
     where
       go : (m : List ℕ) → (same t.monomial m ≡ true) ⊎ (same t.monomial m ≡ false)
           → coefficient (t ∷ f) m ≡ coefficient f m + coefficient (scaled t.scalar (alone t.monomial)) m

@@ -7,7 +7,7 @@ use Rattle.linear_algebra.specs.Modular.{IsCongruent, IsFieldModulo}
 use Rattle.graded_polynomials.specs.Monomials.{IsMonomial, IsWithin, exponent, degree, fits, is_exterior, joined}
 use Rattle.graded_polynomials.specs.Polynomials.{Polynomial, IsOneOf}
 use Rattle.graded_polynomials.specs.Texts.{power}
-use Rattle.graded_polynomials.proofs.Exponents.{joined-cancel, exponent-joined}
+use Rattle.graded_polynomials.proofs.Exponents.{joined-cancel}
 use Rattle.graded_polynomials.proofs.Monomials.{only-one}
 use Rattle.graded_algebra.specs.Algebras.{Algebra, Generator, degrees, times, IsGradedCommutative}
 use Rattle.graded_algebra.specs.Presentations.{IsStandard, IsRelations}
@@ -51,8 +51,13 @@ positive-at (d ∷ ds) p zero l = p.0
 positive-at (d ∷ ds) p (suc i) l = positive-at ds p.1 i (omega arith)
 
 pub generator-at : (q : ℕ) (ds : List ℕ) (i : ℕ) → i < length ds → IsGenerator q ds i
-generator-at q ds i l = record { within = within-power ds i l; trimmed = power-trimmed i; fitting =
-    fits-power q ds i; degree_is = refl }
+generator-at q ds i l = record {
+  within = within-power ds i l;
+  trimmed = power-trimmed i;
+  fitting =
+      fits-power q ds i;
+  degree_is = refl;
+}
 
 module _ (q : ℕ) (V : Type 0) (A : Algebra V) (In : ℕ → V → Type 0) (L : IsGradedCommutative q V A In)
     (gs : List (Generator V))
@@ -61,12 +66,22 @@ module _ (q : ℕ) (V : Type 0) (A : Algebra V) (In : ℕ → V → Type 0) (L :
     (n : ℕ) (rs : List Polynomial) (R : IsRelations q A gs n rs) (lists : List (List (List ℕ)))
     (S : AreStandardLists q A gs n lists) where
   generator : (i : ℕ) → i < length (degrees gs) → IsGenerator q (degrees gs) i
-  generator i l = record { within = within-power (degrees gs) i l; trimmed = power-trimmed i; fitting =
-      fits-power q (degrees gs) i; degree_is = refl }
+  generator i l = record {
+    within = within-power (degrees gs) i l;
+    trimmed = power-trimmed i;
+    fitting =
+        fits-power q (degrees gs) i;
+    degree_is = refl;
+  }
 
   one : IsMonomial q (degrees gs) 0 []
-  one = record { within = tt; trimmed = tt; fitting = fits-nil q (degrees gs); degree_is =
-      degree-nil (degrees gs) }
+  one = record {
+    within = tt;
+    trimmed = tt;
+    fitting = fits-nil q (degrees gs);
+    degree_is =
+        degree-nil (degrees gs);
+  }
 
   monomials : (e : ℕ) → e < suc n → Each (IsMonomial q (degrees gs) e) (standard_of lists e)
   monomials zero l = (one, tt)
@@ -94,13 +109,19 @@ module _ (q : ℕ) (V : Type 0) (A : Algebra V) (In : ℕ → V → Type 0) (L :
       → IsStandardOf q A gs e r ↔ IsListed (standard_of lists e) r
   standard-listed e l r = (
     (λ X. listed-if-standard e l r X),
-    (λ i. record { monomial = (let M = each-at (IsMonomial q (degrees gs) e) (standard_of lists e)
-        (monomials e l) i.0 i.1 in rw i.2 at M); standard = standard-if-listed e l r i }),
+    (λ i. record {
+      monomial = (let M = each-at (IsMonomial q (degrees gs) e) (standard_of lists e)
+          (monomials e l) i.0 i.1 in rw i.2 at M);
+      standard = standard-if-listed e l r i;
+    }),
   )
 
   start : AreFrom q (degrees gs) lists (suc n) 0 (degrees gs)
-  start = record { count = omega arith; each =
-      λ k l. ap (λ j. slice_index_or (degrees gs) j 0) (let z : 0 + k ≡ k = omega arith in z) }
+  start = record {
+    count = omega arith;
+    each =
+        λ k l. ap (λ j. slice_index_or (degrees gs) j 0) (let z : 0 + k ≡ k = omega arith in z);
+  }
 
   ms : List (List ℕ)
   ms = candidates_of q (degrees gs) lists (suc n)
@@ -166,8 +187,10 @@ module _ (q : ℕ) (V : Type 0) (A : Algebra V) (In : ℕ → V → Type 0) (L :
       at j x = let k = quotient-exists q (degrees gs) (suc n) j m M x in let t =
           taken j (degree (degrees gs) k.0) k.0 m M k.1 in
           let z : 0 + j ≡ j = omega arith in
-          let s = listed-if-standard (degree (degrees gs) k.0) t.below k.0 record { monomial = k.1.monomial;
-              standard = h j (degree (degrees gs) k.0) k.0 k.1 } in
+          let s = listed-if-standard (degree (degrees gs) k.0) t.below k.0 record {
+            monomial = k.1.monomial;
+            standard = h j (degree (degrees gs) k.0) k.0 k.1;
+          } in
           rw (z, ← t.degree-is, ← t.same) s
 
   pub listed-candidates : AreCandidates q A gs (suc n) (candidates_of q (degrees gs) lists (suc n))
@@ -180,7 +203,7 @@ module _ (q : ℕ) (V : Type 0) (A : Algebra V) (In : ℕ → V → Type 0) (L :
       each k i e r l Q = let x = each-at (IsMade q (degrees gs) lists (suc n) 0) ms members k l in
           let t = taken i e r (slice_index_or ms k []) x.monomial Q in let z : 0 + i ≡ i = omega arith in
           let f = found-quotient lists (suc n) (slice_index_or ms k []) 0 (degrees gs) x.quotients i t.inside
-              (rw z t.divides) in
+          (rw z t.divides) in
           standard-if-listed e t.below r (rw (t.degree-is, t.same) (rw z at f))
 
       all : (m : List ℕ) → IsMonomial q (degrees gs) (suc n) m

@@ -80,8 +80,10 @@ pub falls-from : (ms : List (List ℕ))
     → ((i j : ℕ) → i < j → j < length ms → IsGreater (slice_index_or ms i []) (slice_index_or ms j []))
     → Ordered ms
 falls-from [] h = tt
-falls-from (m ∷ ms) h = (each-from (IsGreater m) ms (λ i l. h 0 (suc i) (omega arith) (omega arith)),
-    falls-from ms (λ i j b l. h (suc i) (suc j) (omega arith) (omega arith)))
+falls-from (m ∷ ms) h = (
+  each-from (IsGreater m) ms (λ i l. h 0 (suc i) (omega arith) (omega arith)),
+  falls-from ms (λ i j b l. h (suc i) (suc j) (omega arith) (omega arith)),
+)
 
 pub one-of-listed : (m : List ℕ) (ms : List (List ℕ)) → IsListed ms m → IsOneOf m ms
 one-of-listed m [] i = absurd (let l = i.1 in omega (arith, l))
@@ -153,7 +155,7 @@ module _ (lists : List (List (List ℕ))) (d : ℕ) (m : List ℕ) where
           h 0 (omega arith) y in
           let s : IsListed (standard_of lists (d - e)) (without_factor i m) = rw zero-sum at r in
           rw (found-if-listed (standard_of lists (d - e)) (without_factor i m) s)
-              (or-true (eqb (exponent m i) 0))
+          (or-true (eqb (exponent m i) 0))
 
 module _ (q : ℕ) (ds : List ℕ) (lists : List (List (List ℕ))) (d : ℕ) where
   -- what is known of a member of the list
@@ -175,7 +177,7 @@ module _ (q : ℕ) (ds : List ℕ) (lists : List (List (List ℕ))) (d : ℕ) wh
     made s S t = let a = both (is_clear_before i s)
         (fits q ds (joined (power i 1) s) && has_standard_quotients lists d (joined (power i 1) s) 0 ds) t in
         let b = both (fits q ds (joined (power i 1) s))
-            (has_standard_quotients lists d (joined (power i 1) s) 0 ds) a.1 in record {
+        (has_standard_quotients lists d (joined (power i 1) s) 0 ds) a.1 in record {
           monomial = monomial-joined q ds (degree_of ds i) e d (power i 1) s I S sum b.0;
           quotients = b.1;
           first = i;
@@ -244,8 +246,10 @@ module _ (q : ℕ) (ds : List ℕ) (lists : List (List (List ℕ))) (d : ℕ) wh
       (falls : (e : ℕ) → e < d → Ordered (standard_of lists e))
       (positive : (i : ℕ) → i < length ds → 0 < slice_index_or ds i 0) (some : 0 < d) where
     here : (i e : ℕ) (es : List ℕ) → AreFrom i (e ∷ es) → (i < length ds) × (slice_index_or ds i 0 ≡ e)
-    here i e es h = ((let c = h.count in omega (arith, c)),
-        ap (λ j. slice_index_or ds j 0) (let z : i ≡ i + 0 = omega arith in z) ∙ h.each 0 (omega arith))
+    here i e es h = (
+      (let c = h.count in omega (arith, c)),
+      ap (λ j. slice_index_or ds j 0) (let z : i ≡ i + 0 = omega arith in z) ∙ h.each 0 (omega arith),
+    )
 
     sum-at : (i e : ℕ) (es : List ℕ) → AreFrom i (e ∷ es) → e ≤ d → degree_of ds i + (d - e) ≡ d
     sum-at i e es h l = let a = here i e es h in let b = degree-power ds i a.0 in let c = a.1 in
@@ -265,8 +269,15 @@ module _ (q : ℕ) (ds : List ℕ) (lists : List (List (List ℕ))) (d : ℕ) wh
         (from-each (suc i) es (next i e es h)))
       where
         later : (m : List ℕ) → IsMade (suc i) m → IsMade i m
-        later m x = record { monomial = x.monomial; quotients = x.quotients; first = x.first; rest = x.rest;
-            low = (let l = x.low in omega (arith, l)); product = x.product; clear = x.clear }
+        later m x = record {
+          monomial = x.monomial;
+          quotients = x.quotients;
+          first = x.first;
+          rest = x.rest;
+          low = (let l = x.low in omega (arith, l));
+          product = x.product;
+          clear = x.clear;
+        }
 
         go : (leb e d ≡ true) ⊎ (leb e d ≡ false)
             → Each (IsMade i) (cond (leb e d) (products_with q ds lists d i (standard_of lists (d - e))) [])

@@ -43,8 +43,11 @@ module _ (q : ℕ) (V : Type 0) (A : Algebra V) (In : ℕ → V → Type 0) (L :
   }
 
   pub reduced-scaled : (e c : ℕ) (f : List Term) → IsReduced q A gs e f → IsReduced q A gs e (scaled c f)
-  reduced-scaled e c f F = record { over = over-scaled q (degrees gs) e c f F.over; standard =
-      each-scaled-monomial (IsStandard q A gs e) c f F.standard }
+  reduced-scaled e c f F = record {
+    over = over-scaled q (degrees gs) e c f F.over;
+    standard =
+        each-scaled-monomial (IsStandard q A gs e) c f F.standard;
+  }
 
   -- all monomials of degree e, each of them standard or leading
   pub record Known (e : ℕ) : Type 0 where
@@ -124,9 +127,11 @@ module _ (q : ℕ) (V : Type 0) (A : Algebra V) (In : ℕ → V → Type 0) (L :
             ⊎ IsLeading q A (IsRelation q A gs e) (slice_index_or K.monomials k [])
             → Std k ⊎ ((Std k → ⊥) × Leads k)
         status k l (inl s) = inl s
-        status k l (inr h) = inr
-            ((λ s. s h), at-leading q (degrees gs) e K.monomials K.all A (IsRelation q A gs e)
-            (λ f r. r.over) k l h)
+        status k l (inr h) = inr (
+          (λ s. s h),
+          at-leading q (degrees gs) e K.monomials K.all A (IsRelation q A gs e)
+              (λ f r. r.over) k l h,
+        )
 
         plus : (g : List Term) (c k : ℕ) → Q g → (Std k → ⊥) → (t : Leads k) → k < length K.monomials
             → coefficient_at K.monomials g k % suc q ≢ 0 → Q (g ++ scaled c t.member)
@@ -213,9 +218,11 @@ module _ (q : ℕ) (V : Type 0) (A : Algebra V) (In : ℕ → V → Type 0) (L :
             ⊎ IsLeading q A (IsRelation q A gs e) (slice_index_or K.monomials j [])
             → Std j ⊎ ((Std j → ⊥) × Leads j)
         status j l (inl s) = inl s
-        status j l (inr h) = inr
-            ((λ s. s h), at-leading q (degrees gs) e K.monomials K.all A (IsRelation q A gs e)
-            (λ f r. r.over) j l h)
+        status j l (inr h) = inr (
+          (λ s. s h),
+          at-leading q (degrees gs) e K.monomials K.all A (IsRelation q A gs e)
+              (λ f r. r.over) j l h,
+        )
 
         plus : (g : List Term) (c j : ℕ) → Q g → (Std j → ⊥) → (t : Leads j) → j < length K.monomials
             → coefficient_at K.monomials g j % suc q ≢ 0 → Q (g ++ scaled c t.member)
@@ -290,8 +297,13 @@ module _ (q : ℕ) (V : Type 0) (A : Algebra V) (In : ℕ → V → Type 0) (L :
     }
       where
         one : IsMonomial q (degrees gs) 0 []
-        one = record { within = tt; trimmed = tt; fitting = fits-nil q (degrees gs); degree_is =
-            degree-nil (degrees gs) }
+        one = record {
+          within = tt;
+          trimmed = tt;
+          fitting = fits-nil q (degrees gs);
+          degree_is =
+              degree-nil (degrees gs);
+        }
 
         each : (i : ℕ) → i < 1 → IsMonomial q (degrees gs) 0 (slice_index_or ([] ∷ []) i [])
         each zero l = one
@@ -305,8 +317,12 @@ module _ (q : ℕ) (V : Type 0) (A : Algebra V) (In : ℕ → V → Type 0) (L :
     -- each degree to n is known
     pub known : (e : ℕ) → e ≤ n → Known e
     known zero l = known-zero
-    known (suc e) l = record { monomials = v.ms; all = v.are_all; status =
-        λ k b. go k b (status-at q V A gs v.before (suc e) v.ms v.new v.is_new k b) }
+    known (suc e) l = record {
+      monomials = v.ms;
+      all = v.are_all;
+      status =
+          λ k b. go k b (status-at q V A gs v.before (suc e) v.ms v.new v.is_new k b);
+    }
       where
         v : Level q V A In L gs field e rs
         v = level q V A In L gs field n rs R e l

@@ -27,8 +27,11 @@ multiple-append q ds c m (t ∷ f) g =
         → multiple q ds c m (f ++ g) ≡ multiple q ds c m f ++ multiple q ds c m g
         → multiple q ds c m ((t ∷ f) ++ g) ≡ multiple q ds c m (t ∷ f) ++ multiple q ds c m g
     go (inl e) r = rw e
-        (ap (λ ts. record { scalar = c * (sign q (swaps ds m t.monomial) * t.scalar); monomial =
-        joined m t.monomial } ∷ ts) r)
+        (ap (λ ts. record {
+          scalar = c * (sign q (swaps ds m t.monomial) * t.scalar);
+          monomial =
+              joined m t.monomial;
+        } ∷ ts) r)
     go (inr e) r = rw e r
 
 pub multiple-unfit : (q : ℕ) (ds : List ℕ) (c : ℕ) (a : List ℕ) (f : List Term) → fits q ds a ≡ false
@@ -94,9 +97,11 @@ module _ (q : ℕ) (ds : List ℕ) (rs : List Polynomial) (over : (r : Polynomia
           },
           tt,
         );
-        sum = record { at = λ m. congruent_eq
-            (let z = coefficient-append (multiple q ds c (joined a t.by) t.of.terms) [] m in
-            omega (arith, z)) };
+        sum = record {
+          at = λ m. congruent_eq
+              (let z = coefficient-append (multiple q ds c (joined a t.by) t.of.terms) [] m in
+              omega (arith, z));
+        };
       }
       go (inr f) = rw (multiple-unfit q ds c (joined a t.by) t.of.terms f)
           (ideal-zero q ds rs (e + d) [] (λ m. congruent_refl 0))

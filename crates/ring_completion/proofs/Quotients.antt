@@ -48,8 +48,13 @@ pub record IsFactorOf (q : ℕ) (ds : List ℕ) (i e d : ℕ) (n m : List ℕ) :
 pub factor-of : (q : ℕ) (ds : List ℕ) (i e d : ℕ) (n m : List ℕ) → IsMonomial q ds d m
     → IsQuotient q ds i e n m → IsFactorOf q ds i e d n m
 factor-of q ds i e d n m M Q = record {
-  generator = record { within = within-left ds (power i 1) n w; trimmed = power-trimmed i; fitting =
-      fits-left q ds (power i 1) n f; degree_is = refl };
+  generator = record {
+    within = within-left ds (power i 1) n w;
+    trimmed = power-trimmed i;
+    fitting =
+        fits-left q ds (power i 1) n f;
+    degree_is = refl;
+  };
   fitting = f;
   sum = let a = degree-joined ds (power i 1) n in let b = Q.monomial.degree_is in
       let c : degree ds (joined (power i 1) n) ≡ d = ap (degree ds) Q.product ∙ M.degree_is in

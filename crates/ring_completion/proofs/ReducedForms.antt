@@ -23,7 +23,7 @@ module _ (q : ℕ) (mul : ℕ → ℕ → Vector q → Vector q → Vector q) (g
       → IsCongruent (suc q) (combination f values j) 0
   spanned-vanishes f s j =
       congruent_trans
-          (same_coefficients values f (combination s.0 kernel) (λ t b. congruent_sym (s.1.each t)) j)
+      (same_coefficients values f (combination s.0 kernel) (λ t b. congruent_sym (s.1.each t)) j)
       (congruent_trans
       ((combine_combinations (suc q) (length kernel) (length values) s.0 (λ i k. entry (row kernel i) k)
       (λ k j. entry (row values k) j) (λ i j. 0)

@@ -106,7 +106,7 @@ module _ (q : ℕ) (field : IsFieldModulo (suc q)) (ds : List ℕ) (d : ℕ) (ns
       → (f : List Term) → Q f → (g : List Term) × Q g × IsClean g
   reduce Q Q-plus f m =
       let r = reduced q (length ns) (List Term) (coefficient_at ns) field (λ f c g. f ++ scaled c g) plus-at T
-          Q Kept status
+      Q Kept status
       (λ f c k x o t l nz. Q-plus f t.member c x t.is_member) f m in
       (r.0, r.1, clean-from r.0 r.2)
 
@@ -123,7 +123,7 @@ module _ (q : ℕ) (field : IsFieldModulo (suc q)) (ds : List ℕ) (d : ℕ) (ns
       → (m : List ℕ) → IsMonomial q ds d m → IsListed ms m → IsLeading q A S m → LeadsClean S m
   leads-clean S S-over S-plus m x i h =
       made (reduced q (length ns) (List Term) (coefficient_at ns) field (λ f c g. f ++ scaled c g) plus-at T Q
-          Kept status Q-plus h.member start)
+      Kept status Q-plus h.member start)
     where
       at : IsListed ns m
       at = M.all m x

@@ -77,8 +77,14 @@ module _ (q : ℕ) (mul : ℕ → ℕ → Vector q → Vector q → Vector q) (g
     pub difference : T (f ++ scaled q polynomial)
 
   pub rest-zero : IsRest [] (vectors q mul).zero
-  rest-zero = record { polynomial = []; over = tt; clean = λ m M. inr (congruent_refl 0); vector_is =
-      coefficients-empty q mul ms; difference = zero-consequence }
+  rest-zero = record {
+    polynomial = [];
+    over = tt;
+    clean = λ m M. inr (congruent_refl 0);
+    vector_is =
+        coefficients-empty q mul ms;
+    difference = zero-consequence;
+  }
 
   pub rest-plus : (f h : List Term) (v w : Vector q) (c : ℕ) → IsOver q (degrees gs) d f
       → IsOver q (degrees gs) d h → IsRest f v → IsRest h w
@@ -98,10 +104,10 @@ module _ (q : ℕ) (mul : ℕ → ℕ → Vector q → Vector q → Vector q) (g
               (let x = at-plus (f ++ scaled c h) (a.polynomial ++ scaled c b.polynomial) q m in let y =
               at-plus f h c m in
               let z = at-plus a.polynomial b.polynomial c m in let x' =
-                  at-plus (f ++ scaled q a.polynomial) (h ++ scaled q b.polynomial) c m in
+              at-plus (f ++ scaled q a.polynomial) (h ++ scaled q b.polynomial) c m in
               let y' = at-plus f a.polynomial q m in let z' = at-plus h b.polynomial q m in
               x ∙ ap₂ (λ s t. s + q * t) y z ∙ exchanged (coefficient f m) (coefficient h m)
-                  (coefficient a.polynomial m) (coefficient b.polynomial m)
+              (coefficient a.polynomial m) (coefficient b.polynomial m)
               ∙ sym (x' ∙ ap₂ (λ s t. s + c * t) y' z'));
         })
         (plus (f ++ scaled q a.polynomial) (h ++ scaled q b.polynomial) c a.difference b.difference);
@@ -165,8 +171,13 @@ module _ (q : ℕ) (mul : ℕ → ℕ → Vector q → Vector q → Vector q) (g
   pub vector-sum : (rows : List (List ℕ)) → ((k : ℕ) → k < length rows → IsVector (vector q (row rows k)))
       → (u : ℕ → ℕ) (k : ℕ) → k ≤ length rows
       → IsVector (λ j. residue q (sum_below k (λ i. u i * entry (row rows i) j)))
-  vector-sum rows h u zero l = record { polynomial = []; clean = λ m M. inr (congruent_refl 0); vector_is =
-      coefficients-empty q mul ms; consequence = zero-consequence }
+  vector-sum rows h u zero l = record {
+    polynomial = [];
+    clean = λ m M. inr (congruent_refl 0);
+    vector_is =
+        coefficients-empty q mul ms;
+    consequence = zero-consequence;
+  }
   vector-sum rows h u (suc k) l = rw (fun_ext (λ j. sym (together j)))
       (vector-plus _ _ (u k) (vector-sum rows h u k (omega arith)) (h k (omega arith)))
     where

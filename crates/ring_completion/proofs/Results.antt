@@ -76,11 +76,11 @@ module _ (q n : ℕ) (field : IsFieldModulo (suc q)) (G : GradedAlgebra q) (gs :
       (C : IsCompletion q G.mul gs rs (suc n) ms products forms rows)
       (e : IsEchelonOf (suc q) (length ms) rows E) where
     pub candidate-pivots : (k : ℕ) → k < length ms
-        → IsLeading q (algebra q G) (IsConsequence q (algebra q G) gs rs (suc n)) (slice_index_or ms k []) ↔
-        IsPivot E k
+        → IsLeading q (algebra q G) (IsConsequence q (algebra q G) gs rs (suc n)) (slice_index_or ms k [])
+        ↔ IsPivot E k
     candidate-pivots k l = (
       pivot-if-leading q field G.mul (IsOfDegree q G) G.laws gs positive free n rs R ms C.candidates all.0
-      all.1 products C.products_are forms C.forms_are rows E C.critical e k l,
+          all.1 products C.products_are forms C.forms_are rows E C.critical e k l,
       (λ p. leading-if-pivot q field G.mul (IsOfDegree q G) G.laws gs positive free n rs R ms
           C.candidates.some
           products C.products_are forms C.forms_are rows E C.critical e p.0 k p.1 p.2 l),
@@ -96,7 +96,7 @@ module _ (q n : ℕ) (field : IsFieldModulo (suc q)) (G : GradedAlgebra q) (gs :
       };
       each = λ k l h. let s = stood E 0 ms k l in
           none-if-not-found E s.0 (ap (is_pivot E) (let z : s.0 ≡ 0 + s.0 = omega arith in z) ∙ s.3)
-              ((candidate-pivots s.0 s.1).0 (subst Leads s.2 h));
+          ((candidate-pivots s.0 s.1).0 (subst Leads s.2 h));
       all = λ m M. go m (separates-candidates ms C.candidates m M);
     }
       where
@@ -259,14 +259,16 @@ module _ (q n : ℕ) (field : IsFieldModulo (suc q)) (G : GradedAlgebra q) (gs :
       → IsConsequence q (algebra q G) (gs ++ g ∷ []) rs (suc n)
       (generator_times q (degrees (gs ++ g ∷ [])) i x ++ scaled q
       (polynomial_of (ms ++ power (length (degrees gs)) 1 ∷ []) (u ++ 0 ∷ [])))
-  form-and-last g ms i e x u d C I M l c = rw (polynomial-with-last ms (power (length (degrees gs)) 1) u l,
-      times-more q (algebra q G) gs (g ∷ []) i e x I M)
+  form-and-last g ms i e x u d C I M l c = rw (
+    polynomial-with-last ms (power (length (degrees gs)) 1) u l,
+    times-more q (algebra q G) gs (g ∷ []) i e x I M,
+  )
       (up q n (algebra q G) gs g d rs
       (λ r o. (defining q (Vector q) (algebra q G) gs n rs R r o).vanishes.over)
       (λ r o. (defining q (Vector q) (algebra q G) gs n rs R r o).positive) positive ms C _ c)
 
   pub nothing-leads : (ms : List (List ℕ)) → AreLeft q (algebra q G) gs rs (suc n) ms → (k : ℕ)
       → k < length ms
-      → IsLeading q (algebra q G) (IsConsequence q (algebra q G) gs rs (suc n)) (slice_index_or ms k []) ↔
-      IsPivot [] k
+      → IsLeading q (algebra q G) (IsConsequence q (algebra q G) gs rs (suc n)) (slice_index_or ms k [])
+      ↔ IsPivot [] k
   nothing-leads ms C k l = ((λ h. absurd (C.each k l h)), (λ p. absurd (let b = p.1 in omega (arith, b))))

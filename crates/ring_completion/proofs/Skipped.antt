@@ -45,7 +45,7 @@ module _ (q : ℕ) (field : IsFieldModulo (suc q)) (mul : ℕ → ℕ → Vector
       ≡ coefficients q mul ms (multiple q (degrees gs) 1 (power i 1) (generator_times q (degrees gs) j s))
   form-at i j e s I J X d l =
       linear-same q (Vector q) (vectors q mul) (vector-space q mul) (λ s. vector q (forms i s)) (products j s)
-          (generator_times q (degrees gs) j s)
+      (generator_times q (degrees gs) j s)
       (standard-same q (Vector q) (vectors q mul) In L gs (δ j + e)
       (known q (Vector q) (vectors q mul) In L gs field positive free n rs R (δ j + e) low)
       (products j s) (generator_times q (degrees gs) j s) (P.reduced j e s J X low') direct
@@ -71,8 +71,12 @@ module _ (q : ℕ) (field : IsFieldModulo (suc q)) (mul : ℕ → ℕ → Vector
       N = monomial-joined q (degrees gs) (δ j) e (δ j + e) (power j 1) s J X.monomial refl f
 
       standard : IsStandardOf q (vectors q mul) gs (δ j + e) (joined (power j 1) s)
-      standard = record { monomial = N; standard =
-          C.each l.0 i (δ j + e) (joined (power j 1) s) l.1 (rw l.2 record { monomial = N; product = refl }) }
+      standard = record {
+        monomial = N;
+        standard =
+            C.each l.0 i (δ j + e) (joined (power j 1) s) l.1
+            (rw l.2 record { monomial = N; product = refl });
+      }
 
       direct : IsReduced q (vectors q mul) gs (δ j + e) (generator_times q (degrees gs) j s)
       direct = rw f record { over = (N, tt); standard = (standard.standard, tt) }
@@ -102,7 +106,7 @@ module _ (q : ℕ) (field : IsFieldModulo (suc q)) (mul : ℕ → ℕ → Vector
       → exchange q mul gs products forms i j s ≡ (vectors q mul).zero
   exchange-at-candidate i j e s b I J X d l =
       ap₂ (λ x y. (vectors q mul).add x (times (vectors q mul) (q * sign q (δ i * δ j)) y))
-          (form-at i j e s I J X d l)
+      (form-at i j e s I J X d l)
       (form-at j i e s J I X (omega (arith, d)) (rw turned l))
       ∙ sym (coefficients-plus q mul ms
       (multiple q (degrees gs) 1 (power i 1) (generator_times q (degrees gs) j s))

@@ -154,6 +154,6 @@ module _ (q : ℕ) (field : IsFieldModulo (suc q)) (mul : ℕ → ℕ → Vector
         among i l = let b : i < length ms = rw V.count at l in let k =
             M.all (slice_index_or ms i []) (S.each i b) in
             in_span_congruent
-                (same-entries q (row all-values k.0) (row values i)
-                (are-all-values.each k.0 k.1 ∙ ap (evaluate (vectors q mul) gs) k.2 ∙ sym (V.each i b)))
+            (same-entries q (row all-values k.0) (row values i)
+            (are-all-values.each k.0 k.1 ∙ ap (evaluate (vectors q mul) gs) k.2 ∙ sym (V.each i b)))
             (in_span_row all-values k.0 (let c = count in let z = k.1 in omega (arith, c, z)))

@@ -117,9 +117,16 @@ module _ (q : ℕ) (V : Type 0) (A : Algebra V) (In : ℕ → V → Type 0) (L :
 
   pub lists-to : (k : ℕ) → k ≤ n → (lists : List (List (List ℕ))) × (length lists ≡ k)
       × AreStandardLists q A gs k lists
-  lists-to zero l = ([], refl,
-      record { some = λ e b. absurd (omega (arith, b)); each = λ e k b c. absurd (omega (arith, b)); all =
-      λ e m b X. absurd (omega (arith, b)) })
+  lists-to zero l = (
+    [],
+    refl,
+    record {
+      some = λ e b. absurd (omega (arith, b));
+      each = λ e k b c. absurd (omega (arith, b));
+      all =
+          λ e m b X. absurd (omega (arith, b));
+    },
+  )
   lists-to (suc k) l = made (lists-to k (omega arith)) (of-degree (suc k) l)
     where
       made : (lists : List (List (List ℕ))) × (length lists ≡ k) × AreStandardLists q A gs k lists
@@ -170,7 +177,7 @@ pub completion-exists : (q n : ℕ) → IsFieldModulo (suc q)
     × IsCompletion q G.mul gs rs (suc n) ms products forms rows
 completion-exists q n field G gs positive rs R =
     made (lists-to q (Vector q) (algebra q G) (IsOfDegree q G) G.laws gs field positive
-        (free q n field G gs positive rs R) n rs R n (omega arith))
+    (free q n field G gs positive rs R) n rs R n (omega arith))
     (all_monomials q (degrees gs) (suc n), all-monomials q (degrees gs) positive (suc n))
   where
     made : (lists : List (List (List ℕ))) × (length lists ≡ n) × AreStandardLists q (algebra q G) gs n lists
@@ -182,7 +189,7 @@ completion-exists q n field G gs positive rs R =
         let f = free q n field G gs positive rs R in
         let ms = candidates_of q (degrees gs) lists (suc n) in
         let C = listed-candidates q (Vector q) (algebra q G) (IsOfDegree q G) G.laws gs field positive f n rs
-            R lists S in
+        R lists S in
         let ps = products q field G.mul (IsOfDegree q G) G.laws gs positive f n rs R lists S in
         let fs = forms q field G.mul (IsOfDegree q G) G.laws gs positive f n rs R lists S ns M ms C in (
           ms,

@@ -4,7 +4,7 @@ use Rattle.std.proofs.Common.{◌≡◌, ℕ, suc, ◌<◌, ◌≤◌, List, [],
 use Rattle.std.proofs.lemmas.Bool.{cases_lt}
 use Rattle.std.specs.List.{AllByRecursion as Each}
 use Rattle.linear_algebra.specs.Modular.{IsCongruent, IsFieldModulo}
-use Rattle.graded_polynomials.specs.Monomials.{IsMonomial, IsGreater, exponent, degree}
+use Rattle.graded_polynomials.specs.Monomials.{IsMonomial, IsGreater, exponent}
 use Rattle.graded_polynomials.specs.Polynomials.{Term, Polynomial}
 use Rattle.graded_algebra.specs.Algebras.{Algebra, Generator, degrees, evaluate, value, times, IsGradedCommutative}
 use Rattle.graded_algebra.specs.Presentations.{IsRelations}
@@ -44,8 +44,10 @@ module _ (q : ℕ) {V : Type 0} (A : Algebra V) (gs : List (Generator V)) where
   pub together : (e i : ℕ) (g : List Term) → IsReduced q A gs e g → Each (λ t. IsClearBefore i t.monomial) g
       → Each (λ t. ClearStandard e i t.monomial) g
   together e i [] h c = tt
-  together e i (t ∷ g) h c = ((record { monomial = h.over.0; standard = h.standard.0 }, c.0),
-      together e i g record { over = h.over.1; standard = h.standard.1 } c.1)
+  together e i (t ∷ g) h c = (
+    (record { monomial = h.over.0; standard = h.standard.0 }, c.0),
+    together e i g record { over = h.over.1; standard = h.standard.1 } c.1,
+  )
 
 module _ (q : ℕ) (V : Type 0) (A : Algebra V) (In : ℕ → V → Type 0) (L : IsGradedCommutative q V A In)
     (gs : List (Generator V))
@@ -55,10 +57,13 @@ module _ (q : ℕ) (V : Type 0) (A : Algebra V) (In : ℕ → V → Type 0) (L :
   -- each monomial of lower degree has such a sum
   pub standing : (e i : ℕ) → e ≤ n → (k : List ℕ) → IsMonomial q (degrees gs) e k → IsClearBefore i k
       → (g : List Term) × StandingClear q A gs e i k g
-  standing e i l k K c = (r.0, record {
-    standing = record { reduced = r.1; value_is = r.2 ∙ linear-alone q V A L.space (evaluate A gs) k };
-    clear = clear-terms q A gs i k c r.0 r.3;
-  })
+  standing e i l k K c = (
+    r.0,
+    record {
+      standing = record { reduced = r.1; value_is = r.2 ∙ linear-alone q V A L.space (evaluate A gs) k };
+      clear = clear-terms q A gs i k c r.0 r.3;
+    },
+  )
     where
       r : (g : List Term) × IsReduced q A gs e g × (value A gs g ≡ value A gs (alone k))
           × Each (λ t. (t.monomial ≡ k) ⊎ IsGreater k t.monomial) g

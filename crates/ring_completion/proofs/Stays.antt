@@ -46,8 +46,11 @@ module _ (q : ℕ) {V : Type 0} (A : Algebra V) (gs new : List (Generator V)) wh
   pub standard-down : (d : ℕ) (m : List ℕ) → IsStandard q A more d m → IsStandard q A gs d m
   standard-down d m s l = s record {
     member = l.member;
-    is_member = record { over = over-up d l.member l.is_member.over; vanishes =
-        value-more A q d gs new l.member l.is_member.over ∙ l.is_member.vanishes };
+    is_member = record {
+      over = over-up d l.member l.is_member.over;
+      vanishes =
+          value-more A q d gs new l.member l.is_member.over ∙ l.is_member.vanishes;
+    };
     here = l.here;
     above = l.above;
   }

@@ -1,12 +1,12 @@
--- The polynomials in x over F_2 with the generators x, x^2 and x^3: each monomial of degree e has the value x^e,
--- and in the degrees 1 to 3 the generator of that degree is the one standard monomial.
-use Rattle.std.proofs.Common.{◌≡◌, ℕ, zero, suc, ◌+◌, ◌*◌, ◌%◌, ◌<◌, ◌≤◌, Bool, true, false, cond, eqb, List, [], ◌∷◌, ◌++◌, length, map, ◌⊎◌, inl, inr, arith, ap, ap₂, sym, subst, ◌∙◌, refl}
+-- The polynomials in x over F_2 with the generators x, x^2 and x^3: each monomial of degree e has the value
+-- x^e, and in the degrees 1 to 3 the generator of that degree is the one standard monomial.
+use Rattle.std.proofs.Common.{◌≡◌, ℕ, zero, suc, ◌+◌, ◌*◌, ◌<◌, ◌≤◌, true, false, List, [], ◌∷◌, ◌++◌, length, map, ◌⊎◌, inl, inr, arith, ap, ap₂, sym, subst, ◌∙◌, refl}
 use Rattle.std.specs.Prelude.{slice_index_or}
 use Rattle.std.specs.List.{AllByRecursion as Each}
 use Rattle.std.proofs.Math.Path.{fun_ext}
 use Rattle.std.proofs.lemmas.List.{get_or-map, length-map}
-use Rattle.linear_algebra.specs.Modular.{IsCongruent, IsFieldModulo}
-use Rattle.linear_algebra.specs.Rows.{entry, row, IsRow, IsMatrix, IsEchelonOf}
+use Rattle.linear_algebra.specs.Modular.{IsFieldModulo}
+use Rattle.linear_algebra.specs.Rows.{entry, IsRow, IsMatrix, IsEchelonOf}
 use Rattle.linear_algebra.specs.Kernels.{IsKernelOf}
 use Rattle.linear_algebra.proofs.Congruences.{congruent_eq}
 use Rattle.linear_algebra.proofs.Existence.{echelon}
@@ -202,7 +202,7 @@ module _ (n : ℕ) (rs : List Polynomial) (R : IsRelations 1 (algebra 1 line) gs
           × (value (algebra 1 line) gs g ≡ value (algebra 1 line) gs (alone (least e))) → ⊥
       no-value (g, r, z) =
           let p : (algebra 1 line).zero ≡ single (unit 1 0) =
-              ap (value (algebra 1 line) gs) (sym (nothing g r)) ∙ z ∙ alone-value (least e) in
+          ap (value (algebra 1 line) gs) (sym (nothing g r)) ∙ z ∙ alone-value (least e) in
           let w : 0 ≡ 1 = ap (λ (v : Vector 1). (v 0).0) p in omega (arith, w)
 
   -- and no other monomial of the degree is
@@ -228,7 +228,7 @@ one-vector = fun_ext (λ i. at i)
     at zero = refl
     at (suc i) = rw (eqb-false (suc i) 0 (omega arith)) refl
 
-one-row : IsRow 2 1 (1 ∷ [])
+pub one-row : IsRow 2 1 (1 ∷ [])
 one-row = record { length_is = refl; below = below }
   where
     below : (j : ℕ) → j < 1 → entry (1 ∷ []) j < 2

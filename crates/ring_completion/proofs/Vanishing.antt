@@ -48,7 +48,7 @@ module _ (q : ℕ) (V : Type 0) (A : Algebra V) (In : ℕ → V → Type 0) (L :
       → is_exterior q (δ i) ≡ true → 1 ≤ exponent k i → IsClearBefore i k → linear B (forms i) g ≡ B.zero
   square-vanishes i e k g I K d G o x c =
       through q V A In L gs field positive free n rs R W B S products P i low I (omega (arith, sum, p, d))
-          (forms i) r.0 t.0 g r.1.monomial t.1.standing.reduced t.1.standing.value_is
+      (forms i) r.0 t.0 g r.1.monomial t.1.standing.reduced t.1.standing.value_is
       (rw sum G.reduced) (G.value_is ∙ ap (evaluate A gs) (sym r.1.product))
       ∙ ap (times B (s (power i 1) r.0))
       (zero-linear low i (λ a. linear B (forms i) (products i a)) t.0
@@ -79,8 +79,8 @@ module _ (q : ℕ) (V : Type 0) (A : Algebra V) (In : ℕ → V → Type 0) (L :
       → linear B (forms i) g ≡ B.zero
   other-vanishes i l e k g b I K d G o x y c =
       through q V A In L gs field positive free n rs R W B S products P l low F.generator
-          (omega (arith, sum, p, d)) (forms i) r.0 t.0 g r.1.monomial t.1.standing.reduced
-          t.1.standing.value_is
+      (omega (arith, sum, p, d)) (forms i) r.0 t.0 g r.1.monomial t.1.standing.reduced
+      t.1.standing.value_is
       (rw sum G.reduced) (G.value_is ∙ ap (evaluate A gs) (sym r.1.product))
       ∙ ap (times B (s (power l 1) r.0)) gone ∙ times-zero q W B S (s (power l 1) r.0)
     where
@@ -111,7 +111,7 @@ module _ (q : ℕ) (V : Type 0) (A : Algebra V) (In : ℕ → V → Type 0) (L :
       inside = let a = exponent-joined (power l 1) r.0 i in let z =
           power-elsewhere l 1 i (λ h. omega (arith, h, b)) in
           let w : exponent (joined (power l 1) r.0) i ≡ exponent k i = ap (λ m. exponent m i) r.1.product in
-              omega (arith, a, z, w, x)
+          omega (arith, a, z, w, x)
 
       w : (w : List ℕ) × IsQuotient q (degrees gs) i (degree (degrees gs) w) w r.0
       w = quotient-exists q (degrees gs) low i r.0 r.1.monomial inside
@@ -129,7 +129,7 @@ module _ (q : ℕ) (V : Type 0) (A : Algebra V) (In : ℕ → V → Type 0) (L :
           (omega (arith, sum, o', d)) (forms l) r.0 t.0 [] r.1.monomial t.1.standing.reduced
           t.1.standing.value_is
           record { over = tt; standard = tt }
-              (sym (evaluate-unfit q V A In L gs (joined (power i 1) r.0) unfit))
+          (sym (evaluate-unfit q V A In L gs (joined (power i 1) r.0) unfit))
           ∙ ap (times B (s (power i 1) r.0))
           (linear-times q W B S (λ a. linear B (forms l) (products i a))
           (λ a. linear B (forms i) (products l a)) (sign q (δ l * δ i))

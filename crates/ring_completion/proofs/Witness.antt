@@ -4,11 +4,10 @@ use Rattle.std.proofs.Common.{◌≡◌, ℕ, zero, suc, ◌+◌, ◌<◌, List,
 use Rattle.std.specs.Prelude.{slice_index_or, drop}
 use Rattle.std.specs.List.{AllByRecursion as Each}
 use Rattle.std.proofs.lemmas.List.{get_or_past}
-use Rattle.linear_algebra.specs.Modular.{IsCongruent, IsFieldModulo}
+use Rattle.linear_algebra.specs.Modular.{IsCongruent}
 use Rattle.linear_algebra.specs.Rows.{entry, row, IsRow, IsEchelon, IsEchelonOf}
 use Rattle.linear_algebra.specs.Kernels.{IsKernelOf, IsInKernel}
 use Rattle.linear_algebra.proofs.Congruences.{congruent_eq, congruent_trans, congruent_sym}
-use Rattle.linear_algebra.proofs.Fields.{field_of_prime}
 use Rattle.graded_polynomials.specs.Monomials.{IsMonomial, joined, IsMonomials}
 use Rattle.graded_polynomials.specs.Polynomials.{Term, Multiple, IsMultiple, coefficient, total}
 use Rattle.graded_polynomials.specs.Texts.{power}
@@ -25,12 +24,10 @@ use Rattle.ring_completion.specs.Left.{IsCompletion}
 use Rattle.ring_completion.proofs.Choosing.{are-candidates}
 use Rattle.ring_completion.proofs.FormRows.{form-of-product}
 use Rattle.ring_completion.proofs.OpenLine.{line}
+use Rattle.ring_completion.proofs.ThreePowers.{field, one-row}
 use Rattle.ring_completion.proofs.Results.{free, separates-left, nothing-leads, relations-of-list, standard-of-list, left-candidates}
 use Rattle.std.proofs.Math.Path.{fun_ext}
 use Rattle.graded_polynomials.proofs.Terms.{eqb-false, false≢true}
-
-field : IsFieldModulo 2
-field = field_of_prime 2 (inl refl)
 
 abbrev gs : List (Generator (Vector 1))
 gs = record { degree = 1; class = unit 1 0 } ∷ []
@@ -43,8 +40,12 @@ powers-of-x : (d : ℕ) → IsMonomials 1 (1 ∷ []) (suc d) ((suc d ∷ []) ∷
 powers-of-x d = record { each = each; all = all; descending = λ i j b l. absurd (omega (arith, b, l)) }
   where
     each : (i : ℕ) → i < 1 → IsMonomial 1 (1 ∷ []) (suc d) (slice_index_or ((suc d ∷ []) ∷ []) i [])
-    each zero l = record { within = tt; trimmed = ((λ e z. absurd (omega (arith, z))), tt); fitting = refl;
-        degree_is = omega arith }
+    each zero l = record {
+      within = tt;
+      trimmed = ((λ e z. absurd (omega (arith, z))), tt);
+      fitting = refl;
+      degree_is = omega arith;
+    }
     each (suc i) l = absurd (omega (arith, l))
 
     all : (m : List ℕ) → IsMonomial 1 (1 ∷ []) (suc d) m
@@ -171,8 +172,11 @@ only-one-below i e s X l z = let d : degree_of (degrees gs) i ≡ 1 = ap (degree
     (w, only-one 1 (degrees gs) s positive (let M = X.monomial in rw w at M))
 
 are-products : AreProducts 1 (algebra 1 line) gs 2 products
-are-products = record { reduced = λ i e s I X l. reduced i e s X l (only-x i I); value_is =
-    λ i e s I X l. value-is i e s X l (only-x i I) }
+are-products = record {
+  reduced = λ i e s I X l. reduced i e s X l (only-x i I);
+  value_is =
+      λ i e s I X l. value-is i e s X l (only-x i I);
+}
   where
     reduced : (i e : ℕ) (s : List ℕ) → IsStandardOf 1 (algebra 1 line) gs e s
         → degree_of (degrees gs) i + e < 2 → i ≡ 0
@@ -197,13 +201,6 @@ only-x-times-x i e s X d z = let a : degree_of (degrees gs) i ≡ 1 = ap (degree
     listed s (zero, l, e) = sym e
     listed s (suc k, l, e) = absurd (omega (arith, l))
 
-one-row : IsRow 2 1 (1 ∷ [])
-one-row = record { length_is = refl; below = below }
-  where
-    below : (j : ℕ) → j < 1 → entry (1 ∷ []) j < 2
-    below zero l = omega arith
-    below (suc j) l = absurd (omega (arith, l))
-
 are-forms : AreForms 1 line.mul gs [] 2 ((2 ∷ []) ∷ []) forms
 are-forms = record {
   row = λ i e s I X d. one-row;
@@ -221,8 +218,12 @@ no-critical-rows = record {
 }
 
 pub completion : IsCompletion 1 line.mul gs [] 2 ((2 ∷ []) ∷ []) products forms []
-completion = record { candidates = x-squared-candidate; products_are = are-products; forms_are = are-forms;
-    critical = no-critical-rows }
+completion = record {
+  candidates = x-squared-candidate;
+  products_are = are-products;
+  forms_are = are-forms;
+  critical = no-critical-rows;
+}
 
 no-rows : IsEchelonOf 2 1 [] []
 no-rows = record {

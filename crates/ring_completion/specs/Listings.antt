@@ -50,14 +50,14 @@ abbrev pub has_standard_quotients : List (List (List ℕ)) → ℕ → List ℕ 
 has_standard_quotients lists d m i [] = true
 has_standard_quotients lists d m i (e ∷ es) =
     (eqb (exponent m i) 0 || is_listed (standard_of lists (d - e)) (without_factor i m))
-        && has_standard_quotients lists d m (suc i) es
+    && has_standard_quotients lists d m (suc i) es
 
 -- the candidates among the products of generator i with these monomials
 abbrev pub products_with : ℕ → List ℕ → List (List (List ℕ)) → ℕ → ℕ → List (List ℕ) → List (List ℕ)
 products_with q ds lists d i [] = []
 products_with q ds lists d i (s ∷ ss) =
     cond (is_clear_before i s
-        && (fits q ds (joined (power i 1) s) && has_standard_quotients lists d (joined (power i 1) s) 0 ds))
+    && (fits q ds (joined (power i 1) s) && has_standard_quotients lists d (joined (power i 1) s) 0 ds))
     (joined (power i 1) s ∷ products_with q ds lists d i ss) (products_with q ds lists d i ss)
 
 -- the candidates of degree d with their first factors among the generators from i on, with the degrees es

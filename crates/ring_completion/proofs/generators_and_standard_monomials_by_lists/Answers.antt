@@ -14,7 +14,7 @@ returns-clause-degrees c i ds l = degree-power ds i l
 pub returns-clause-standard : goal.returns-clause-standard
 returns-clause-standard c q n e G gs rs lists s field p R S l =
     standard-listed q (Vector q) (algebra q G) (IsOfDegree q G) G.laws gs field p (free q n field G gs p rs R)
-        n rs R lists S e (omega (arith, l)) s
+    n rs R lists S e (omega (arith, l)) s
 
 pub returns-clause-clear : goal.returns-clause-clear
 returns-clause-clear c i s = ((λ h. found-if-clear i s h), (λ h. clear-if-found i s h))
