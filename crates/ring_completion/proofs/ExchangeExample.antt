@@ -1,4 +1,4 @@
--- A completion with an exchange that is not 0: the polynomials in x over F_2, in degree 4, with the generators
+-- A completion with an exchange that is not 0: the polynomials in x over F_2, in degree 4, with generators
 -- y, u and v of the classes x, x^2 and x^3. The relations are y^2 + u and y u + v, and their consequence
 -- y (y u + v) + u (y^2 + u), which is y v + u^2, leads at the candidate y v.
 use Rattle.std.proofs.Common.{◌≡◌, ◌≢◌, ℕ, zero, suc, ◌+◌, ◌*◌, ◌<◌, ◌≤◌, Bool, true, false, cond, eqb, ◌%◌, List, [], ◌∷◌, length, ◌⊎◌, inl, arith, ap, sym, subst, ◌∙◌, refl}
