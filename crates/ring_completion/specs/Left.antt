@@ -1,0 +1,31 @@
+-- What is left of a list, and the data of one degree together.
+use Rattle.std.specs.Prelude.{ℕ, suc, cond, List, [], ◌∷◌}
+use Rattle.graded_polynomials.specs.Polynomials.{Term, Polynomial}
+use Rattle.graded_algebra.specs.Algebras.{Generator}
+use Rattle.graded_algebra.specs.Vectors.{Vector, vectors}
+use Rattle.linear_algebra.specs.Rows.{is_pivot}
+use Rattle.ring_completion.specs.Candidates.{AreCandidates}
+use Rattle.ring_completion.specs.Completions.{AreProducts}
+use Rattle.ring_completion.specs.Eliminations.{AreForms, AreCritical}
+
+-- the members of a list, counted from k on, whose place is the pivot of none of the rows
+abbrev pub without_pivots : List (List ℕ) → ℕ → List (List ℕ) → List (List ℕ)
+without_pivots rows k [] = []
+without_pivots rows k (x ∷ xs) =
+    cond (is_pivot rows k) (without_pivots rows (suc k) xs) (x ∷ without_pivots rows (suc k) xs)
+
+-- the entries of a row, counted from k on, whose place is the pivot of none of the rows
+abbrev pub entries_without : List (List ℕ) → ℕ → List ℕ → List ℕ
+entries_without rows k [] = []
+entries_without rows k (x ∷ xs) =
+    cond (is_pivot rows k) (entries_without rows (suc k) xs) (x ∷ entries_without rows (suc k) xs)
+
+-- ms are the candidates of degree d, with the products and forms of standard monomials and the critical rows
+pub record IsCompletion (q : ℕ) (mul : ℕ → ℕ → Vector q → Vector q → Vector q)
+    (gs : List (Generator (Vector q))) (rs : List Polynomial) (d : ℕ)
+    (ms : List (List ℕ)) (products : ℕ → List ℕ → List Term) (forms : ℕ → List ℕ → List ℕ)
+    (rows : List (List ℕ)) : Type 0 where
+  pub candidates : AreCandidates q (vectors q mul) gs d ms
+  pub products_are : AreProducts q (vectors q mul) gs d products
+  pub forms_are : AreForms q mul gs rs d ms forms
+  pub critical : AreCritical q mul gs d products forms rows
