@@ -1,8 +1,9 @@
+-- Vectors with different heads, and what reduction by them leaves.
 use Rattle.std.specs.Prelude.{◌≡◌, ◌≢◌, ℕ, ◌+◌, ◌-◌, ◌*◌, ◌%◌, ◌<◌, List, length}
 use Rattle.linear_algebra.specs.Rows.{entry, row, pivot, IsMatrix, IsInSpan}
 
--- the head of a vector is its first place that is not 0: heads are pairwise different, the entry at a head is 1,
--- and each vector is 0 at the heads of the vectors before it
+-- the head of a vector is its first place that is not 0: heads are pairwise different, the entry at a head
+-- is 1, and each vector is 0 at the heads of the vectors before it
 pub record IsBasis (p width : ℕ) (vectors : List (List ℕ)) : Type 0 where
   pub matrix : IsMatrix p width vectors
   pub not_zero : (i : ℕ) → i < length vectors → pivot (row vectors i) < width

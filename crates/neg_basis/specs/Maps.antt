@@ -2,7 +2,7 @@
 use Rattle.std.specs.Prelude.{ℕ, ◌<◌, List}
 use Rattle.linear_algebra.specs.Rows.{IsInSpan, AreInSpan}
 
--- the span of the rows is closed under the first m maps: each sends each vector of the span to one of the span
+-- the span of the rows is closed under the first m maps: each sends each vector of the span into the span
 pub record IsClosed (p m : ℕ) (image : ℕ → (ℕ → ℕ) → ℕ → ℕ) (rows : List (List ℕ)) : Type 0 where
   pub each : (i : ℕ) → i < m → (v : ℕ → ℕ) → IsInSpan p rows v → IsInSpan p rows (image i v)
 

@@ -1,3 +1,4 @@
+-- Where the vectors of a basis come from, and which generators are chosen.
 use Rattle.std.specs.Prelude.{◌≡◌, ℕ, ◌<◌, ◌⊎◌, List, [], ◌∷◌, length, slice_index_or, take, ⊤}
 use Rattle.linear_algebra.specs.Rows.{entry, row}
 use Rattle.neg_basis.specs.Maps.{IsInSubmodule}

@@ -41,10 +41,14 @@ impl Model for NegBasis {
 }
 
 impl NegBasis {
-    /// The negative standard basis of the submodule that the rows of `gens` generate under the maps (Green, LNM
-    /// 1828). A row is chosen exactly where it is not in the submodule that the rows before it generate. There
-    /// are at most 2^32 maps, rows and places of a row.
-    pub fn from_generators<T: Ops>(alloc: Global, ops: &T, gens: &Matrix) -> Result<NegBasis, Memory>
+    /// The negative standard basis of the submodule that the rows of `gens` generate under the maps
+    /// (Green, LNM 1828). A row is chosen exactly where it is not in the submodule that the rows before it
+    /// generate. There are at most 2^32 maps, rows and places of a row.
+    pub fn from_generators<T: Ops>(
+        alloc: Global,
+        ops: &T,
+        gens: &Matrix,
+    ) -> Result<NegBasis, Memory>
         requires same_field { gens.now.p ≡ T.modulus ops.now }
         requires same_width { gens.now.width ≡ T.width ops.now }
         requires maps_fit { T.maps ops.now ≤ 2 ^ 32 }

@@ -6,8 +6,8 @@ ghost use Rattle.fp_rows.specs.Refs.{entries_of, modulus_of};
 
 use fp_rows::{Row, RowRef};
 
-/// Linear maps on rows of one width over one prime. Contracts see map i as the function `image` of its number and
-/// of the entries of a row.
+/// Linear maps on rows of one width over one prime. Contracts see map i as the function `image` of its number
+/// and of the entries of a row.
 pub trait Ops {
     ghost modulus: { Self → ℕ };
 

@@ -1,4 +1,4 @@
-/// Where a vector comes from. It is a multiple of what its origin stands for, reduced by the vectors before it.
+/// Where a vector comes from: it is a multiple of what its origin names, reduced by the vectors before it.
 #[derive(Clone, Copy)]
 pub enum Origin {
     /// Row r of the generators, counted from 0.

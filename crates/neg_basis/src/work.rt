@@ -36,7 +36,8 @@ fn apply_one<T: Ops>(
     ensures basis { OnOk result (IsBasis vectors.old.p vectors.old.width vectors.new.rows) }
     ensures heads_are { OnOk result (heads.new.items ≡ map pivot vectors.new.rows) }
     ensures grown { OnOk result (length vectors.old.rows ≤ length vectors.new.rows) }
-    ensures worked { OnOk result (Continues vectors.old.p vectors.old.width (T.maps ops.now) (T.image ops.now) vectors.old.rows origins.old.items of number vectors.new.rows origins.new.items of (number + 1)) }
+    ensures worked { OnOk result (Continues vectors.old.p vectors.old.width (T.maps ops.now) (T.image ops.now)
+        vectors.old.rows origins.old.items of number vectors.new.rows origins.new.items of (number + 1)) }
 {
     ops.apply(number, vectors.row(of), v);
     let origin = Origin::Step {
@@ -71,7 +72,8 @@ fn apply_all<T: Ops>(
     ensures basis { OnOk result (IsBasis vectors.old.p vectors.old.width vectors.new.rows) }
     ensures heads_are { OnOk result (heads.new.items ≡ map pivot vectors.new.rows) }
     ensures grown { OnOk result (length vectors.old.rows ≤ length vectors.new.rows) }
-    ensures worked { OnOk result (Continues vectors.old.p vectors.old.width (T.maps ops.now) (T.image ops.now) vectors.old.rows origins.old.items of 0 vectors.new.rows origins.new.items (of + 1) 0) }
+    ensures worked { OnOk result (Continues vectors.old.p vectors.old.width (T.maps ops.now) (T.image ops.now)
+        vectors.old.rows origins.old.items of 0 vectors.new.rows origins.new.items (of + 1) 0) }
 {
     for number in 0..ops.count() {
         apply_one(ops, vectors, heads, origins, of, number, v)?;
@@ -103,7 +105,9 @@ pub(crate) fn close<T: Ops>(
     ensures same_width { OnOk result (vectors.new.width ≡ vectors.old.width) }
     ensures basis { OnOk result (IsBasis vectors.old.p vectors.old.width vectors.new.rows) }
     ensures heads_are { OnOk result (heads.new.items ≡ map pivot vectors.new.rows) }
-    ensures worked { OnOk result (Continues vectors.old.p vectors.old.width (T.maps ops.now) (T.image ops.now) vectors.old.rows origins.old.items from 0 vectors.new.rows origins.new.items (length vectors.new.rows) 0) }
+    ensures worked { OnOk result (Continues vectors.old.p vectors.old.width (T.maps ops.now) (T.image ops.now)
+        vectors.old.rows origins.old.items from 0 vectors.new.rows origins.new.items
+        (length vectors.new.rows) 0) }
 {
     let mut of = from;
     while of < vectors.rows() {

@@ -1,4 +1,4 @@
-use Rattle.std.proofs.Common.{◌≡◌, ◌<◌, ℕ, length, replicate, ap, ◌∙◌}
+use Rattle.std.proofs.Common.{◌≡◌, ◌<◌, ℕ, length, ap, ◌∙◌}
 use Rattle.std.proofs.lemmas.List.{length-replicate}
 use Rattle.linear_algebra.specs.Modular.{IsCongruent}
 use Rattle.linear_algebra.specs.Rows.{entry, add_multiple, IsRow}
@@ -11,7 +11,8 @@ use Rattle.neg_basis.proofs.steps.load.Goals as goal
 both : (c : goal.After-add) → IsRow c.args.v.now.p (length c.args.v.now.entries) c.add.new.self.entries
     × ((j : ℕ) → IsCongruent c.args.v.now.p (entry c.add.new.self.entries j) (entry (entries_of c.args.r) j))
 both c = let n : length c.clear.new.self.entries ≡ length c.args.v.now.entries =
-    ap (λ (r : RowValue). length r.entries) c.clear.ensures ∙ length-replicate (length c.args.v.now.entries) 0 in
+    ap (λ (r : RowValue). length r.entries) c.clear.ensures ∙ length-replicate (length c.args.v.now.entries)
+    0 in
     let q : c.clear.new.self.p ≡ c.args.v.now.p = ap (λ (r : RowValue). r.p) c.clear.ensures in
     let one : 1 < c.args.v.now.p = rw c.requires.same_prime at (prime_above_one c.args.r.modulus) in
     let r : IsRow c.args.v.now.p (length c.clear.new.self.entries) (entries_of c.args.r) =

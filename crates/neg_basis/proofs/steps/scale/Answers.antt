@@ -7,5 +7,7 @@ use Rattle.neg_basis.proofs.steps.scale.Goals as goal
 
 pub returns : goal.returns
 returns c = same_row_value c.loop-i.invariant.prime
-    (is_scaled (prime_value c.args.p) c.args.c c.args.v.now.entries c.loop-i.v.entries c.loop-i.invariant.length_kept
-    (λ j l. c.loop-i.invariant.done j (omega (arith, c.loop-i.invariant.length_kept)) ∙ ap (λ m. c.args.c * entry c.args.v.now.entries j % m) c.value-m.ensures))
+    (is_scaled (prime_value c.args.p) c.args.c c.args.v.now.entries c.loop-i.v.entries
+    c.loop-i.invariant.length_kept
+    (λ j l. c.loop-i.invariant.done j (omega (arith, c.loop-i.invariant.length_kept))
+    ∙ ap (λ m. c.args.c * entry c.args.v.now.entries j % m) c.value-m.ensures))

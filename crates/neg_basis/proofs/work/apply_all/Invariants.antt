@@ -13,5 +13,6 @@ invariant-loop-number g l = record {
   basis : IsBasis l.fn.vectors.p l.fn.vectors.width l.vectors.rows;
   heads_are : l.heads.items ≡ map pivot l.vectors.rows;
   grown : length l.fn.vectors.rows ≤ length l.vectors.rows;
-  worked : Continues l.fn.vectors.p l.fn.vectors.width (g.T.Ops.maps l.ops) (g.T.Ops.image l.ops) l.fn.vectors.rows l.fn.origins.items l.of 0 l.vectors.rows l.origins.items l.of l.number;
+  worked : Continues l.fn.vectors.p l.fn.vectors.width (g.T.Ops.maps l.ops) (g.T.Ops.image l.ops)
+      l.fn.vectors.rows l.fn.origins.items l.of 0 l.vectors.rows l.origins.items l.of l.number;
 }

@@ -13,7 +13,8 @@ invariant-loop-of g l = record {
   basis : IsBasis l.fn.vectors.p l.fn.vectors.width l.vectors.rows;
   heads_are : l.heads.items ≡ map pivot l.vectors.rows;
   inside : l.of ≤ length l.vectors.rows;
-  worked : Continues l.fn.vectors.p l.fn.vectors.width (g.T.Ops.maps l.ops) (g.T.Ops.image l.ops) l.fn.vectors.rows l.fn.origins.items l.from 0 l.vectors.rows l.origins.items l.of 0;
+  worked : Continues l.fn.vectors.p l.fn.vectors.width (g.T.Ops.maps l.ops) (g.T.Ops.image l.ops)
+      l.fn.vectors.rows l.fn.origins.items l.from 0 l.vectors.rows l.origins.items l.of 0;
 }
 
 abbrev pub decreases-loop-of : goal.decreases-loop-of

@@ -10,5 +10,6 @@ invariant-loop-r g l = record {
   same_field : l.vectors.p ≡ l.gens.p;
   same_width : l.vectors.width ≡ l.gens.width;
   heads_are : l.heads.items ≡ map pivot l.vectors.rows;
-  worked : IsWorked l.gens.p l.gens.width (g.T.Ops.maps l.ops) (g.T.Ops.image l.ops) l.gens.rows l.vectors.rows l.origins.items l.r (length l.vectors.rows) 0;
+  worked : IsWorked l.gens.p l.gens.width (g.T.Ops.maps l.ops) (g.T.Ops.image l.ops)
+      l.gens.rows l.vectors.rows l.origins.items l.r (length l.vectors.rows) 0;
 }
