@@ -130,8 +130,8 @@ module _ {p width m : ℕ} {image : ℕ → (ℕ → ℕ) → ℕ → ℕ} {gens
   inside_at F s t (inr q) =
       rw (q, row_push E w) (record {
         in_each =
-            λ rows a c. new_in_span w F (λ f h. (submodule_span W.inside h).in_each rows a c) (s.in_each rows a c)
-            N.multiple;
+            λ rows a c. new_in_span w F (λ f h. (submodule_span W.inside h).in_each rows a c)
+            (s.in_each rows a c) N.multiple;
       })
 
   -- the parts that do not speak of the chosen rows
