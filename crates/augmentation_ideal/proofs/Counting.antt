@@ -1,11 +1,15 @@
 -- A set on which a group of p^e elements acts with no fixed point has a multiple of p members.
-use Rattle.std.specs.Prelude.{◌≡◌, ◌≢◌, ℕ, zero, suc, refl, ◌+◌, ◌*◌, ◌%◌, ◌/◌, ◌<◌, ◌≤◌, ◌⊎◌, ◌^◌, Bool, true, false, not, ◌&&◌}
+use Rattle.std.specs.Prelude.{◌≡◌, ◌≢◌, ℕ, zero, suc, refl, ◌+◌, ◌*◌, ◌%◌, ◌/◌, ◌<◌, ◌≤◌, ◌⊎◌, ◌^◌, Bool}
+use Rattle.std.specs.Prelude.{true, false, not, ◌&&◌}
 use Rattle.std.proofs.Common.{sym, ◌∙◌, ap, arith, inl, inr}
 use Rattle.std.proofs.lemmas.Bool.{and_from, and_parts, false_from_ne_true, true≢false}
-use Rattle.std.proofs.Math.Nat.{div-add-mod, mul-mod_right, zero-mod, pow-suc, pow-zero, add-mod-mod, mul-div_cancel_left}
+use Rattle.std.proofs.Math.Nat.{div-add-mod, mul-mod_right, zero-mod, pow-suc, pow-zero, add-mod-mod}
+use Rattle.std.proofs.Math.Nat.{mul-div_cancel_left}
 use Rattle.group_modules.specs.Field.{Below}
 use Rattle.group_modules.specs.Tables.{Group}
-use Rattle.augmentation_ideal.proofs.Finite.{bit, sum, tell, same-test, sum-same, sum-add, sum-scale, sum-zero, sum-le, sum-swap, Finite, same-of, pick, search-all, some, some-at, some-from, some-none, finite-below, size-below}
+use Rattle.augmentation_ideal.proofs.Finite.{bit, sum, tell, same-test, sum-same, sum-add, sum-scale}
+use Rattle.augmentation_ideal.proofs.Finite.{sum-zero, sum-le, sum-swap, Finite, same-of, pick, search-all}
+use Rattle.augmentation_ideal.proofs.Finite.{some, some-at, some-from, some-none, finite-below, size-below}
 use Rattle.group_modules.specs.Sums.{below}
 use Rattle.augmentation_ideal.specs.Primes.{IsPrime}
 

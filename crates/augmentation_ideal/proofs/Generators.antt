@@ -4,7 +4,8 @@ use Rattle.std.specs.Prelude.{◌≡◌, ℕ, suc, refl, List, [], ◌∷◌, �
 use Rattle.std.proofs.Common.{sym, ◌∙◌, ap, ap₂}
 use mathlib.Core.Path.{subst, fun_ext}
 use Rattle.group_modules.specs.Module.{Monoid, Module, sub, times, lin, IsLinear}
-use Rattle.group_modules.proofs.Laws.{sub-zero, sub-add, sub-self, sub-back, sub-eq, neg-unique, neg-neg, neg-add, times-add, times-neg, times-mod, times-sum, map-zero}
+use Rattle.group_modules.proofs.Laws.{sub-zero, sub-add, sub-self, sub-back, sub-eq, neg-unique, neg-neg}
+use Rattle.group_modules.proofs.Laws.{neg-add, times-add, times-neg, times-mod, times-sum, map-zero}
 use Rattle.group_modules.specs.Field.{Below, residue, Fp, plus, minus}
 use Rattle.group_modules.specs.Tables.{Group, monoid, Table, terms, unit, part, block-sum}
 use Rattle.group_modules.proofs.TermLaws.{lin-terms}

@@ -4,7 +4,8 @@ use Rattle.group_modules.specs.Field.{Below}
 use Rattle.group_modules.specs.Tables.{Group, Table}
 use Rattle.augmentation_ideal.specs.Radical.{Radical, IsSubmodule}
 use Rattle.augmentation_ideal.specs.Generators.{IsBasisModuloMoved}
-use Rattle.augmentation_ideal.specs.Claims.{IsPrimePower, Passing, RadicalClaims, NakayamaClaim, GeneratorClaims}
+use Rattle.augmentation_ideal.specs.Claims.{IsPrimePower, Passing, RadicalClaims, NakayamaClaim}
+use Rattle.augmentation_ideal.specs.Claims.{GeneratorClaims}
 use Rattle.augmentation_ideal.proofs.Finite.{Finite, finite-function, finite-below}
 use Rattle.augmentation_ideal.proofs.Nakayama as N
 use Rattle.augmentation_ideal.proofs.Generators as R

@@ -1,15 +1,19 @@
 -- A group of p^e elements acts nilpotently on a finite module over the field of p elements.
-use Rattle.std.specs.Prelude.{◌≡◌, ℕ, zero, suc, refl, List, [], ◌∷◌, ◌+◌, ◌*◌, ◌%◌, ◌≤◌, ◌⊎◌, ◌^◌, Bool, true, false, not, ◌&&◌}
+use Rattle.std.specs.Prelude.{◌≡◌, ℕ, zero, suc, refl, List, [], ◌∷◌, ◌+◌, ◌*◌, ◌%◌, ◌≤◌, ◌⊎◌, ◌^◌, Bool}
+use Rattle.std.specs.Prelude.{true, false, not, ◌&&◌}
 use Rattle.std.proofs.Common.{sym, ◌∙◌, ap, ap₂, arith, inl, inr}
 use Rattle.std.proofs.lemmas.Bool.{and_from, and_parts, false_from_ne_true, true≢false}
 use Rattle.std.proofs.Math.Nat.{pow-suc, pow-zero, mod-add-mod, mod-eq_of_lt, le_refl}
 use mathlib.Core.Path.{fun_ext, subst}
 use Rattle.group_modules.specs.Module.{Module, sub, times}
-use Rattle.group_modules.proofs.Laws.{zero-add, neg-zero, neg-add, neg-neg, sub-self, sub-zero, sub-add, sub-back, act-zero, act-neg, times-mod, times-sum}
+use Rattle.group_modules.proofs.Laws.{zero-add, neg-zero, neg-add, neg-neg, sub-self, sub-zero, sub-add}
+use Rattle.group_modules.proofs.Laws.{sub-back, act-zero, act-neg, times-mod, times-sum}
 use Rattle.group_modules.specs.Field.{Below, Fp, residue, plus, minus}
 use Rattle.group_modules.specs.Tables.{Group, monoid}
 use Rattle.augmentation_ideal.specs.Primes.{IsPrime}
-use Rattle.augmentation_ideal.proofs.Finite.{bit, sum, tell, same-test, sum-same, sum-add, sum-le, Finite, Fails, fails-at, apart, same-of, search-all, every, every-at, every-from, every-fails, finite-below}
+use Rattle.augmentation_ideal.proofs.Finite.{bit, sum, tell, same-test, sum-same, sum-add, sum-le, Finite}
+use Rattle.augmentation_ideal.proofs.Finite.{Fails, fails-at, apart, same-of, search-all, every, every-at}
+use Rattle.augmentation_ideal.proofs.Finite.{every-from, every-fails, finite-below}
 use Rattle.augmentation_ideal.proofs.Counting.{Acts, no-fixed}
 
 -- the numbers modulo p as a group

@@ -5,7 +5,9 @@ use Rattle.std.proofs.Math.Nat.{pow-suc, pow-zero, le_refl}
 use Rattle.std.proofs.lemmas.Bool.{cases_lt}
 use Rattle.std.proofs.lemmas.Nat.{mul-le}
 use Rattle.group_modules.specs.Field.{Below}
-use Rattle.augmentation_ideal.proofs.Finite.{bit, sum, tell, sum-same, sum-zero, sum-le, sum-swap, sum-map, sum-pairs, sum-scale, Finite, same-of, search-all, finite-below, size-below, finite-function, pairs, join-function}
+use Rattle.augmentation_ideal.proofs.Finite.{bit, sum, tell, sum-same, sum-zero, sum-le, sum-swap, sum-map}
+use Rattle.augmentation_ideal.proofs.Finite.{sum-pairs, sum-scale, Finite, same-of, search-all, finite-below}
+use Rattle.augmentation_ideal.proofs.Finite.{size-below, finite-function, pairs, join-function}
 
 module _ {A B : Type 0} (F : Finite A) (H : Finite B) (f : A → B) (one-to-one : (x y : A) → f x ≡ f y
     → x ≡ y) where

@@ -7,9 +7,12 @@ use Rattle.group_modules.proofs.Laws.{lin-add, lin-sub, map-zero, sub-self, sub-
 use Rattle.group_modules.specs.Field.{Fp, residue, plus}
 use Rattle.bar_complex.specs.Tuples.{Tuple, entries, tuple}
 use Rattle.bar_complex.specs.Boundary.{boundary}
-use Rattle.bar_complex.specs.Cochains.{Cochain, IsNormalised, IsCocycle, IsNormalisedCocycle, IsCoboundary, AreCohomologous}
+use Rattle.bar_complex.specs.Cochains.{Cochain, IsNormalised, IsCocycle, IsNormalisedCocycle, IsCoboundary}
+use Rattle.bar_complex.specs.Cochains.{AreCohomologous}
 use Rattle.bar_complex.proofs.Cohomologous.{near-sym, near-trans}
-use Rattle.bar_comparison.proofs.Comparison.{MinimalStages, Class, pair, pair-linear, comparison, comparison-map, bar_cocycle, bar-cocycle-closed, only-zero, only-zero-start, class-reaches, class-reaches-start, class-of}
+use Rattle.bar_comparison.proofs.Comparison.{MinimalStages, Class, pair, pair-linear, comparison}
+use Rattle.bar_comparison.proofs.Comparison.{comparison-map, bar_cocycle, bar-cocycle-closed, only-zero}
+use Rattle.bar_comparison.proofs.Comparison.{only-zero-start, class-reaches, class-reaches-start, class-of}
 use Rattle.bar_comparison.proofs.Comparison as comparison
 
 pub tuple-entries : {E : Type 0} (x : E) (d : ℕ) (t : Tuple E d) → tuple x d (entries d t) ≡ t

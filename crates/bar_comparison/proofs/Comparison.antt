@@ -4,7 +4,8 @@ use Rattle.std.specs.Prelude.{◌≡◌, ℕ, zero, suc, List}
 use Rattle.std.proofs.Common.{sym, ◌∙◌, ap, ap₂}
 use mathlib.Core.Path.{fun_ext}
 use Rattle.group_modules.specs.Module.{Monoid, Module, sub, IsLinear, Term, lin}
-use Rattle.group_modules.proofs.Laws.{sub-self, map-zero, map-sub, map-lin, zero-add, sub-eq, then-linear, zero-linear}
+use Rattle.group_modules.proofs.Laws.{sub-self, map-zero, map-sub, map-lin, zero-add, sub-eq, then-linear}
+use Rattle.group_modules.proofs.Laws.{zero-linear}
 use Rattle.group_modules.specs.Field.{Below, Fp, residue}
 use Rattle.bar_complex.proofs.FreeModules.{term, extend, extend-linear, linear-ext, move-one, null}
 use Rattle.bar_complex.specs.Tuples.{Tuple, HasIdentity}
@@ -12,7 +13,8 @@ use Rattle.bar_complex.proofs.Contraction.{Bar, bd, D, D-linear}
 use Rattle.bar_complex.specs.Boundary.{boundary, coboundary}
 use Rattle.bar_complex.proofs.FormalBoundary.{bar-complex, lin-value, value-boundary}
 use Rattle.bar_complex.proofs.ExactBar.{bar-exact}
-use Rattle.bar_complex.proofs.Complexes.{Vanishes, FreeComplex, Exact, IsChainMap, Agree, homotopic, homotopy, homotopy-null, homotopy-boundary}
+use Rattle.bar_complex.proofs.Complexes.{Vanishes, FreeComplex, Exact, IsChainMap, Agree, homotopic, homotopy}
+use Rattle.bar_complex.proofs.Complexes.{homotopy-null, homotopy-boundary}
 use Rattle.bar_comparison.proofs.Lifted.{lifted, lifted-map, Starts}
 
 -- minimal stages: P_d with its basis, the boundary and the section

@@ -14,12 +14,14 @@ use Rattle.resolution_stages.specs.Claims.{ResolutionClaims, row_table}
 use Rattle.chain_maps.specs.Lifts.{free, row_terms}
 use Rattle.bar_complex.specs.Tuples.{Tuple, HasIdentity}
 use Rattle.bar_complex.specs.Boundary.{boundary}
-use Rattle.bar_complex.specs.Contraction.{Chain, chains, chain_minus, single, contraction, chain_boundary, AreSame}
+use Rattle.bar_complex.specs.Contraction.{Chain, chains, chain_minus, single, contraction, chain_boundary}
+use Rattle.bar_complex.specs.Contraction.{AreSame}
 use Rattle.bar_complex.specs.Homotopies as homotopies
 use Rattle.bar_complex.proofs.FreeModules.{term}
 use Rattle.bar_complex.proofs.Contraction.{Bar, cons, D}
 use Rattle.bar_complex.proofs.FormalBoundary.{bar-complex, value, lin-value}
-use Rattle.bar_complex.proofs.FormalContraction.{value-chain, value-contraction, value-linear, value-minus, value-single, same}
+use Rattle.bar_complex.proofs.FormalContraction.{value-chain, value-contraction, value-linear, value-minus}
+use Rattle.bar_complex.proofs.FormalContraction.{value-single, same}
 use Rattle.bar_complex.proofs.ExactBar.{bar-exact}
 use Rattle.bar_complex.proofs.Complexes.{homotopy, homotopic, homotopy-boundary, homotopy-null, rest}
 use Rattle.bar_comparison.specs.Comparison.{comparison}

@@ -3,7 +3,8 @@ use Rattle.std.specs.Prelude.{◌≡◌, ℕ, zero, suc, refl, ◌*◌}
 use Rattle.std.proofs.Common.{sym, ◌∙◌, ap, ap₂, subst, mul_comm}
 use mathlib.Core.Path.{fun_ext}
 use Rattle.group_modules.specs.Module.{Monoid, Module, sub, times, IsAdditive, lin}
-use Rattle.group_modules.proofs.Laws.{map-zero, map-sub, sub-self, sub-add, sub-back, neg-add, neg-neg, lin-zero, lin-add, lin-neg, times-add}
+use Rattle.group_modules.proofs.Laws.{map-zero, map-sub, sub-self, sub-add, sub-back, neg-add, neg-neg}
+use Rattle.group_modules.proofs.Laws.{lin-zero, lin-add, lin-neg, times-add}
 use Rattle.group_modules.specs.Field.{Below, Fp, residue, minus, plus}
 use Rattle.linear_algebra.proofs.Residues.{times-residue}
 use Rattle.bar_complex.specs.Tuples.{Tuple, entries}

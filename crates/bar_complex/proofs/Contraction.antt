@@ -4,7 +4,8 @@ use Rattle.std.proofs.Common.{sym, ◌∙◌, ap, ap₂, inl, inr}
 use Rattle.group_modules.specs.Module.{Monoid, Module, sub, IsAdditive, IsLinear}
 use Rattle.group_modules.proofs.Laws.{sub-self, sub-zero, sub-add, map-sub}
 use Rattle.bar_complex.specs.Tuples.{Tuple, HasIdentity}
-use Rattle.bar_complex.proofs.FreeModules.{term, nil, plus, minus, null, free, sum, extend, extend-linear, additive-ext, move, move-one}
+use Rattle.bar_complex.proofs.FreeModules.{term, nil, plus, minus, null, free, sum, extend, extend-linear}
+use Rattle.bar_complex.proofs.FreeModules.{additive-ext, move, move-one}
 
 module _ (p : ℕ) (G : Monoid) where
   abbrev pub Bar : ℕ → Module p G

@@ -4,13 +4,15 @@ use Rattle.std.proofs.Common.{sym, ◌∙◌, ap, ap₂, arith}
 use Rattle.group_modules.specs.Module.{Monoid, Module, Term, sub, times, lin}
 use Rattle.group_modules.specs.Operations.{linear}
 use Rattle.group_modules.specs.Field.{Below, Fp, residue, plus}
-use Rattle.group_modules.proofs.Laws.{map-times, act-times, times-zero, times-add, times-sum, sub-back, neg-unique}
+use Rattle.group_modules.proofs.Laws.{map-times, act-times, times-zero, times-add, times-sum, sub-back}
+use Rattle.group_modules.proofs.Laws.{neg-unique}
 use Rattle.group_modules.proofs.SumLaws.{lin-append}
 use Rattle.linear_algebra.proofs.Residues.{times-residue}
 use Rattle.bar_complex.specs.Tuples.{Tuple}
 use Rattle.bar_complex.specs.Boundary.{boundary}
 use Rattle.bar_complex.specs.Cochains.{IsZeroAtIdentity}
-use Rattle.bar_complex.specs.Contraction.{Chain, multiple, chains, chain_minus, single, chain_boundary, contraction, collapsed, AreSame}
+use Rattle.bar_complex.specs.Contraction.{Chain, multiple, chains, chain_minus, single, chain_boundary}
+use Rattle.bar_complex.specs.Contraction.{contraction, collapsed, AreSame}
 use Rattle.bar_complex.specs.Contraction as formal
 use Rattle.bar_complex.proofs.FreeModules.{term, sum, move, move-one}
 use Rattle.bar_complex.proofs.Contraction.{Bar, cons, bd, D, D-cons, D-cons-zero, D-D, collapse}

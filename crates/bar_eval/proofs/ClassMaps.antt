@@ -6,7 +6,8 @@ use Rattle.group_modules.specs.Field.{Below, residue, plus}
 use Rattle.group_modules.specs.Tables.{monoid}
 use Rattle.linear_algebra.specs.Modular.{IsCongruent}
 use Rattle.linear_algebra.specs.Rows.{add_multiple, entry}
-use Rattle.linear_algebra.proofs.Congruences.{congruent_add, congruent_mod, congruent_mul_left, congruent_sym, congruent_trans}
+use Rattle.linear_algebra.proofs.Congruences.{congruent_add, congruent_mod, congruent_mul_left, congruent_sym}
+use Rattle.linear_algebra.proofs.Congruences.{congruent_trans}
 use Rattle.linear_algebra.proofs.Reducing.{entry_congruent}
 use Rattle.linear_algebra.proofs.Residues.{below-path}
 use Rattle.resolution_stages.specs.Claims.{ResolutionClaims}

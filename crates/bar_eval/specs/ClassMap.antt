@@ -5,7 +5,8 @@ use Rattle.group_modules.specs.Field.{Below, plus, residue}
 use Rattle.linear_algebra.specs.Rows.{add_multiple, entry}
 use Rattle.p_groups.specs.PGroups.{PGroup, largest_residue, order_of, prime_of}
 use Rattle.chain_lift.specs.Embeddings.{element_of}
-use Rattle.group_cocycles.specs.Cocycles.{GroupCochain, IsClass, IsClassOf, IsCoboundary, IsCocycle, cocycle_of}
+use Rattle.group_cocycles.specs.Cocycles.{GroupCochain, IsClass, IsClassOf, IsCoboundary, IsCocycle}
+use Rattle.group_cocycles.specs.Cocycles.{cocycle_of}
 
 module _ (G : PGroup) where
   -- the value of the cocycle of the class c at the elements with the numbers xs, as many as its degree

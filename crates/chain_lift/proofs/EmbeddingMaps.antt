@@ -26,7 +26,8 @@ use Rattle.chain_maps_along.specs.Along as specs
 use Rattle.chain_maps_along.specs.Along.{IsHomomorphism, along, map_along}
 use Rattle.chain_maps_along.specs.Claims.{AlongClaims}
 use Rattle.chain_maps_along.proofs.Maps.{along-claims}
-use Rattle.chain_lift.specs.MapsAlong.{TableOverPrimeOf, with_table, image, along_row, IsMapAlong, restrict, restricted_row}
+use Rattle.chain_lift.specs.MapsAlong.{TableOverPrimeOf, with_table, image, along_row, IsMapAlong, restrict}
+use Rattle.chain_lift.specs.MapsAlong.{restricted_row}
 use Rattle.chain_lift.specs.RowMaps.{image_row, section_of, multiple_of_one}
 use Rattle.chain_lift.specs.EmbeddingRows.{value_along}
 use Rattle.chain_lift.proofs.Pairings.{pair-is}

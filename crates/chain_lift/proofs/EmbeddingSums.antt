@@ -1,5 +1,6 @@
 -- The value of a map that is linear along a map of elements, as a sum over blocks and elements.
-use Rattle.std.proofs.Common.{◌≡◌, ℕ, zero, suc, ◌+◌, ◌*◌, ◌<◌, List, [], ◌∷◌, ◌++◌, length, refl, arith, ap, ap₂, sym, ◌∙◌}
+use Rattle.std.proofs.Common.{◌≡◌, ℕ, zero, suc, ◌+◌, ◌*◌, ◌<◌, List, [], ◌∷◌, ◌++◌, length, refl, arith, ap}
+use Rattle.std.proofs.Common.{ap₂, sym, ◌∙◌}
 use native.Mathlib.Nat.{lt-suc_self}
 use mathlib.Core.Path.{subst, fun_ext}
 use Rattle.group_table.specs.Tables.{order}
@@ -13,7 +14,8 @@ use Rattle.group_modules.proofs.Laws.{zero-add}
 use Rattle.group_modules.proofs.SumLaws.{total-map}
 use Rattle.linear_algebra.specs.Modular.{IsCongruent}
 use Rattle.linear_algebra.specs.Rows.{entry, row, add_multiple, IsRow}
-use Rattle.linear_algebra.proofs.Congruences.{congruent_refl, congruent_add, congruent_trans, congruent_eq, congruent_sym}
+use Rattle.linear_algebra.proofs.Congruences.{congruent_refl, congruent_add, congruent_trans, congruent_eq}
+use Rattle.linear_algebra.proofs.Congruences.{congruent_sym}
 use Rattle.linear_algebra.proofs.Reducing.{add_multiple_is_row, entry_congruent}
 use Rattle.radical_layers.proofs.Bridge.{at-times, same-table}
 use Rattle.p_groups.specs.PGroups.{PGroup, largest_residue, group}

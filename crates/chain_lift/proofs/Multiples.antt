@@ -1,5 +1,7 @@
 -- The coefficients of a multiple of the element 1.
-use Rattle.std.proofs.Common.{◌≡◌, ◌≢◌, ℕ, zero, suc, ◌<◌, ◌≤◌, ◌⊎◌, List, length, set, true, false, eqb, ◌&&◌, inl, inr, arith, ap, ap₂, sym, ◌∙◌, refl, eq-eqb, get_or-set_same, get_or-set_other}
+use Rattle.std.proofs.Common.{◌≡◌, ◌≢◌, ℕ, zero, suc, ◌<◌, ◌≤◌, ◌⊎◌, List, length, set, true, false, eqb}
+use Rattle.std.proofs.Common.{◌&&◌, inl, inr, arith, ap, ap₂, sym, ◌∙◌, refl, eq-eqb, get_or-set_same}
+use Rattle.std.proofs.Common.{get_or-set_other}
 use Rattle.std.proofs.lemmas.Bool.Decides.{eqb_tells}
 use Rattle.std.proofs.lemmas.List.{length-set}
 use Rattle.std.proofs.Math.Nat.{mod-eq_of_lt, zero-mod}

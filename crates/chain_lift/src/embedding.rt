@@ -180,9 +180,9 @@ impl EmbedMap {
         Ok(())
     }
 
-    /// Writes the restriction to the subgroup of a class of degree d, which is at most the height: the one class
-    /// whose cocycle differs by a coboundary from that of the class at tuples of the subgroup (Brown, "Cohomology
-    /// of Groups", III.8).
+    /// Writes the restriction to the subgroup of a class of degree d, which is at most the height: the one
+    /// class whose cocycle differs by a coboundary from that of the class at tuples of the subgroup (Brown,
+    /// "Cohomology of Groups", III.8).
     pub fn restrict(&self, d: u32, class: RowRef<'_>, out: &mut Row)
         requires degree { d ≤ self.now.height }
         requires prime { modulus_of class ≡ prime_of self.now.group }

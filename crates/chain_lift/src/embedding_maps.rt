@@ -1,6 +1,7 @@
 //! The rows of the maps of an embedding.
 
-ghost use Rattle.chain_lift.specs.EmbeddingRows.{AreImages, AreScratchRows, FitAlong, listed, translates, value_along};
+ghost use Rattle.chain_lift.specs.EmbeddingRows.{AreImages, AreScratchRows, FitAlong, listed, translates};
+ghost use Rattle.chain_lift.specs.EmbeddingRows.{value_along};
 ghost use Rattle.chain_lift.specs.RowMaps.{image_row, section_of};
 ghost use Rattle.fp_rows.specs.Refs.{entries_of, modulus_of};
 ghost use Rattle.group_algebra.specs.Coordinates.{free_module, table_of};

@@ -192,9 +192,9 @@ impl Lift {
         Ok(())
     }
 
-    /// Writes the product of a class a of degree j, which is at most the height, and the class of the lift: the
-    /// one class whose cocycle differs by a coboundary from the cup product of theirs (Brown, "Cohomology of
-    /// Groups", V.3).
+    /// Writes the product of a class a of degree j, which is at most the height, and the class of the lift:
+    /// the one class whose cocycle differs by a coboundary from the cup product of theirs (Brown, "Cohomology
+    /// of Groups", V.3).
     pub fn product(&self, j: u32, a: RowRef<'_>, out: &mut Row)
         requires degree { j ≤ self.now.height }
         requires prime { modulus_of a ≡ prime_of self.now.group }

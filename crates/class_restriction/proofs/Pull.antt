@@ -9,7 +9,9 @@ use Rattle.group_modules.specs.Tables.{Group, monoid}
 use Rattle.bar_complex.specs.Tuples.{Tuple, entries}
 use Rattle.bar_complex.specs.Boundary.{boundary}
 use Rattle.bar_comparison.proofs.Comparison.{MinimalStages, Class, bar_cocycle}
-use Rattle.class_restriction.proofs.Restrict.{Homomorphism, entries-one, lin-entries, boundary-entries, restrict, between, between-null, restriction, restriction-zero, embed}
+use Rattle.class_restriction.proofs.Restrict.{Homomorphism, entries-one, lin-entries, boundary-entries}
+use Rattle.class_restriction.proofs.Restrict.{restrict, between, between-null, restriction, restriction-zero}
+use Rattle.class_restriction.proofs.Restrict.{embed}
 use Rattle.class_restriction.proofs.Restrict as tuples
 use Rattle.cup_products.proofs.Reverse.{Inverse}
 use Rattle.bar_complex.specs.Cochains.{cup, Cochain, AreCohomologous}

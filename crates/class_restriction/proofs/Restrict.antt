@@ -11,9 +11,12 @@ use Rattle.chain_maps_along.proofs.Modules.{one-to-one, module_along, linear-alo
 use Rattle.bar_complex.specs.Tuples.{Tuple, HasIdentity}
 use Rattle.bar_complex.specs.Boundary.{signed, put, faces, boundary, coboundary}
 use Rattle.bar_complex.proofs.FormalBoundary.{bar-complex}
-use Rattle.bar_complex.proofs.Complexes.{Vanishes, Exact, IsChainMap, Agree, homotopic, homotopy, homotopy-null, homotopy-boundary}
+use Rattle.bar_complex.proofs.Complexes.{Vanishes, Exact, IsChainMap, Agree, homotopic, homotopy}
+use Rattle.bar_complex.proofs.Complexes.{homotopy-null, homotopy-boundary}
 use Rattle.bar_comparison.proofs.Lifted.{lifted, lifted-map, Starts}
-use Rattle.bar_comparison.proofs.Comparison.{MinimalStages, Class, pair, pair-linear, stage-complex, stage-boundary, comparison, comparison-map, bar_cocycle, row-minimal}
+use Rattle.bar_comparison.proofs.Comparison.{MinimalStages, Class, pair, pair-linear, stage-complex}
+use Rattle.bar_comparison.proofs.Comparison.{stage-boundary, comparison, comparison-map, bar_cocycle}
+use Rattle.bar_comparison.proofs.Comparison.{row-minimal}
 
 -- a homomorphism of groups
 pub record Homomorphism {m n : ℕ} (Δ : Group m) (Γ : Group n) : Type 0 where

@@ -1,5 +1,6 @@
 -- What a write at the index of a path's file does to the state.
-use Rattle.std.proofs.Common.{◌≡◌, ℕ, cond, List, [], ◌∷◌, ◌++◌, map, get_or, sym, ◌∙◌, ap, Some, None, is_some}
+use Rattle.std.proofs.Common.{◌≡◌, ℕ, cond, List, [], ◌∷◌, ◌++◌, map, get_or, sym, ◌∙◌, ap, Some, None}
+use Rattle.std.proofs.Common.{is_some}
 use Rattle.std.specs.declared.option.Option.{Option}
 use Rattle.std.proofs.Math.ListN.{set}
 use Rattle.std.specs.List.{position}
@@ -38,7 +39,8 @@ module _ (fs : List MemFile) (outside : Counts) (calls : ℕ) (failing : List (�
       (record (state fs outside calls failing) { outside = raised kind outside }))
       (sym (ap is_some (at_Some entry_of (is_at path) fs i d e)))
 
-  pub fault_outside : (kind : Kind) → place ≡ None → state fs (raised kind outside) calls failing ≡ fault_at kind
+  pub fault_outside : (kind : Kind) → place ≡ None
+      → state fs (raised kind outside) calls failing ≡ fault_at kind
       (state fs outside calls failing) path
   fault_outside kind e =
       ap (λ b. cond b (record (state fs outside calls failing) {

@@ -1,5 +1,6 @@
 -- What a fault does to the counts and to the bytes.
-use Rattle.std.proofs.Common.{◌≡◌, ◌≤◌, Bool, true, false, cond, List, [], ◌∷◌, map, refl, sym, ◌∙◌, ap, subst, arith, Some, None, is_some, ℕ}
+use Rattle.std.proofs.Common.{◌≡◌, ◌≤◌, Bool, true, false, cond, List, [], ◌∷◌, map, refl, sym, ◌∙◌, ap}
+use Rattle.std.proofs.Common.{subst, arith, Some, None, is_some, ℕ}
 use Rattle.std.specs.declared.option.Option.{Option}
 use Rattle.std.specs.Option.{option_map_or}
 use Rattle.std.specs.List.{find}
@@ -9,7 +10,8 @@ use Rattle.coho_io.specs.declared.counts.Kind.{Kind}
 use Rattle.coho_io.specs.declared.counts.Kind.TheVariants.{Read, Write}
 use Rattle.coho_io.specs.Causes.{one_more, Rose, NoneFell}
 use Rattle.coho_io.specs.Counts.{count_of, raised}
-use Rattle.coho_io.specs.MemFiles.{Entry, FilesState, is_at, named, content_of, fault_count, change_first, is_there, failed_once_more, fault_at}
+use Rattle.coho_io.specs.MemFiles.{Entry, FilesState, is_at, named, content_of, fault_count, change_first}
+use Rattle.coho_io.specs.MemFiles.{is_there, failed_once_more, fault_at}
 
 -- how often calls on a file have failed
 abbrev pub counts_of : Counts → Option Entry → Counts

@@ -1,5 +1,6 @@
 -- The first element that passes a test, by its index.
-use Rattle.std.proofs.Common.{◌≡◌, ℕ, ◌+◌, ◌<◌, ◌≤◌, Bool, true, false, not, cond, List, [], ◌∷◌, map, length, get_or, refl, sym, ◌∙◌, ap, subst, arith, Some, None, suc, slice_get}
+use Rattle.std.proofs.Common.{◌≡◌, ℕ, ◌+◌, ◌<◌, ◌≤◌, Bool, true, false, not, cond, List, [], ◌∷◌, map, length}
+use Rattle.std.proofs.Common.{get_or, refl, sym, ◌∙◌, ap, subst, arith, Some, None, suc, slice_get}
 use Rattle.std.proofs.Math.ListN.{set}
 use Rattle.std.specs.List.{position, position_or_len, find}
 use Rattle.std.proofs.lemmas.List.Folds.{find_at}

@@ -1,5 +1,6 @@
 -- What a put does to the bytes and to the counts.
-use Rattle.std.proofs.Common.{◌≡◌, ℕ, ◌≤◌, Bool, true, false, cond, List, [], ◌∷◌, ◌++◌, map, refl, sym, ◌∙◌, ap, subst, arith, Some, None, is_some}
+use Rattle.std.proofs.Common.{◌≡◌, ℕ, ◌≤◌, Bool, true, false, cond, List, [], ◌∷◌, ◌++◌, map, refl, sym, ◌∙◌}
+use Rattle.std.proofs.Common.{ap, subst, arith, Some, None, is_some}
 use Rattle.std.specs.declared.option.Option.{Option}
 use Rattle.std.specs.Option.{option_map, option_map_or}
 use Rattle.std.specs.Str.{bytes_eq}
@@ -9,7 +10,8 @@ use Rattle.std.specs.Ordering.{eq_by_cmp}
 use Rattle.std.proofs.lemmas.List.{map-append}
 use Rattle.std.proofs.lemmas.Slice.Eq.{bytes_eq-Decides}
 use Rattle.std.specs.Cmp.Lexicographic.{slice_cmp, nat_list_cmp_total}
-use Rattle.std.specs.FinMap.{from_entries, get, get-from_entries, insert, get-insert, same_map, from_entries_push, slice_cmp-IsAntisymmetric, nat_cmp-IsAntisymmetric}
+use Rattle.std.specs.FinMap.{from_entries, get, get-from_entries, insert, get-insert, same_map}
+use Rattle.std.specs.FinMap.{from_entries_push, slice_cmp-IsAntisymmetric, nat_cmp-IsAntisymmetric}
 use Rattle.std.specs.FinMap.Entries as entries
 use Rattle.std.proofs.lemmas.Map.Text.{is_eq-slice_cmp}
 use Rattle.coho_io.specs.declared.counts.Counts.{Counts}
@@ -17,7 +19,9 @@ use Rattle.coho_io.specs.declared.counts.Kind.{Kind}
 use Rattle.coho_io.specs.Causes.{NoneFell}
 use Rattle.coho_io.specs.Counts.{count_of}
 use Rattle.coho_io.specs.Content.{file, or_outside, or_empty, with_file, with_piece}
-use Rattle.coho_io.specs.MemFiles.{Entry, FilesState, is_at, named, content_of, bytes_at, counts_at, fault_count, change_first, is_there, with_bytes, new_entry, after_put, extended}
+use Rattle.coho_io.specs.MemFiles.{Entry, FilesState, is_at, named, content_of, bytes_at, counts_at}
+use Rattle.coho_io.specs.MemFiles.{fault_count, change_first, is_there, with_bytes, new_entry, after_put}
+use Rattle.coho_io.specs.MemFiles.{extended}
 use Rattle.coho_io.specs.NoFaultFiles.{content_within}
 use Rattle.coho_io.proofs.Faults.{counts_of}
 

@@ -1,5 +1,6 @@
 -- How a creation and an append of files in memory end.
-use Rattle.std.proofs.Common.{◌≡◌, ℕ, List, [], ◌++◌, take, refl, sym, ◌∙◌, ap, subst, Some, None, Ok, Err, IsSome, OnOk, OnErr, inl, inr, arith}
+use Rattle.std.proofs.Common.{◌≡◌, ℕ, List, [], ◌++◌, take, refl, sym, ◌∙◌, ap, subst, Some, None, Ok, Err}
+use Rattle.std.proofs.Common.{IsSome, OnOk, OnErr, inl, inr, arith}
 use Rattle.std.specs.Prelude.{IsErrOf}
 use Rattle.std.specs.declared.option.Option.{Option}
 use Rattle.std.specs.declared.result.Result.{Result}
@@ -9,7 +10,9 @@ use Rattle.coho_io.specs.declared.counts.Kind.{Kind}
 use Rattle.coho_io.specs.declared.counts.Kind.TheVariants.{Read, Write}
 use Rattle.coho_io.specs.Causes.{Rose, NoneFell}
 use Rattle.coho_io.specs.Content.{Creates, CreatesOrStays, AppendsPiece, AppendsFrontOrStays, or_empty}
-use Rattle.coho_io.specs.MemFiles.{FilesState, content_of, fault_count, write_count, taken_next, counted, fault_at, after_put, extended, created, failed_create, appended, cut_append, bytes_at}
+use Rattle.coho_io.specs.MemFiles.{FilesState, content_of, fault_count, write_count, taken_next, counted}
+use Rattle.coho_io.specs.MemFiles.{fault_at, after_put, extended, created, failed_create, appended}
+use Rattle.coho_io.specs.MemFiles.{cut_append, bytes_at}
 use Rattle.coho_io.proofs.Faults.{content-fault, later-fault, rose-fault}
 use Rattle.coho_io.proofs.Puts.{content-put, content-extended, later-put}
 

@@ -1,7 +1,8 @@
 ghost use Rattle.std.specs.Prelude.{◌≡◌, ◌≤◌, ℕ, List, length, IfOk, IfSome, IsErrOf, OnOk, OnErr};
 ghost use Rattle.std.specs.declared.option.Option.{Option};
 ghost use Rattle.coho_io.specs.Causes.{Rose, NoneFell};
-ghost use Rattle.coho_io.specs.Content.{Content, file, ReadsAt, Creates, CreatesOrStays, AppendsPiece, AppendsFrontOrStays};
+ghost use Rattle.coho_io.specs.Content.{Content, file, ReadsAt, Creates, CreatesOrStays, AppendsPiece};
+ghost use Rattle.coho_io.specs.Content.{AppendsFrontOrStays};
 
 use crate::Fault;
 

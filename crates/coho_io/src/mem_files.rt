@@ -1,11 +1,15 @@
-ghost use Rattle.std.specs.Prelude.{◌≡◌, ◌≤◌, ℕ, length, IfOk, OnOk, OnErr, IsSome, IsNone, IfSome, IsErrOf, None, Some, MatchOption};
+ghost use Rattle.std.specs.Prelude.{◌≡◌, ◌≤◌, ℕ, length, IfOk, OnOk, OnErr, IsSome, IsNone, IfSome, IsErrOf};
+ghost use Rattle.std.specs.Prelude.{None, Some, MatchOption};
 ghost use Rattle.std.specs.List.{position};
 ghost use Rattle.coho_io.specs.Causes.{Rose, NoneFell};
 ghost use Rattle.coho_io.specs.Calls.{taken_at};
 ghost use Rattle.coho_io.specs.Content.{file, ReadsAt, or_empty, with_file, with_piece};
 ghost use Rattle.coho_io.specs.Counts.{count_of};
 ghost use Rattle.coho_io.specs.Stored.{entry_of};
-ghost use Rattle.coho_io.specs.MemFiles.{is_at, bytes_at, content_of, counts_at, fault_count, read_count, write_count, taken_next, MustFail, no_files, listed, counted, fault_at, failed_read, after_put, extended, created, failed_create, appended, cut_append};
+ghost use Rattle.coho_io.specs.MemFiles.{is_at, bytes_at, content_of, counts_at, fault_count, read_count};
+ghost use Rattle.coho_io.specs.MemFiles.{write_count, taken_next, MustFail, no_files, listed, counted};
+ghost use Rattle.coho_io.specs.MemFiles.{fault_at, failed_read, after_put, extended, created, failed_create};
+ghost use Rattle.coho_io.specs.MemFiles.{appended, cut_append};
 
 use crate::calls::taken_at;
 use crate::counts::{Counts, Kind};

@@ -1,4 +1,5 @@
-ghost use Rattle.std.specs.Prelude.{◌≡◌, ◌≤◌, [], length, IfOk, OnOk, OnErr, IsErrOf, None, Some, MatchOption};
+ghost use Rattle.std.specs.Prelude.{◌≡◌, ◌≤◌, [], length, IfOk, OnOk, OnErr, IsErrOf, None, Some};
+ghost use Rattle.std.specs.Prelude.{MatchOption};
 ghost use Rattle.std.specs.FinMap.{get};
 ghost use Rattle.coho_io.specs.Content.{with_file, with_piece, ReadsAt, file};
 ghost use Rattle.coho_io.specs.NoFaultFiles.{content_within};
@@ -9,8 +10,8 @@ use group_table::Memory;
 use std::alloc::Global;
 use std::marker::Model;
 
-/// Files in memory of which no call fails. A path that was not put is an empty file. They are seen as the list
-/// of their paths and bytes.
+/// Files in memory of which no call fails. A path that was not put is an empty file. They are seen as the
+/// list of their paths and bytes.
 #[derive(Drop)]
 pub struct NoFaultFiles {
     files: MemFiles,

@@ -1,5 +1,6 @@
 -- A file that is read in pieces.
-use Rattle.std.proofs.Common.{◌≡◌, ℕ, ◌+◌, ◌<◌, ◌≤◌, List, ◌++◌, length, take, drop, refl, inl, inr, sym, ◌∙◌, ap, subst, arith, length-append, Some, None}
+use Rattle.std.proofs.Common.{◌≡◌, ℕ, ◌+◌, ◌<◌, ◌≤◌, List, ◌++◌, length, take, drop, refl, inl, inr, sym, ◌∙◌}
+use Rattle.std.proofs.Common.{ap, subst, arith, length-append, Some, None}
 use Rattle.std.specs.declared.option.Option.{Option}
 use Rattle.std.proofs.lemmas.List.{length-take, take_min, take_all}
 use Rattle.std.proofs.Math.Seq.{take-add}

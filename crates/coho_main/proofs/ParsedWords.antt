@@ -1,12 +1,15 @@
 -- What a parse makes of words that are not empty and begin with no dash.
-use Rattle.std.proofs.Common.{◌≡◌, ◌∙◌, ◌⊎◌, inl, inr, ⊎_elim, Bool, true, false, not, ◌&&◌, ◌==◌, ℕ, List, [], ◌∷◌, sym, ap, ap₂, subst, refl, codes, true≢false}
+use Rattle.std.proofs.Common.{◌≡◌, ◌∙◌, ◌⊎◌, inl, inr, ⊎_elim, Bool, true, false, not, ◌&&◌, ◌==◌, ℕ, List}
+use Rattle.std.proofs.Common.{[], ◌∷◌, sym, ap, ap₂, subst, refl, codes, true≢false}
 use Rattle.std.specs.declared.option.Option.{Option}
 use Rattle.std.specs.declared.option.Option.TheVariants.{None, Some}
 use Rattle.std.specs.List.{list_all}
 use Rattle.std.specs.Str.{bytes_eq}
 use Rattle.clap.specs.Lexer.{long_of, short_of}
-use Rattle.clap.specs.Walk.{Held, Row, Rule, rows_of, rule_of, Text, Walk, arg_by_index, first_of, idle, nothing_held, to_positional, value, walked}
-use Rattle.clap.specs.Simple.{App, HasMatchesOf, Shape, app_of, app_of_fields, built, matches_of, new_app, new_rule, on_top, with_rule}
+use Rattle.clap.specs.Walk.{Held, Row, Rule, rows_of, rule_of, Text, Walk, arg_by_index, first_of, idle}
+use Rattle.clap.specs.Walk.{nothing_held, to_positional, value, walked}
+use Rattle.clap.specs.Simple.{App, HasMatchesOf, Shape, app_of, app_of_fields, built, matches_of, new_app}
+use Rattle.clap.specs.Simple.{new_rule, on_top, with_rule}
 use Rattle.clap.specs.Matches.{first_value, found_of}
 use Rattle.clap.proofs.WalkLemmas.{first_value-rows}
 use Rattle.clap.specs.declared.builder.arg.Arg.{Arg}
@@ -14,9 +17,11 @@ use Rattle.clap.specs.declared.builder.command.Command.{Command}
 use Rattle.clap.specs.declared.builder.command.Command.TheViews.{out-Command}
 use Rattle.clap.specs.declared.parser.matches.ArgMatches.{ArgMatches}
 use Rattle.clap.specs.Kinds.{HasKind, IsAmong, Kinds}
-use Rattle.clap.specs.Faults.{defaults_fault, fault_of, is_simple_and_free, step_fault, turn_fault, walk_fault}
+use Rattle.clap.specs.Faults.{defaults_fault, fault_of, is_simple_and_free, step_fault, turn_fault}
+use Rattle.clap.specs.Faults.{walk_fault}
 use Rattle.clap.specs.declared.error.kind.ErrorKind.{ErrorKind}
-use Rattle.clap.specs.declared.error.kind.ErrorKind.TheVariants.{MissingRequiredArgument, OutOfMemory, UnknownArgument}
+use Rattle.clap.specs.declared.error.kind.ErrorKind.TheVariants.{MissingRequiredArgument, OutOfMemory}
+use Rattle.clap.specs.declared.error.kind.ErrorKind.TheVariants.{UnknownArgument}
 use Rattle.clap.specs.declared.error.Error.{Error}
 use Rattle.clap.specs.Values.{kind_of}
 use Rattle.coho_main.specs.Words.{is_path, one_operand, two_operands}

@@ -1,5 +1,7 @@
 -- What is told of a stage, from its value.
-use Rattle.std.proofs.Common.{◌≡◌, ◌⊎◌, inl, inr, refl, ℕ, zero, suc, ◌+◌, ◌*◌, ◌<◌, ◌≤◌, List, [], ◌∷◌, ◌++◌, length, take, codes, String, Vec, Global, string_bytes, flat_map, append_assoc, sym, ◌∙◌, ap, subst, arith}
+use Rattle.std.proofs.Common.{◌≡◌, ◌⊎◌, inl, inr, refl, ℕ, zero, suc, ◌+◌, ◌*◌, ◌<◌, ◌≤◌, List, [], ◌∷◌, ◌++◌}
+use Rattle.std.proofs.Common.{length, take, codes, String, Vec, Global, string_bytes, flat_map, append_assoc}
+use Rattle.std.proofs.Common.{sym, ◌∙◌, ap, subst, arith}
 use Rattle.std.specs.Prelude.{slice_index, MatchOption, unwrap_or, IfOk}
 use Rattle.std.specs.declared.option.Option.{Option}
 use Rattle.std.specs.declared.option.Option.TheVariants.{None, Some}
@@ -17,7 +19,8 @@ use Rattle.min_res.specs.Defined.{IsStageAt}
 use Rattle.min_res.specs.Stages.{rank_of, stage_rows}
 use Rattle.min_res.specs.Refusals.{IsRefusal}
 use Rattle.coho_main.specs.Outcome.{after_space, stage_line, stage_lines}
-use Rattle.coho_main.specs.Stages.{Summary, summary, HasRows, rows_at, stage_at, stages_below, dimension, Fit, IsFirstAbove, AreStagesTo, IsStageRefusal}
+use Rattle.coho_main.specs.Stages.{Summary, summary, HasRows, rows_at, stage_at, stages_below, dimension, Fit}
+use Rattle.coho_main.specs.Stages.{IsFirstAbove, AreStagesTo, IsStageRefusal}
 use Rattle.coho_main.specs.Words.{contents}
 use Rattle.power_commutator.specs.Presentations.{Presentation}
 use Rattle.coho_main.specs.Stops.{IsRefused}

@@ -1,12 +1,14 @@
 -- The first subgroup and degree whose dimension is above the limit are one.
-use Rattle.std.proofs.Common.{◌≡◌, ◌∙◌, ℕ, suc, ◌<◌, min, List, [], ◌∷◌, ◌++◌, inl, inr, length, refl, sym, ap, subst, arith}
+use Rattle.std.proofs.Common.{◌≡◌, ◌∙◌, ℕ, suc, ◌<◌, min, List, [], ◌∷◌, ◌++◌, inl, inr, length, refl, sym}
+use Rattle.std.proofs.Common.{ap, subst, arith}
 use Rattle.p_groups.specs.PGroups.{PGroup}
 use Rattle.elementary_subgroups.specs.Bases.{NumberedSubgroup}
 use Rattle.elementary_subgroups.specs.Sets.{IsIn}
 use Rattle.elementary_subgroups.proofs.Members.{in_right}
 use Rattle.elementary_subgroups.proofs.NumberedLists.{subgroups_are_one}
 use Rattle.chain_lift.specs.Embeddings.{elementary}
-use Rattle.coho_report.specs.Limits.{dimension, HasSmallStages, IsFirstLarge, IsSmall, AreSmall, IsFirstLargeSubgroup}
+use Rattle.coho_report.specs.Limits.{dimension, HasSmallStages, IsFirstLarge, IsSmall, AreSmall}
+use Rattle.coho_report.specs.Limits.{IsFirstLargeSubgroup}
 
 -- the first members without a property are at one place
 first-split : {X : Type 0} (P : X → Type 0) (xs ys zs us : List X) (x y : X) → xs ++ x ∷ zs ≡ ys ++ y ∷ us

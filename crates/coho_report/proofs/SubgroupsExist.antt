@@ -1,21 +1,26 @@
 -- Every group has its list of maximal elementary abelian subgroups.
-use Rattle.std.proofs.Common.{◌≡◌, ℕ, zero, suc, ◌<◌, ◌≤◌, List, [], ◌∷◌, ◌++◌, ◌⊎◌, inl, inr, length, true, false, refl, ap, sym, ◌∙◌, subst, arith}
+use Rattle.std.proofs.Common.{◌≡◌, ℕ, zero, suc, ◌<◌, ◌≤◌, List, [], ◌∷◌, ◌++◌, ◌⊎◌, inl, inr, length, true}
+use Rattle.std.proofs.Common.{false, refl, ap, sym, ◌∙◌, subst, arith}
 use Rattle.std.specs.List.{filter}
 use Rattle.std.proofs.lemmas.Bool.{cases_Bool, cases_lt}
 use Rattle.group_table.specs.Tables.{GroupTable, IsGroupTable, order}
-use Rattle.elementary_subgroups.specs.Bases.{numbering, numbers, IsBasisFrom, IsNumbered, IsSubgroupList, members_of, NumberedSubgroup}
+use Rattle.elementary_subgroups.specs.Bases.{numbering, numbers, IsBasisFrom, IsNumbered, IsSubgroupList}
+use Rattle.elementary_subgroups.specs.Bases.{members_of, NumberedSubgroup}
 use Rattle.elementary_subgroups.specs.Cliques.{CommutesWithAll, IsFull, commutes_test, torsion_test}
 use Rattle.elementary_subgroups.specs.Sets.{IsBefore, IsIn}
 use Rattle.elementary_subgroups.specs.Subgroups.{IsConjugateBy, IsLeast, IsMaximalElementaryList}
 use Rattle.elementary_subgroups.proofs.Classes.{compare_maximal}
-use Rattle.elementary_subgroups.proofs.Cliques.{all_commute, all_commute_from, all_commute_to, maximal_from_full}
-use Rattle.elementary_subgroups.proofs.Conjugates.{conjugate_exists, conjugate_full, member, member_from, member_to, same_left}
+use Rattle.elementary_subgroups.proofs.Cliques.{all_commute, all_commute_from, all_commute_to}
+use Rattle.elementary_subgroups.proofs.Cliques.{maximal_from_full}
+use Rattle.elementary_subgroups.proofs.Conjugates.{conjugate_exists, conjugate_full, member, member_from}
+use Rattle.elementary_subgroups.proofs.Conjugates.{member_to, same_left}
 use Rattle.elementary_subgroups.proofs.GroupLaws.{HasGroupLaw, law_of}
 use Rattle.elementary_subgroups.proofs.Members.{same_set}
 use Rattle.elementary_subgroups.proofs.Numbering.{generated_in, in_generated}
 use Rattle.subgroup_list.specs.Search.{IsBlocked, IsFound, IsPlace}
 use Rattle.subgroup_list.proofs.Comparison.{not_least}
-use Rattle.subgroup_list.proofs.Places.{place_with, place_without, place_start, found_blocked, full_at_end, found_least, found_not_least, found_join, found_all, shorter_filter}
+use Rattle.subgroup_list.proofs.Places.{place_with, place_without, place_start, found_blocked, full_at_end}
+use Rattle.subgroup_list.proofs.Places.{found_least, found_not_least, found_join, found_all, shorter_filter}
 
 module _ {G : GroupTable} (L : HasGroupLaw G) where
   same_conjugate : (g : ℕ) (m k l : List ℕ) → g < order G → IsConjugateBy G g m k → IsConjugateBy G g m l

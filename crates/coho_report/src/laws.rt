@@ -33,8 +33,8 @@ pub fn one_refusal()
         → IsFirstLargeSubgroup G n limit j e Y → (i ≡ j) × (d ≡ e) × (X ≡ Y) }
 {}
 
-/// The report on a p-group is that of the cohomology ring of its bar complex, with the restrictions of cocycles
-/// to the maximal elementary abelian subgroups.
+/// The report on a p-group is that of the cohomology ring of its bar complex, with the restrictions of
+/// cocycles to the maximal elementary abelian subgroups.
 pub fn cohomology_law()
     ensures { (G : PGroup) (n : ℕ) (r : ReportValue) → IsReport G n r → IsCohomologyReport G n r }
 {}

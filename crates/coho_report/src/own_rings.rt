@@ -1,7 +1,8 @@
 //! The resolutions and rings of elementary abelian subgroups in their own numbering: subgroups of one rank
 //! share them.
 
-ghost use Rattle.std.specs.Prelude.{◌≡◌, ◌≤◌, ◌<◌, ◌^◌, ℕ, length, All, IfOk, IfErr, IfSome, OnOk, slice_index_or};
+ghost use Rattle.std.specs.Prelude.{◌≡◌, ◌≤◌, ◌<◌, ◌^◌, ℕ, length, All, IfOk, IfErr, IfSome, OnOk};
+ghost use Rattle.std.specs.Prelude.{slice_index_or};
 ghost use Rattle.limits.specs.declared.TheConstants.{GREATEST_DEGREE};
 ghost use Rattle.elementary_subgroups.specs.Bases.{IsSubgroupOf};
 ghost use Rattle.chain_lift.specs.Embeddings.{elementary};

@@ -2,7 +2,8 @@
 
 ghost use Rattle.std.specs.Prelude.{◌≡◌, ◌+◌, ◌<◌, ◌^◌, ◌++◌, All, length, map, IfOk, OnOk, slice_index_or};
 ghost use Rattle.graded_polynomials.specs.Polynomials.{Polynomial};
-ghost use Rattle.coho_report.specs.Lines.{all_subgroup_lines, basis_line, image_line, image_lines, subgroup_lines};
+ghost use Rattle.coho_report.specs.Lines.{all_subgroup_lines, basis_line, image_line, image_lines};
+ghost use Rattle.coho_report.specs.Lines.{subgroup_lines};
 
 use crate::subgroups::SubgroupReport;
 use gc_poly::Gens;

@@ -15,7 +15,8 @@ use Rattle.chain_maps.specs.Vectors.{extended}
 use Rattle.chain_maps.specs.Multiply.{multiply}
 use Rattle.chain_maps.proofs.Vectors.{extended-at, extended-past}
 use Rattle.bar_complex.specs.Cochains.{cup, Cochain, AreCohomologous, IsNormalisedCocycle}
-use Rattle.bar_complex.proofs.Cohomologous.{near-refl, near-sym, near-trans, near-add, near-normal, near-cocycle}
+use Rattle.bar_complex.proofs.Cohomologous.{near-refl, near-sym, near-trans, near-add, near-normal}
+use Rattle.bar_complex.proofs.Cohomologous.{near-cocycle}
 use Rattle.bar_comparison.specs.Comparison.{bar_cocycle}
 use Rattle.bar_comparison.proofs.Comparison.{MinimalStages}
 use Rattle.bar_comparison.proofs.Classes as classes

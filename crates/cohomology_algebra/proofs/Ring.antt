@@ -26,7 +26,8 @@ use Rattle.graded_algebra.proofs.Generators.{AllNew, generators-new, all-new-spl
 use Rattle.graded_algebra.proofs.Spans.{span-generators}
 use Rattle.graded_algebra.proofs.Presented.{presented-vectors}
 use Rattle.graded_algebra.proofs.VectorLemmas.{is-basis}
-use Rattle.cohomology_algebra.specs.Claims.{IsOfDegree, AlgebraClaims, IsPresentation, RingClaims, cohomology, vector_cocycle, cocycle_generators}
+use Rattle.cohomology_algebra.specs.Claims.{IsOfDegree, AlgebraClaims, IsPresentation, RingClaims, cohomology}
+use Rattle.cohomology_algebra.specs.Claims.{vector_cocycle, cocycle_generators}
 use Rattle.cohomology_algebra.proofs.Vectors.{graded-commutative}
 use Rattle.cohomology_algebra.proofs.Cocycles.{compared, cohomology-is}
 

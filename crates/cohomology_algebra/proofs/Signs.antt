@@ -1,5 +1,6 @@
 -- Signs: changes of sign by recursion, and by the parity of their number.
-use Rattle.std.specs.Prelude.{◌≡◌, ◌≢◌, ℕ, zero, suc, refl, ◌+◌, ◌*◌, ◌%◌, Bool, true, false, cond, eqb, not, ◌&&◌}
+use Rattle.std.specs.Prelude.{◌≡◌, ◌≢◌, ℕ, zero, suc, refl, ◌+◌, ◌*◌, ◌%◌, Bool, true, false, cond, eqb, not}
+use Rattle.std.specs.Prelude.{◌&&◌}
 use Rattle.std.proofs.Common.{sym, ◌∙◌, ap, arith}
 use Rattle.std.proofs.Math.Nat.{add-mod_left}
 use Rattle.group_modules.specs.Module.{Monoid}

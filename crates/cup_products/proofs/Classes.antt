@@ -10,7 +10,8 @@ use Rattle.bar_complex.specs.Tuples.{Tuple, entries, tuple}
 use Rattle.bar_comparison.proofs.Comparison.{MinimalStages, Class, comparison, bar_cocycle}
 use Rattle.bar_comparison.proofs.Classes.{bar-is, bar-normal, bar-cocycle, injective, bar-add}
 use Rattle.chain_maps.specs.Lifts.{ahead}
-use Rattle.cup_products.proofs.Products.{product, kc-null, between, between-null, cup-product, cup-product-zero}
+use Rattle.cup_products.proofs.Products.{product, kc-null, between, between-null, cup-product}
+use Rattle.cup_products.proofs.Products.{cup-product-zero}
 use Rattle.cup_products.proofs.Theta as typed
 use Rattle.cup_products.proofs.Products as products
 use Rattle.cup_products.proofs.Reverse.{Inverse}
@@ -20,7 +21,9 @@ use Rattle.cup_products.proofs.Graded.{Graded, bar, IsOdd}
 use Rattle.cup_products.proofs.Graded as graded
 use Rattle.bar_complex.proofs.Cohomologous.{mulK, mulK-add, near-eq, near-sym, near-trans, near-add}
 use Rattle.cup_products.proofs.CupCoboundaries.{cup-list}
-use Rattle.cup_products.proofs.Cocycles.{alike-sym, alike-trans, alike-eq, ahead-is, minus-lin, turn, turn-cong, mul, one, mul-left, mul-right, mul-assoc, one-mul, mul-one, mul-comm}
+use Rattle.cup_products.proofs.Cocycles.{alike-sym, alike-trans, alike-eq, ahead-is, minus-lin, turn}
+use Rattle.cup_products.proofs.Cocycles.{turn-cong, mul, one, mul-left, mul-right, mul-assoc, one-mul}
+use Rattle.cup_products.proofs.Cocycles.{mul-one, mul-comm}
 
 module _ {q : ℕ} {G : Monoid} (S : MinimalStages q G) where
   abbrev pub K : Module (suc q) G

@@ -14,8 +14,10 @@ use Rattle.cup_products.proofs.Reverse.{Inverse}
 use Rattle.bar_complex.specs.Cochains.{turned, cup, IsNormalised, IsCocycle, AreCohomologous}
 use Rattle.cup_products.proofs.GradedCocycles.{Cocycle, AreAlike}
 use Rattle.cup_products.proofs.Reversal.{reversed}
-use Rattle.bar_complex.proofs.Cohomologous.{K, mulK, mulK-comm, mulK-add-left, near-eq, near-refl, near-sym, near-trans, near-turned, near-normal, near-cocycle}
-use Rattle.cup_products.proofs.CupCoboundaries.{cup-normal, cup-cocycle, near-left, near-reversed, near-cup-reversed}
+use Rattle.bar_complex.proofs.Cohomologous.{K, mulK, mulK-comm, mulK-add-left, near-eq, near-refl, near-sym}
+use Rattle.bar_complex.proofs.Cohomologous.{near-trans, near-turned, near-normal, near-cocycle}
+use Rattle.cup_products.proofs.CupCoboundaries.{cup-normal, cup-cocycle, near-left, near-reversed}
+use Rattle.cup_products.proofs.CupCoboundaries.{near-cup-reversed}
 
 pub take-take : {X : Type 0} (j e : ℕ) (xs : List X) → take j (take (j + e) xs) ≡ take j xs
 take-take zero e xs = refl

@@ -17,7 +17,8 @@ use Rattle.cup_products.proofs.Theta as typed
 use Rattle.cup_products.proofs.Theta.{first, others, val-theta, theta, theta-null, cup-coboundary}
 use Rattle.cup_products.proofs.Reverse.{Inverse, rho}
 use Rattle.cup_products.proofs.Reversal
-use Rattle.cup_products.proofs.Reversal.{reversed, reversal, triangle, rev, back, entries-rev, cup-reversed, same, same-map, rho-map}
+use Rattle.cup_products.proofs.Reversal.{reversed, reversal, triangle, rev, back, entries-rev, cup-reversed}
+use Rattle.cup_products.proofs.Reversal.{same, same-map, rho-map}
 
 module _ (q : ℕ) (G : Monoid) where
   pub first-take : (e j : ℕ) (t : Tuple G.elem (ahead e j))

@@ -9,7 +9,8 @@ use Rattle.bar_complex.specs.Tuples.{Tuple, entries}
 use Rattle.bar_complex.specs.Boundary.{boundary}
 use Rattle.bar_complex.specs.Cochains.{turned, cup, Cochain, IsNormalised, IsCocycle, AreCohomologous}
 use Rattle.bar_complex.proofs.FormalBoundary.{bar-twice, bar-null}
-use Rattle.bar_complex.proofs.Cohomologous.{K, mulK, mulK-add, mulK-zero, mulK-comm, near-eq, near-refl, near-trans, near-add}
+use Rattle.bar_complex.proofs.Cohomologous.{K, mulK, mulK-add, mulK-zero, mulK-comm, near-eq, near-refl}
+use Rattle.bar_complex.proofs.Cohomologous.{near-trans, near-add}
 use Rattle.cup_products.proofs.GradedCocycles.{Cocycle, AreAlike}
 use Rattle.cup_products.proofs.Reverse.{Inverse}
 use Rattle.cup_products.proofs.CupCoboundaries.{near-left}

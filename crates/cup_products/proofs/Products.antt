@@ -12,9 +12,13 @@ use Rattle.bar_complex.specs.Boundary.{boundary, coboundary}
 use Rattle.bar_complex.proofs.FreeModules.{term}
 use Rattle.bar_complex.proofs.Contraction.{Bar}
 use Rattle.bar_complex.proofs.FormalBoundary.{bar-complex}
-use Rattle.bar_complex.proofs.Complexes.{Vanishes, FreeComplex, IsChainMap, Agree, homotopic, homotopy, homotopy-null, homotopy-boundary}
+use Rattle.bar_complex.proofs.Complexes.{Vanishes, FreeComplex, IsChainMap, Agree, homotopic, homotopy}
+use Rattle.bar_complex.proofs.Complexes.{homotopy-null, homotopy-boundary}
 use Rattle.bar_comparison.proofs.Lifted.{lifted, lifted-map, Starts}
-use Rattle.bar_comparison.proofs.Comparison.{MinimalStages, Class, pair, pair-linear, stage-complex, stage-boundary, row-minimal, comparison, comparison-map, bar_cocycle, bar-cocycle-closed, forth, forth-linear, forth-commute}
+use Rattle.bar_comparison.proofs.Comparison.{MinimalStages, Class, pair, pair-linear, stage-complex}
+use Rattle.bar_comparison.proofs.Comparison.{stage-boundary, row-minimal, comparison, comparison-map}
+use Rattle.bar_comparison.proofs.Comparison.{bar_cocycle, bar-cocycle-closed, forth, forth-linear}
+use Rattle.bar_comparison.proofs.Comparison.{forth-commute}
 use Rattle.cup_products.proofs.Theta.{first, others, cup, theta, theta-null, theta-commute}
 
 -- the complex from degree e on

@@ -5,7 +5,8 @@ use Rattle.std.proofs.Common.{sym, ◌∙◌, ap, ap₂, arith, append_assoc, le
 use Rattle.std.proofs.lemmas.List.{append-nil}
 use Rattle.std.proofs.Math.Seq.{take-append_seam, drop-append_seam}
 use Rattle.group_modules.specs.Module.{Monoid, Module, sub, IsAdditive, IsLinear, lin}
-use Rattle.group_modules.proofs.Laws.{map-neg, map-sub, map-lin, zero-add, times-neg, then-linear, zero-linear}
+use Rattle.group_modules.proofs.Laws.{map-neg, map-sub, map-lin, zero-add, times-neg, then-linear}
+use Rattle.group_modules.proofs.Laws.{zero-linear}
 use Rattle.group_modules.specs.Field.{Below, Fp, residue, minus}
 use Rattle.linear_algebra.proofs.Residues.{times-residue}
 use Rattle.bar_complex.proofs.FreeModules.{term, null, extend, extend-linear, linear-ext, move, move-one}
@@ -17,7 +18,8 @@ use Rattle.bar_complex.proofs.ExactBar.{bar-exact}
 use Rattle.bar_complex.proofs.Complexes.{Vanishes, IsChainMap, homotopic, homotopy}
 use Rattle.bar_complex.specs.Cochains as lists
 use Rattle.bar_complex.specs.Cochains.{turned}
-use Rattle.cup_products.proofs.Reverse.{Inverse, snoc, prod, prod-snoc, inv-unique, reach, flip, flip-map, end, rho, rho-null, turn, turn-commute}
+use Rattle.cup_products.proofs.Reverse.{Inverse, snoc, prod, prod-snoc, inv-unique, reach, flip, flip-map}
+use Rattle.cup_products.proofs.Reverse.{end, rho, rho-null, turn, turn-commute}
 
 module _ (q : ℕ) (G : Monoid) (I : Inverse G) where
   -- the inverses in the other order

@@ -3,7 +3,8 @@ use Rattle.std.specs.Prelude.{◌≡◌, ℕ, zero, suc, refl}
 use Rattle.std.proofs.Common.{sym, ◌∙◌, ap, ap₂, inl, inr}
 use Rattle.group_modules.specs.Module.{Monoid, Module, sub, IsAdditive, IsLinear}
 use Rattle.group_modules.proofs.Laws.{sub-add, map-neg, neg-neg, neg-add, neg-zero, swap, then-linear}
-use Rattle.bar_complex.proofs.FreeModules.{term, nil, plus, minus, null, comm, sum, extend, extend-linear, additive-ext, linear-ext, move, move-one}
+use Rattle.bar_complex.proofs.FreeModules.{term, nil, plus, minus, null, comm, sum, extend, extend-linear}
+use Rattle.bar_complex.proofs.FreeModules.{additive-ext, linear-ext, move, move-one}
 use Rattle.bar_complex.specs.Tuples.{Tuple, HasIdentity}
 use Rattle.bar_complex.proofs.Contraction.{Bar, cons, D, D-linear, D-cons, D-cons-zero, collapse}
 

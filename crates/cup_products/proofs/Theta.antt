@@ -4,12 +4,15 @@ use Rattle.std.specs.Prelude.{◌≡◌, ℕ, zero, suc, refl, ◌+◌, ◌*◌}
 use Rattle.std.proofs.Common.{sym, ◌∙◌, ap, ap₂, inl, inr, mul_comm}
 use mathlib.Core.Path.{fun_ext}
 use Rattle.group_modules.specs.Module.{Monoid, Module, sub, times, IsAdditive, IsLinear, lin}
-use Rattle.group_modules.proofs.Laws.{map-sub, map-times, map-lin, sub-eq, then-linear, times-zero, times-mod, times-sum}
+use Rattle.group_modules.proofs.Laws.{map-sub, map-times, map-lin, sub-eq, then-linear, times-zero, times-mod}
+use Rattle.group_modules.proofs.Laws.{times-sum}
 use Rattle.group_modules.specs.Field.{Below, Fp, residue}
 use Rattle.linear_algebra.proofs.Residues.{times-residue}
-use Rattle.bar_complex.proofs.FreeModules.{term, nil, plus, null, extend, extend-linear, additive-ext, linear-ext, move, move-one}
+use Rattle.bar_complex.proofs.FreeModules.{term, nil, plus, null, extend, extend-linear, additive-ext}
+use Rattle.bar_complex.proofs.FreeModules.{linear-ext, move, move-one}
 use Rattle.bar_complex.specs.Tuples.{Tuple, HasIdentity}
-use Rattle.bar_complex.proofs.Contraction.{Bar, bd, bd-null, inner, cons, D, D-linear, D-cons, D-cons-zero, collapse}
+use Rattle.bar_complex.proofs.Contraction.{Bar, bd, bd-null, inner, cons, D, D-linear, D-cons, D-cons-zero}
+use Rattle.bar_complex.proofs.Contraction.{collapse}
 use Rattle.bar_complex.specs.Boundary.{boundary}
 use Rattle.bar_complex.proofs.FormalBoundary.{lin-value, value-boundary}
 use Rattle.bar_complex.proofs.Complexes.{Vanishes}

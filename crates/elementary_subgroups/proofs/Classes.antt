@@ -1,13 +1,16 @@
 -- The list is one list, and it has each conjugacy class once.
-use Rattle.std.proofs.Common.{◌≡◌, ℕ, zero, suc, ◌<◌, ◌≤◌, List, [], ◌∷◌, ◌⊎◌, inl, inr, ap, sym, ◌∙◌, subst, arith}
+use Rattle.std.proofs.Common.{◌≡◌, ℕ, zero, suc, ◌<◌, ◌≤◌, List, [], ◌∷◌, ◌⊎◌, inl, inr, ap, sym, ◌∙◌, subst}
+use Rattle.std.proofs.Common.{arith}
 use Rattle.std.proofs.lemmas.Bool.{cases_lt}
 use Rattle.group_table.specs.Tables.{GroupTable, order, product}
 use Rattle.elementary_subgroups.proofs.GroupLaws.{HasGroupLaw, cancel_left}
 use Rattle.elementary_subgroups.specs.Sets.{IsIn, IsSet, IsSubset, IsBefore}
-use Rattle.elementary_subgroups.specs.Subgroups.{IsMaximalElementary, IsConjugateBy, IsConjugate, IsMaximalElementaryList, IsOnlyConjugate}
+use Rattle.elementary_subgroups.specs.Subgroups.{IsMaximalElementary, IsConjugateBy, IsConjugate}
+use Rattle.elementary_subgroups.specs.Subgroups.{IsMaximalElementaryList, IsOnlyConjugate}
 use Rattle.elementary_subgroups.proofs.Members.{same_members, same_set, not_before_both}
 use Rattle.elementary_subgroups.proofs.Cliques.{maximal_from_full, full_from_maximal}
-use Rattle.elementary_subgroups.proofs.Conjugates.{Carries, undo_right, same_left, conjugate_full, conjugate_exists}
+use Rattle.elementary_subgroups.proofs.Conjugates.{Carries, undo_right, same_left, conjugate_full}
+use Rattle.elementary_subgroups.proofs.Conjugates.{conjugate_exists}
 
 -- the answer is determined
 pub list_is_one : (G : GroupTable) (ms ns : List (List ℕ)) → IsMaximalElementaryList G ms →

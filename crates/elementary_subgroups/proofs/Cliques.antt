@@ -7,8 +7,10 @@ use Rattle.elementary_subgroups.proofs.GroupLaws.{HasGroupLaw, power_product, po
 use Rattle.elementary_subgroups.specs.Sets.{IsIn, IsBelow}
 use Rattle.elementary_subgroups.specs.Subgroups.{IsElementary, IsMaximalElementary}
 use Rattle.elementary_subgroups.specs.Bases.{numbers}
-use Rattle.elementary_subgroups.specs.Cliques.{IsTorsion, Commutes, CommutesWithAll, commutes_test, torsion_test, IsFull}
-use Rattle.elementary_subgroups.proofs.Members.{in_filter, from_filter, filter_ascending, same_set, in_numbers, from_numbers, numbers_ascending}
+use Rattle.elementary_subgroups.specs.Cliques.{IsTorsion, Commutes, CommutesWithAll, commutes_test}
+use Rattle.elementary_subgroups.specs.Cliques.{torsion_test, IsFull}
+use Rattle.elementary_subgroups.proofs.Members.{in_filter, from_filter, filter_ascending, same_set}
+use Rattle.elementary_subgroups.proofs.Members.{in_numbers, from_numbers, numbers_ascending}
 
 pub torsion_unit : {G : GroupTable} → HasGroupLaw G → IsTorsion G 0
 torsion_unit {G} L = record { element = L.law.some; power_is = power_of_unit L G.p }

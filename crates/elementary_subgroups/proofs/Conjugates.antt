@@ -1,15 +1,18 @@
 -- Conjugates of sets.
-use Rattle.std.proofs.Common.{◌≡◌, ℕ, zero, suc, ◌<◌, List, [], ◌∷◌, Bool, true, false, ◌⊎◌, inl, inr, refl, ap, sym, ◌∙◌, subst, eqb}
+use Rattle.std.proofs.Common.{◌≡◌, ℕ, zero, suc, ◌<◌, List, [], ◌∷◌, Bool, true, false, ◌⊎◌, inl, inr, refl}
+use Rattle.std.proofs.Common.{ap, sym, ◌∙◌, subst, eqb}
 use Rattle.std.specs.Prelude.{filter, ◌||◌}
 use Rattle.std.specs.List.{list_any}
 use Rattle.std.proofs.lemmas.Bool.{eq-eqb, eqb-true}
 use Rattle.group_table.specs.Tables.{GroupTable, order, product, power}
-use Rattle.elementary_subgroups.proofs.GroupLaws.{HasGroupLaw, inverse_right, cancel_left, cancel_right, power_below}
+use Rattle.elementary_subgroups.proofs.GroupLaws.{HasGroupLaw, inverse_right, cancel_left, cancel_right}
+use Rattle.elementary_subgroups.proofs.GroupLaws.{power_below}
 use Rattle.elementary_subgroups.specs.Sets.{IsIn, IsBelow}
 use Rattle.elementary_subgroups.specs.Subgroups.{IsConjugateBy}
 use Rattle.elementary_subgroups.specs.Bases.{numbers}
 use Rattle.elementary_subgroups.specs.Cliques.{IsTorsion, Commutes, IsFull}
-use Rattle.elementary_subgroups.proofs.Members.{in_filter, from_filter, filter_ascending, in_numbers, from_numbers, numbers_ascending}
+use Rattle.elementary_subgroups.proofs.Members.{in_filter, from_filter, filter_ascending, in_numbers}
+use Rattle.elementary_subgroups.proofs.Members.{from_numbers, numbers_ascending}
 
 -- y = g^-1 x g
 abbrev pub Carries : GroupTable → ℕ → ℕ → ℕ → Type 0

@@ -1,6 +1,8 @@
 -- The numbers below p^r are a group under the sum of digits.
-use Rattle.std.proofs.Common.{◌≡◌, ℕ, zero, suc, ◌<◌, ◌+◌, ◌*◌, ◌/◌, ◌%◌, ◌^◌, ◌-◌, ap, sym, ◌∙◌, subst, refl, arith, get_or}
-use Rattle.std.proofs.Math.Nat.{add-mod-mod, mod-add-mod, div-add-mod', div-lt_iff_lt-mul, mod-lt, mod-eq_of_lt, div-eq_of_lt, mod_self, pow-suc, pow-zero}
+use Rattle.std.proofs.Common.{◌≡◌, ℕ, zero, suc, ◌<◌, ◌+◌, ◌*◌, ◌/◌, ◌%◌, ◌^◌, ◌-◌, ap, sym, ◌∙◌, subst, refl}
+use Rattle.std.proofs.Common.{arith, get_or}
+use Rattle.std.proofs.Math.Nat.{add-mod-mod, mod-add-mod, div-add-mod', div-lt_iff_lt-mul, mod-lt}
+use Rattle.std.proofs.Math.Nat.{mod-eq_of_lt, div-eq_of_lt, mod_self, pow-suc, pow-zero}
 use Rattle.std.proofs.lemmas.Nat.{div-mul-add, mod-mul-add}
 use Rattle.group_table.specs.Tables.{IsTable, IsGroupTable, order, product, order_is, product_is}
 use Rattle.group_table.proofs.Laws.{place-below}

@@ -2,7 +2,8 @@
 use Rattle.std.proofs.Common.{◌≡◌, ℕ, List, [], ◌∷◌, inl, inr, refl, ap, sym, ◌∙◌, subst}
 use Rattle.group_table.specs.Tables.{GroupTable}
 use Rattle.elementary_subgroups.specs.Sets.{IsIn}
-use Rattle.elementary_subgroups.specs.Bases.{numbering, members_of, NumberedSubgroup, IsBasis, IsNumbered, IsSubgroupList, IsSubgroupOf}
+use Rattle.elementary_subgroups.specs.Bases.{numbering, members_of, NumberedSubgroup, IsBasis, IsNumbered}
+use Rattle.elementary_subgroups.specs.Bases.{IsSubgroupList, IsSubgroupOf}
 use Rattle.elementary_subgroups.proofs.Classes.{list_is_one}
 use Rattle.elementary_subgroups.proofs.Lists.{in_map}
 use Rattle.elementary_subgroups.proofs.Numbering.{basis_is_one}

@@ -1,11 +1,14 @@
 -- The numbering of the elements that a basis generates.
-use Rattle.std.proofs.Common.{◌≡◌, ℕ, suc, ◌<◌, ◌+◌, ◌*◌, ◌/◌, ◌%◌, ◌^◌, List, [], ◌∷◌, ◌++◌, inl, inr, refl, ap, sym, ◌∙◌, subst, arith, length, get_or}
+use Rattle.std.proofs.Common.{◌≡◌, ℕ, suc, ◌<◌, ◌+◌, ◌*◌, ◌/◌, ◌%◌, ◌^◌, List, [], ◌∷◌, ◌++◌, inl, inr, refl}
+use Rattle.std.proofs.Common.{ap, sym, ◌∙◌, subst, arith, length, get_or}
 use Rattle.std.proofs.lemmas.List.{length-append}
-use Rattle.std.proofs.Math.Nat.{mod-eq_of_lt, mul-add-mod_self_right, mul-add-div_right, pow-suc, pow-zero, div-lt_iff_lt-mul}
+use Rattle.std.proofs.Math.Nat.{mod-eq_of_lt, mul-add-mod_self_right, mul-add-div_right, pow-suc, pow-zero}
+use Rattle.std.proofs.Math.Nat.{div-lt_iff_lt-mul}
 use Rattle.group_table.specs.Tables.{GroupTable, order, product, power}
 use Rattle.elementary_subgroups.specs.Sets.{IsIn}
 use Rattle.elementary_subgroups.specs.Cliques.{AreElements}
-use Rattle.elementary_subgroups.specs.Bases.{embed, size, numbers, numbering, IsGenerated, IsBasisFrom, IsNumbered, NumberedSubgroup}
+use Rattle.elementary_subgroups.specs.Bases.{embed, size, numbers, numbering, IsGenerated, IsBasisFrom}
+use Rattle.elementary_subgroups.specs.Bases.{IsNumbered, NumberedSubgroup}
 use Rattle.elementary_subgroups.proofs.GroupLaws.{HasGroupLaw, power_below}
 use Rattle.elementary_subgroups.proofs.Members.{in_numbers, from_numbers}
 use Rattle.elementary_subgroups.proofs.Lists.{in_map, from_map, length_map, length_numbers, at_map_numbers}

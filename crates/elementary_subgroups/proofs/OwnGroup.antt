@@ -1,12 +1,14 @@
 -- The elementary abelian group of rank r is the group of each subgroup of rank r in its own numbering.
-use Rattle.std.proofs.Common.{◌≡◌, ℕ, zero, suc, ◌<◌, ◌*◌, ◌^◌, ◌≤◌, List, [], ◌∷◌, inl, inr, refl, ap, sym, ◌∙◌, subst, arith, length, map}
+use Rattle.std.proofs.Common.{◌≡◌, ℕ, zero, suc, ◌<◌, ◌*◌, ◌^◌, ◌≤◌, List, [], ◌∷◌, inl, inr, refl, ap, sym}
+use Rattle.std.proofs.Common.{◌∙◌, subst, arith, length, map}
 use Rattle.std.proofs.Math.Nat.{pow-zero, pow-suc, mul-le-mul_left}
 use Rattle.group_table.specs.Tables.{GroupTable, order, product, order_is}
 use Rattle.group_table.specs.declared.Prime.{Prime}
 use Rattle.group_table.specs.Prime.{prime_value}
 use Rattle.elementary_subgroups.specs.Sets.{IsIn, IsSet, IsAscending}
 use Rattle.elementary_subgroups.specs.Cliques.{AreElements}
-use Rattle.elementary_subgroups.specs.Bases.{embed, size, numbers, numbering, NumberedSubgroup, IsNumbered, IsSubgroupOf}
+use Rattle.elementary_subgroups.specs.Bases.{embed, size, numbers, numbering, NumberedSubgroup, IsNumbered}
+use Rattle.elementary_subgroups.specs.Bases.{IsSubgroupOf}
 use Rattle.elementary_subgroups.specs.OwnGroups.{elementary_group, IsOwnGroup}
 use Rattle.elementary_subgroups.proofs.GroupLaws.{HasGroupLaw}
 use Rattle.elementary_subgroups.proofs.Members.{from_numbers, numbers_ascending}

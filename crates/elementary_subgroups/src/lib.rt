@@ -6,10 +6,12 @@ ghost use Rattle.std.specs.Prelude.{◌≡◌, ◌<◌, ◌⊎◌, ℕ, List, So
 ghost use Rattle.group_table.specs.Prime.{prime_value};
 ghost use Rattle.group_table.specs.Tables.{GroupTable, IsGroupTable};
 ghost use Rattle.group_table.specs.declared.Prime.{Prime};
-ghost use Rattle.elementary_subgroups.specs.Bases.{embed, size, IsBasis, IsNumbered, IsSubgroupList, IsSubgroupOf, NumberedSubgroup};
+ghost use Rattle.elementary_subgroups.specs.Bases.{embed, size, IsBasis, IsNumbered, IsSubgroupList};
+ghost use Rattle.elementary_subgroups.specs.Bases.{IsSubgroupOf, NumberedSubgroup};
 ghost use Rattle.elementary_subgroups.specs.OwnGroups.{elementary_group, IsOwnGroup};
 ghost use Rattle.elementary_subgroups.specs.Sets.{IsBefore, IsIn};
-ghost use Rattle.elementary_subgroups.specs.Subgroups.{IsConjugate, IsMaximalElementary, IsMaximalElementaryList, IsOnlyConjugate};
+ghost use Rattle.elementary_subgroups.specs.Subgroups.{IsConjugate, IsMaximalElementary};
+ghost use Rattle.elementary_subgroups.specs.Subgroups.{IsMaximalElementaryList, IsOnlyConjugate};
 
 /// Each maximal elementary abelian subgroup is conjugate to exactly one of the list.
 pub fn each_class_is_listed_once()

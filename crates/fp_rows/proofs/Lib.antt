@@ -8,3 +8,6 @@ pub mod SolvingLemmas
 pub mod TableLemmas
 mod PivotSearch
 pub mod Turns
+pub mod ReducedRowLemmas
+pub mod ShortLemmas
+pub mod PartLemmas

@@ -1,6 +1,8 @@
 -- Lists of rows as lists of lists, and the pivots kept beside them.
-use Rattle.std.proofs.Common.{reverse, ◌++◌, suc, ◌≡◌, ℕ, ◌-◌, ◌<◌, List, [], ◌∷◌, length, map, take, drop, set, get_or, arith, ap, sym, ◌∙◌, refl}
-use Rattle.std.proofs.lemmas.List.{reverse-append, get_or-map, length-map, map-set, map-append, take-map, drop-map, length-drop}
+use Rattle.std.proofs.Common.{reverse, ◌++◌, suc, ◌≡◌, ℕ, ◌-◌, ◌<◌, List, [], ◌∷◌, length, map, take, drop}
+use Rattle.std.proofs.Common.{set, get_or, arith, ap, sym, ◌∙◌, refl}
+use Rattle.std.proofs.lemmas.List.{reverse-append, get_or-map, length-map, map-set, map-append, take-map}
+use Rattle.std.proofs.lemmas.List.{drop-map, length-drop}
 use Rattle.std.proofs.Math.Seq.{take-length}
 use Rattle.std.specs.Prelude.{insert}
 use Rattle.linear_algebra.specs.Rows.{entry, row, pivot, IsRow}

@@ -1,12 +1,16 @@
 -- The elimination of rows from the last to the first.
-use Rattle.std.proofs.Common.{◌≡◌, ◌≢◌, ℕ, zero, suc, ◌+◌, ◌*◌, ◌%◌, ◌-◌, ◌<◌, ◌≤◌, ◌⊎◌, inl, inr, List, [], ◌∷◌, ◌++◌, length, map, set, replicate, reverse, arith, ap, sym, ◌∙◌, refl}
+use Rattle.std.proofs.Common.{◌≡◌, ◌≢◌, ℕ, zero, suc, ◌+◌, ◌*◌, ◌%◌, ◌-◌, ◌<◌, ◌≤◌, ◌⊎◌, inl, inr, List, []}
+use Rattle.std.proofs.Common.{◌∷◌, ◌++◌, length, map, set, replicate, reverse, arith, ap, sym, ◌∙◌, refl}
 use Rattle.std.specs.Prelude.{insert}
 use Rattle.std.proofs.lemmas.Bool.{cases_lt, cases_order, cases_eq}
-use Rattle.std.proofs.lemmas.List.{length_push, length-replicate, get_or-replicate, reverse-append, get_or-set_same, get_or-set_other, get_or-map, get_or_past, length-map}
-use Rattle.std.proofs.lemmas.List.Edits.{length-insert, get_or-insert_below, get_or-insert_at, get_or-insert_above}
+use Rattle.std.proofs.lemmas.List.{length_push, length-replicate, get_or-replicate, reverse-append}
+use Rattle.std.proofs.lemmas.List.{get_or-set_same, get_or-set_other, get_or-map, get_or_past, length-map}
+use Rattle.std.proofs.lemmas.List.Edits.{length-insert, get_or-insert_below, get_or-insert_at}
+use Rattle.std.proofs.lemmas.List.Edits.{get_or-insert_above}
 use Rattle.std.proofs.Math.Nat.{mod-eq_of_lt, mod-lt, zero-mod}
 use Rattle.linear_algebra.specs.Modular.{IsCongruent, IsFieldModulo, sum_below}
-use Rattle.linear_algebra.specs.Rows.{entry, row, pivot, add_multiple, IsRow, IsMatrix, IsEchelon, IsEchelonOf, IsCombination, IsInSpan}
+use Rattle.linear_algebra.specs.Rows.{entry, row, pivot, add_multiple, IsRow, IsMatrix, IsEchelon}
+use Rattle.linear_algebra.specs.Rows.{IsEchelonOf, IsCombination, IsInSpan}
 use Rattle.linear_algebra.specs.Elimination.{AreCleared, IsPrepared, IsPlace}
 use Rattle.linear_algebra.specs.Kernels.{unit_row, IsInKernel, IsKernelOf}
 use Rattle.linear_algebra.specs.Choices.{ArePreimages}
@@ -15,7 +19,8 @@ use Rattle.linear_algebra.proofs.Laws.{kernel_by_count}
 use Rattle.linear_algebra.proofs.PivotLemmas.{before_pivot, pivot_is}
 use Rattle.linear_algebra.proofs.Pivots.{coefficient_at_pivot}
 use Rattle.linear_algebra.proofs.EchelonLists.{HasPivots-from_echelon}
-use Rattle.linear_algebra.proofs.Congruences.{congruent_sym, congruent_trans, congruent_eq, congruent_add, congruent_mul_left, congruent_mod}
+use Rattle.linear_algebra.proofs.Congruences.{congruent_sym, congruent_trans, congruent_eq, congruent_add}
+use Rattle.linear_algebra.proofs.Congruences.{congruent_mul_left, congruent_mod}
 use Rattle.linear_algebra.proofs.Combinations.{same_coefficients}
 use Rattle.linear_algebra.proofs.Reducing.{entry_congruent}
 use Rattle.linear_algebra.proofs.RowLemmas.{entry-add_multiple, length-add_multiple}

@@ -11,3 +11,7 @@ pub mod Iterations
 pub mod Entries
 pub mod Solving
 pub mod Eliminations
+pub mod ReducedRows
+pub mod Refusals
+pub mod Short
+pub mod Parts

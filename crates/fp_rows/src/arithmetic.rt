@@ -1,12 +1,47 @@
-ghost use Rattle.std.specs.Prelude.{◌≡◌, ◌≢◌, ℕ, ◌+◌, ◌*◌, ◌%◌, ◌<◌, ◌≤◌, length, map};
+ghost use Rattle.std.specs.Prelude.{◌≡◌, ◌≢◌, ℕ, ◌+◌, ◌-◌, ◌*◌, ◌%◌, ◌<◌, ◌≤◌, length, map};
 ghost use Rattle.group_table.specs.Prime.{prime_value};
 ghost use Rattle.linear_algebra.specs.Rows.{entry, add_multiple, pivot, IsRow};
 
 use group_table::Prime;
 
-// Adds c times src to dst modulo M, which is known when this is compiled.
+// A number below 2 M modulo M.
+fn reduced<const M: u8>(x: u8) -> u8
+    requires modulus { (0 < M) × (M ≤ 7) }
+    requires below { x < 2 * M }
+    ensures { result ≡ x % M }
+{
+    x.min(x.wrapping_sub(M))
+}
+
+// Adds src to dst modulo M.
 #[tactic(auto, using(linear_algebra::proofs::RowLemmas::is_add_multiple))]
-fn add_times_modulo<const M: u8>(c: u8, dst: &mut [u8], src: &[u8])
+fn add_once<const M: u8>(dst: &mut [u8], src: &[u8])
+    requires modulus { (0 < M) × (M ≤ 7) }
+    requires dst_is { IsRow M (length dst.old) dst.old }
+    requires src_is { IsRow M (length dst.old) src.now }
+    ensures { dst.new ≡ add_multiple M 1 dst.old src.now }
+{
+    for (i, x) in dst.iter_mut().enumerate() {
+        *x = reduced::<M>(*x + src[i]);
+    }
+}
+
+// Subtracts src from dst modulo M.
+#[tactic(auto, using(linear_algebra::proofs::RowLemmas::is_add_multiple))]
+fn subtract_once<const M: u8>(dst: &mut [u8], src: &[u8])
+    requires modulus { (0 < M) × (M ≤ 7) }
+    requires dst_is { IsRow M (length dst.old) dst.old }
+    requires src_is { IsRow M (length dst.old) src.now }
+    ensures { dst.new ≡ add_multiple M (M - 1) dst.old src.now }
+{
+    for (i, x) in dst.iter_mut().enumerate() {
+        *x = reduced::<M>(*x + (M - src[i]));
+    }
+}
+
+// Adds c times src to dst modulo M.
+#[tactic(auto, using(linear_algebra::proofs::RowLemmas::is_add_multiple))]
+fn add_more<const M: u8>(c: u8, dst: &mut [u8], src: &[u8])
     requires modulus { M ≤ 7 }
     requires factor { c < M }
     requires dst_is { IsRow M (length dst.old) dst.old }
@@ -16,6 +51,23 @@ fn add_times_modulo<const M: u8>(c: u8, dst: &mut [u8], src: &[u8])
     for (i, x) in dst.iter_mut().enumerate() {
         let sum = *x + c * src[i];
         *x = sum % M;
+    }
+}
+
+// Adds c times src to dst modulo M, which is known when this is compiled; 1 and -1 without a division.
+fn add_times_modulo<const M: u8>(c: u8, dst: &mut [u8], src: &[u8])
+    requires modulus { M ≤ 7 }
+    requires factor { c < M }
+    requires dst_is { IsRow M (length dst.old) dst.old }
+    requires src_is { IsRow M (length dst.old) src.now }
+    ensures { dst.new ≡ add_multiple M c dst.old src.now }
+{
+    if c == 1 {
+        add_once::<M>(dst, src);
+    } else if c == M - 1 {
+        subtract_once::<M>(dst, src);
+    } else {
+        add_more::<M>(c, dst, src);
     }
 }
 

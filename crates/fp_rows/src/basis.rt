@@ -1,6 +1,7 @@
 ghost use Rattle.std.specs.Prelude.{◌≡◌, ◌↔◌, ℕ, ◌<◌, length, IsTrue};
 ghost use Rattle.group_table.specs.Prime.{prime_value};
-ghost use Rattle.linear_algebra.specs.Rows.{entry, row, pivot, is_pivot, IsRow, IsMatrix, IsEchelon, IsInSpan, IsReduced};
+ghost use Rattle.linear_algebra.specs.Rows.{entry, row, pivot, is_pivot, IsRow, IsMatrix, IsEchelon};
+ghost use Rattle.linear_algebra.specs.Rows.{IsInSpan, IsReduced};
 ghost use Rattle.fp_rows.specs.Refs.{entries_of, modulus_of};
 ghost use Rattle.fp_rows.specs.Iterations.{IsOverRows};
 

@@ -1,6 +1,7 @@
 //! Lists of numbers below 2, packed into words of 64 places.
 
-ghost use Rattle.std.specs.Prelude.{◌≡◌, ◌+◌, ◌-◌, ◌%◌, ◌*◌, ◌<◌, ◌≤◌, ◌^◌, ℕ, length, replicate, slice_range, slice_set, IfOk};
+ghost use Rattle.std.specs.Prelude.{◌≡◌, ◌+◌, ◌-◌, ◌%◌, ◌*◌, ◌<◌, ◌≤◌, ◌^◌, ℕ, length, replicate};
+ghost use Rattle.std.specs.Prelude.{slice_range, slice_set, IfOk};
 ghost use Rattle.linear_algebra.specs.Rows.{entry, add_multiple, pivot};
 ghost use Rattle.fp_rows.specs.Bits.{bits_of};
 ghost use Rattle.std.specs.Int.{bit_at};

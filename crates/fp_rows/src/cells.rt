@@ -1,11 +1,13 @@
 //! Owned lists of small numbers.
 
-ghost use Rattle.std.specs.Prelude.{◌≡◌, ◌≢◌, ◌+◌, ◌-◌, ◌*◌, ◌%◌, ◌<◌, ◌≤◌, ℕ, length, map, replicate, slice_set, IfOk};
+ghost use Rattle.std.specs.Prelude.{◌≡◌, ◌≢◌, ◌+◌, ◌-◌, ◌*◌, ◌%◌, ◌<◌, ◌≤◌, ℕ, length, map, replicate};
+ghost use Rattle.std.specs.Prelude.{slice_set, IfOk};
 ghost use Rattle.group_table.specs.Prime.{prime_value};
 ghost use Rattle.linear_algebra.specs.Rows.{entry, add_multiple, pivot, IsRow};
 ghost use Rattle.fp_rows.specs.Bits.{bits_of};
 ghost use Rattle.fp_rows.specs.Cells.{cells_of, IsPackedFor};
 ghost use Rattle.fp_rows.specs.Numbers.{numbers_of};
+ghost use Rattle.fp_rows.specs.Parts.{GainsPart};
 ghost use Rattle.std.specs.Int.{bit_at};
 
 use crate::arithmetic::{add_times, pivot_of, scale};
@@ -64,8 +66,8 @@ fn add_to_bits(c: u8, b: &mut Bits, r: Numbers<'_>)
     }
 }
 
-// Adds c times the numbers.
-fn add_to_bytes(p: Prime, c: u8, v: &mut [u8], r: Numbers<'_>)
+/// Adds c times the numbers.
+pub(crate) fn add_to_bytes(p: Prime, c: u8, v: &mut [u8], r: Numbers<'_>)
     requires factor { c < prime_value p }
     requires row { IsRow (prime_value p) (length v.old) v.old }
     requires added { IsRow (prime_value p) (length v.old) (numbers_of r) }
@@ -89,6 +91,49 @@ fn add_bits_to_bits(c: u8, b: &mut Bits, s: &Bits)
     if c == 1 {
         b.add_whole(s);
     }
+}
+
+// Adds numbers below 2 from place `at` on, up to 64 at a time.
+fn add_at(b: &mut Bits, at: usize, r: Numbers<'_>)
+    requires below { (j : ℕ) → j < length (numbers_of r) → entry (numbers_of r) j < 2 }
+    requires within { at + length (numbers_of r) ≤ length b.old }
+    ensures { GainsPart 2 at 1 (numbers_of r.entry) b.old b.new }
+{
+    let _len = b.len();
+    let mut done = 0;
+    while done < r.len() {
+        let count = if r.len() - done < 64 {
+            r.len() - done
+        } else {
+            64
+        };
+        b.add_word(at + done, count, r.word(done, count));
+        done += count;
+    }
+}
+
+// Adds c times numbers below 2 from place `at` on.
+fn add_part_to_bits(c: u8, b: &mut Bits, at: usize, r: Numbers<'_>)
+    requires factor { c < 2 }
+    requires below { (j : ℕ) → j < length (numbers_of r) → entry (numbers_of r) j < 2 }
+    requires within { at + length (numbers_of r) ≤ length b.old }
+    ensures { GainsPart 2 at c (numbers_of r.entry) b.old b.new }
+{
+    let _len = b.len();
+    if c == 1 {
+        add_at(b, at, r);
+    }
+}
+
+// Adds c times the numbers from place `at` on.
+fn add_part_to_bytes(p: Prime, c: u8, v: &mut [u8], at: usize, r: Numbers<'_>)
+    requires factor { c < prime_value p }
+    requires row { IsRow (prime_value p) (length v.old) v.old }
+    requires added { IsRow (prime_value p) (length (numbers_of r)) (numbers_of r) }
+    requires within { at + length (numbers_of r) ≤ length v.old }
+    ensures { GainsPart (prime_value p) at c (numbers_of r.entry) v.old v.new }
+{
+    add_to_bytes(p, c, &mut v[at..at + r.len()], r);
 }
 
 // The numbers of a borrowed list of numbers below 2, packed.
@@ -247,6 +292,23 @@ impl Cells {
                 Cells::Bits(s) => add_bits_to_bits(c, b, s),
                 Cells::Bytes(s) => add_to_bits(c, b, Numbers::Bytes(s)),
             },
+        }
+    }
+
+    /// Adds c times the numbers from place `at` on.
+    pub(crate) fn add_part(&mut self, p: Prime, at: usize, c: u8, r: Numbers<'_>)
+        requires factor { c < prime_value p }
+        requires packed { IsPackedFor (prime_value p) self.old }
+        requires row { IsRow (prime_value p) (length (cells_of self.old)) (cells_of self.old) }
+        requires added { IsRow (prime_value p) (length (numbers_of r)) (numbers_of r) }
+        requires within { at + length (numbers_of r) ≤ length (cells_of self.old) }
+        ensures gains { GainsPart (prime_value p) at c (numbers_of r.entry) (cells_of self.old)
+            (cells_of self.new) }
+        ensures packed { IsPackedFor (prime_value p) self.new }
+    {
+        match self {
+            Cells::Bytes(v) => add_part_to_bytes(p, c, v, at, r),
+            Cells::Bits(b) => add_part_to_bits(c, b, at, r),
         }
     }
 

@@ -1,6 +1,8 @@
-ghost use Rattle.std.specs.Prelude.{◌≡◌, ℕ, ◌+◌, ◌<◌, ◌≤◌, ◌++◌, ◌∷◌, [], length, IfOk, OnOk, IsTrue, false, slice_index, map};
+ghost use Rattle.std.specs.Prelude.{◌≡◌, ℕ, ◌+◌, ◌<◌, ◌≤◌, ◌++◌, ◌∷◌, [], length, IfOk, OnOk, IsTrue, false};
+ghost use Rattle.std.specs.Prelude.{slice_index, map};
 ghost use Rattle.group_table.specs.Prime.{prime_value};
-ghost use Rattle.linear_algebra.specs.Rows.{entry, row, pivot, IsRow, IsMatrix, IsEchelon, IsEchelonOf, IsInSpan, IsReduced};
+ghost use Rattle.linear_algebra.specs.Rows.{entry, row, pivot, IsRow, IsMatrix, IsEchelon, IsEchelonOf};
+ghost use Rattle.linear_algebra.specs.Rows.{IsInSpan, IsReduced};
 ghost use Rattle.linear_algebra.specs.Elimination.{IsCleared, AreCleared, IsPrepared, IsPlace};
 ghost use Rattle.fp_rows.specs.Lists.{lists, AreOver};
 

@@ -1,6 +1,7 @@
 ghost use Rattle.std.specs.Prelude.{◌≡◌, ℕ, List, suc, ◌+◌, ◌<◌, ◌≤◌, length, IfOk, OnOk, map};
 ghost use Rattle.group_table.specs.Prime.{prime_value};
-ghost use Rattle.linear_algebra.specs.Rows.{entry, row, pivot, IsRow, IsMatrix, IsEchelon, IsEchelonOf, IsReduced, IsCombination};
+ghost use Rattle.linear_algebra.specs.Rows.{entry, row, pivot, IsRow, IsMatrix, IsEchelon, IsEchelonOf};
+ghost use Rattle.linear_algebra.specs.Rows.{IsReduced, IsCombination};
 ghost use Rattle.linear_algebra.specs.Elimination.{AreCleared, IsPrepared, IsPlace};
 ghost use Rattle.linear_algebra.specs.Kernels.{unit_row, IsKernelOf};
 ghost use Rattle.linear_algebra.specs.Choices.{ArePreimages};

@@ -1,7 +1,8 @@
 ghost use Rattle.std.specs.Prelude.{◌≡◌, ◌↔◌, ℕ, ◌<◌, length, map, IsTrue};
 ghost use Rattle.group_table.specs.Prime.{prime_value};
 ghost use Rattle.linear_algebra.specs.Modular.{IsCongruent};
-ghost use Rattle.linear_algebra.specs.Rows.{entry, row, pivot, combination, IsRow, IsMatrix, IsEchelon, IsInSpan};
+ghost use Rattle.linear_algebra.specs.Rows.{entry, row, pivot, combination, IsRow, IsMatrix, IsEchelon};
+ghost use Rattle.linear_algebra.specs.Rows.{IsInSpan};
 ghost use Rattle.fp_rows.specs.Lists.{lists};
 ghost use Rattle.fp_rows.specs.Refs.{entries_of, modulus_of};
 

@@ -1,6 +1,8 @@
-ghost use Rattle.std.specs.Prelude.{◌≡◌, ◌+◌, ◌<◌, ◌≤◌, ℕ, length};
+ghost use Rattle.std.specs.Prelude.{◌≡◌, ◌↔◌, ◌+◌, ◌<◌, ◌≤◌, ℕ, length, IsTrue};
 ghost use Rattle.std.specs.Int.{bit_at};
 ghost use Rattle.linear_algebra.specs.Rows.{entry};
+ghost use Rattle.fp_rows.specs.Bits.{bits_of};
+ghost use Rattle.fp_rows.specs.Parts.{IsZero};
 
 use crate::bits_ref::BitsRef;
 
@@ -28,11 +30,31 @@ fn word_of_bytes(s: &[u8], from: usize, len: usize) -> u64
     x
 }
 
+// Whether each number is 0, up to 64 at a time.
+fn are_zero(b: BitsRef<'_>) -> bool
+    ensures { IsTrue result ↔ IsZero (bits_of b.entry) }
+{
+    let mut done = 0;
+    while done < b.len() {
+        let count = if b.len() - done < 64 {
+            b.len() - done
+        } else {
+            64
+        };
+        if b.word(done, count) != 0 {
+            return false;
+        }
+        done += count;
+    }
+    true
+}
+
 impl<'a> Numbers<'a> {
-    ghost use Rattle.std.specs.Prelude.{◌≡◌, ◌+◌, ◌<◌, ◌≤◌, ℕ, length, slice_range};
+    ghost use Rattle.std.specs.Prelude.{◌≡◌, ◌↔◌, ◌+◌, ◌<◌, ◌≤◌, ℕ, length, slice_range, IsTrue};
     ghost use Rattle.std.specs.Int.{bit_at};
     ghost use Rattle.linear_algebra.specs.Rows.{entry};
     ghost use Rattle.fp_rows.specs.Numbers.{numbers_of};
+    ghost use Rattle.fp_rows.specs.Parts.{IsZero};
 
     pub(crate) fn len(&self) -> usize
         ensures { result ≡ length (numbers_of self.now) }
@@ -75,6 +97,16 @@ impl<'a> Numbers<'a> {
         match self {
             Numbers::Bytes(s) => word_of_bytes(s, from, len),
             Numbers::Bits(b) => b.word(from, len),
+        }
+    }
+
+    /// Whether each number is 0.
+    pub(crate) fn is_zero(&self) -> bool
+        ensures { IsTrue result ↔ IsZero (numbers_of self.now) }
+    {
+        match self {
+            Numbers::Bytes(s) => s.iter().all(|x| *x == 0),
+            Numbers::Bits(b) => are_zero(*b),
         }
     }
 }

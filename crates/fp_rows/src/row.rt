@@ -1,9 +1,11 @@
-ghost use Rattle.std.specs.Prelude.{◌≡◌, ◌≢◌, ℕ, ◌+◌, ◌-◌, ◌*◌, ◌%◌, ◌<◌, ◌≤◌, length, map, IfOk, replicate, slice_set};
+ghost use Rattle.std.specs.Prelude.{◌≡◌, ◌≢◌, ℕ, ◌+◌, ◌-◌, ◌*◌, ◌%◌, ◌<◌, ◌≤◌, length, map, IfOk, replicate};
+ghost use Rattle.std.specs.Prelude.{slice_set};
 ghost use Rattle.group_table.specs.Prime.{prime_value};
 ghost use Rattle.linear_algebra.specs.Rows.{entry, add_multiple, pivot, IsRow};
 ghost use Rattle.linear_algebra.specs.Kernels.{unit_row};
 ghost use Rattle.fp_rows.specs.Refs.{entries_of, modulus_of};
 ghost use Rattle.fp_rows.specs.Entries.{entries_left};
+ghost use Rattle.fp_rows.specs.Parts.{GainsPart};
 ghost use Rattle.std.specs.Int.{bit_at};
 
 use crate::cells::Cells;
@@ -164,6 +166,17 @@ impl Row {
         ensures after { (j : ℕ) → at + len ≤ j → entry self.new.entries j ≡ entry self.old.entries j }
     {
         self.cells.add_word(at, len, x);
+    }
+
+    /// Adds c times a row over the same prime to the numbers from place `at` on, where c is below p.
+    pub fn add_part(&mut self, at: usize, c: u8, r: RowRef<'_>)
+        requires factor { c < self.old.p }
+        requires same_prime { modulus_of r ≡ self.old.p }
+        requires within { at + length (entries_of r) ≤ length self.old.entries }
+        ensures prime { self.new.p ≡ self.old.p }
+        ensures gains { GainsPart self.old.p at c (entries_of r.entry) self.old.entries self.new.entries }
+    {
+        self.cells.add_part(self.prime, at, c, r.entries);
     }
 
     /// The numbers, one after the other.

@@ -19,12 +19,13 @@ pub struct RowRef<'a> {
 }
 
 impl<'a> RowRef<'a> {
-    ghost use Rattle.std.specs.Prelude.{◌≡◌, ℕ, ◌+◌, ◌%◌, ◌<◌, ◌≤◌, length, slice_range};
+    ghost use Rattle.std.specs.Prelude.{◌≡◌, ◌↔◌, ℕ, ◌+◌, ◌%◌, ◌<◌, ◌≤◌, length, slice_range, IsTrue};
     ghost use Rattle.group_table.specs.Prime.{prime_value};
     ghost use Rattle.linear_algebra.specs.Modular.{sum_below};
     ghost use Rattle.linear_algebra.specs.Rows.{entry, pairing, IsRow};
     ghost use Rattle.fp_rows.specs.Numbers.{numbers_of};
     ghost use Rattle.fp_rows.specs.Refs.{entries_of, modulus_of};
+    ghost use Rattle.fp_rows.specs.Parts.{IsZero};
     ghost use Rattle.fp_rows.specs.Entries.{entries_left};
     ghost use Rattle.std.specs.Int.{bit_at};
 
@@ -76,6 +77,13 @@ impl<'a> RowRef<'a> {
         ensures rest { (b : ℕ) → b < 64 → len ≤ b → bit_at result b ≡ 0 }
     {
         self.entries.word(from, len)
+    }
+
+    /// Whether each number is 0.
+    pub fn is_zero(&self) -> bool
+        ensures { IsTrue result ↔ IsZero (entries_of self.now) }
+    {
+        self.entries.is_zero()
     }
 
     /// The sum of the products of its numbers and the numbers of the other row at their places, modulo p.

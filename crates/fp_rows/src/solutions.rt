@@ -40,6 +40,34 @@ fn preimage_of(
     Ok(u)
 }
 
+// For each target row, which is in the span, the preimage that is 0 at the kernel's pivots.
+fn preimages_by(
+    alloc: Global,
+    m: &Matrix,
+    s: &Solution,
+    targets: &Echelon,
+) -> Result<Matrix, Memory>
+    requires primes { (s.now.image.p ≡ m.now.p) × (s.now.preimages.p ≡ m.now.p) × (targets.now.p ≡ m.now.p) }
+    requires widths { (s.now.image.width ≡ m.now.width) × (s.now.preimages.width ≡ length m.now.rows)
+        × (targets.now.width ≡ m.now.width) }
+    requires image { IsEchelonOf m.now.p m.now.width m.now.rows s.now.image.rows }
+    requires preimages { ArePreimages m.now.p m.now.rows s.now.kernel.rows s.now.image.rows
+        s.now.preimages.rows }
+    requires in_span { AreInSpan m.now.p m.now.rows targets.now.rows }
+    ensures prime { IfOk result (λ u. u.p ≡ m.now.p) }
+    ensures width { IfOk result (λ u. u.width ≡ length m.now.rows) }
+    ensures rows { IfOk result
+        (λ u. ArePreimages m.now.p m.now.rows s.now.kernel.rows targets.now.rows u.rows) }
+{
+    let n = m.rows();
+    let mut rows = Matrix::new(alloc, m.prime(), n);
+    for i in 0..targets.rows() {
+        let u = preimage_of(alloc, m.prime(), n, s, targets.row(i))?;
+        rows.push(u.view())?;
+    }
+    Ok(rows)
+}
+
 /// For each target row the one u with u·m equal to it that is 0 at the pivots of `free`, which is the kernel
 /// of m.
 pub fn preimages(
@@ -57,12 +85,36 @@ pub fn preimages(
     ensures rows { IfOk result (λ u. ArePreimages m.now.p m.now.rows free.now.rows targets.now.rows u.rows) }
 {
     let _free = free.rows();
-    let n = m.rows();
+    let _prime = m.prime();
     let s = solve(alloc, m)?;
-    let mut rows = Matrix::new(alloc, m.prime(), n);
-    for i in 0..targets.rows() {
-        let u = preimage_of(alloc, m.prime(), n, &s, targets.row(i))?;
-        rows.push(u.view())?;
-    }
+    let rows = preimages_by(alloc, m, &s, targets)?;
     Ok(rows)
+}
+
+/// The kernel of m, and the preimages of targets in the span, by one elimination.
+#[derive(Drop)]
+pub struct Solved {
+    pub kernel: Echelon,
+    pub preimages: Matrix,
+}
+
+/// The kernel of m, and for each target row the one u with u·m equal to it that is 0 at the pivots of the
+/// kernel.
+pub fn kernel_and_preimages(alloc: Global, m: &Matrix, targets: &Echelon) -> Result<Solved, Memory>
+    requires same_prime { targets.now.p ≡ m.now.p }
+    requires same_width { targets.now.width ≡ m.now.width }
+    requires in_span { AreInSpan m.now.p m.now.rows targets.now.rows }
+    ensures primes { IfOk result (λ s. (s.kernel.p ≡ m.now.p) × (s.preimages.p ≡ m.now.p)) }
+    ensures widths { IfOk result (λ s. (s.kernel.width ≡ length m.now.rows)
+        × (s.preimages.width ≡ length m.now.rows)) }
+    ensures kernel { IfOk result (λ s. IsKernelOf m.now.p m.now.rows s.kernel.rows) }
+    ensures preimages { IfOk result (λ s. ArePreimages m.now.p m.now.rows s.kernel.rows targets.now.rows
+        s.preimages.rows) }
+{
+    let s = solve(alloc, m)?;
+    let preimages = preimages_by(alloc, m, &s, targets)?;
+    Ok(Solved {
+        kernel: s.kernel,
+        preimages,
+    })
 }

@@ -210,3 +210,51 @@ fn takes_rows_outside_the_span(rt: HostRuntime) -> Result<(), Fail> {
     assert_eq!(rt; positions.get(0), 0);
     Ok(())
 }
+
+/// The first bad row of a matrix, and none where its rows are a reduced row echelon list.
+fn bad_row(
+    rt: &impl Abort,
+    alloc: Global,
+    p: Prime,
+    width: usize,
+    entries: &[u8],
+) -> Result<Option<usize>, Memory> {
+    match Echelon::from_rows(alloc, matrix_of(rt, alloc, p, width, entries)?) {
+        Ok(_) => Ok(None),
+        Err(FromRows::Not { row, matrix: _ }) => Ok(Some(row)),
+        Err(FromRows::Memory { matrix: _ }) => Err(Memory),
+    }
+}
+
+#[test]
+fn names_the_first_bad_row(rt: HostRuntime) -> Result<(), Fail> {
+    for (p, width, entries, row) in [
+        (Prime::P2, 2, [1, 1, 0, 1].as_slice(), Some(0)),
+        (Prime::P2, 3, [1, 0, 1, 0, 1, 1].as_slice(), None),
+        (Prime::P2, 2, [1, 0, 0, 0].as_slice(), Some(1)),
+        (Prime::P3, 2, [1, 0, 0, 2].as_slice(), Some(1)),
+        (Prime::P3, 2, [0, 1, 1, 0].as_slice(), Some(1)),
+        (Prime::P3, 3, [1, 0, 2, 0, 1, 1].as_slice(), None),
+        (
+            Prime::P3,
+            3,
+            [1, 0, 0, 0, 1, 1, 0, 0, 1].as_slice(),
+            Some(1),
+        ),
+    ] {
+        assert_eq!(rt;
+            bad_row(&rt, rt.alloc(), p, width, entries)?,
+            row,
+            "{entries:?}"
+        );
+    }
+    Ok(())
+}
+
+#[test]
+fn shows_bytes_as_a_row(rt: HostRuntime) {
+    let bytes = [0, 2, 1];
+    let row = RowRef::of_bytes(Prime::P3, &bytes);
+    assert!(rt; shows(row, &[0, 2, 1]));
+    assert_eq!(rt; row.pairing(row), 2);
+}

@@ -1,5 +1,7 @@
 -- The number of monomials, a generator at a time.
-use Rattle.std.proofs.Common.{◌≡◌, ℕ, zero, suc, ◌+◌, ◌-◌, ◌*◌, ◌^◌, ◌<◌, ◌≤◌, min, true, false, cond, leb, List, [], ◌∷◌, map, length, drop, get_or, ◌⊎◌, inl, inr, arith, ap, sym, subst, ◌∙◌, refl, length-append}
+use Rattle.std.proofs.Common.{◌≡◌, ℕ, zero, suc, ◌+◌, ◌-◌, ◌*◌, ◌^◌, ◌<◌, ◌≤◌, min, true, false, cond, leb}
+use Rattle.std.proofs.Common.{List, [], ◌∷◌, map, length, drop, get_or, ◌⊎◌, inl, inr, arith, ap, sym, subst}
+use Rattle.std.proofs.Common.{◌∙◌, refl, length-append}
 use Rattle.std.specs.List.{AllByRecursion as Each}
 use Rattle.std.proofs.Math.Nat.{mul-le-mul_left}
 use Rattle.std.proofs.lemmas.Bool.{cases_lt}

@@ -1,5 +1,7 @@
 -- Finding a monomial in a descending list.
-use Rattle.std.proofs.Common.{◌≡◌, ℕ, zero, suc, true, false, List, [], ◌∷◌, position, slice_get, Some, None, Option, IsNone, IfSome, is_some, All, Contains, nat_eq, get_or, ◌⊎◌, inl, inr, arith, ap, sym, ◌∙◌, refl}
+use Rattle.std.proofs.Common.{◌≡◌, ℕ, zero, suc, true, false, List, [], ◌∷◌, position, slice_get, Some, None}
+use Rattle.std.proofs.Common.{Option, IsNone, IfSome, is_some, All, Contains, nat_eq, get_or, ◌⊎◌, inl, inr}
+use Rattle.std.proofs.Common.{arith, ap, sym, ◌∙◌, refl}
 use Rattle.std.specs.Cmp.Lexicographic.{pointwise, bytes_decides}
 use Rattle.std.specs.List.{list_any}
 use Rattle.std.proofs.lemmas.Bool.{cases_Bool, false≢true}

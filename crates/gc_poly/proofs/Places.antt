@@ -1,5 +1,6 @@
 -- A term put into descending terms, changed or taken out.
-use Rattle.std.proofs.Common.{◌≡◌, ◌≢◌, ℕ, zero, suc, ◌+◌, ◌%◌, ◌<◌, ◌≤◌, List, [], ◌∷◌, ◌++◌, true, false, cond, ◌⊎◌, inl, inr, arith, sym, ◌∙◌, refl}
+use Rattle.std.proofs.Common.{◌≡◌, ◌≢◌, ℕ, zero, suc, ◌+◌, ◌%◌, ◌<◌, ◌≤◌, List, [], ◌∷◌, ◌++◌, true, false}
+use Rattle.std.proofs.Common.{cond, ◌⊎◌, inl, inr, arith, sym, ◌∙◌, refl}
 use Rattle.std.specs.Prelude.{AllPairs}
 use Rattle.std.specs.List.{AllByRecursion as Each}
 use Rattle.std.proofs.lemmas.List.Elements.{All-from_recursion}
@@ -10,7 +11,8 @@ use Rattle.linear_algebra.specs.Modular.{IsCongruent}
 use Rattle.graded_polynomials.specs.Monomials.{IsGreater, IsMonomial, same}
 use Rattle.graded_polynomials.specs.Polynomials.{Term, coefficient, IsSame, IsPolynomial}
 use Rattle.gc_poly.proofs.Edits.{put, change, erase}
-use Rattle.linear_algebra.proofs.Congruences.{congruent_eq, congruent_trans, congruent_add, congruent_refl, congruent_cancel, congruent_mod}
+use Rattle.linear_algebra.proofs.Congruences.{congruent_eq, congruent_trans, congruent_add, congruent_refl}
+use Rattle.linear_algebra.proofs.Congruences.{congruent_cancel, congruent_mod}
 use Rattle.graded_polynomials.proofs.Terms.{coefficient-append, each-map}
 use Rattle.graded_polynomials.proofs.Exponents.{greater-trans}
 use Rattle.graded_polynomials.proofs.Stored.{Descending, descending-from}

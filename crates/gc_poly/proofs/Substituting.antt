@@ -1,9 +1,12 @@
 -- A product depends on the coefficients of its left factor alone, and sums of products a term at a time.
-use Rattle.std.proofs.Common.{◌≡◌, ℕ, zero, suc, ◌+◌, ◌*◌, ◌<◌, ◌≤◌, List, [], ◌∷◌, ◌++◌, length, take, map, All, add-one, append_assoc, arith, ap, sym, subst, ◌∙◌, refl, length-take}
+use Rattle.std.proofs.Common.{◌≡◌, ℕ, zero, suc, ◌+◌, ◌*◌, ◌<◌, ◌≤◌, List, [], ◌∷◌, ◌++◌, length, take, map}
+use Rattle.std.proofs.Common.{All, add-one, append_assoc, arith, ap, sym, subst, ◌∙◌, refl, length-take}
 use Rattle.limits.specs.declared.TheConstants.{GREATEST_DEGREE}
 use Rattle.linear_algebra.specs.Modular.{IsCongruent}
-use Rattle.linear_algebra.proofs.Congruences.{congruent_eq, congruent_trans, congruent_sym, congruent_add, congruent_mul_left, congruent_mod, congruent_refl}
-use Rattle.graded_polynomials.specs.Polynomials.{Term, Polynomial, coefficient, multiple, product, IsSame, scaled}
+use Rattle.linear_algebra.proofs.Congruences.{congruent_eq, congruent_trans, congruent_sym, congruent_add}
+use Rattle.linear_algebra.proofs.Congruences.{congruent_mul_left, congruent_mod, congruent_refl}
+use Rattle.graded_polynomials.specs.Polynomials.{Term, Polynomial, coefficient, multiple, product, IsSame}
+use Rattle.graded_polynomials.specs.Polynomials.{scaled}
 use Rattle.graded_polynomials.proofs.Terms.{coefficient-append, coefficient-scaled, same-trans, same-append}
 use Rattle.std.specs.Prelude.{slice_get, Some}
 use Rattle.std.specs.Option.{option_map}

@@ -1,5 +1,6 @@
 -- The stored list of terms, edited by a call, is the polynomial with a term added.
-use Rattle.std.proofs.Common.{◌≡◌, ◌≢◌, ◌⊎◌, inl, inr, true, false, ◌+◌, ◌%◌, ℕ, zero, suc, ◌<◌, ◌≤◌, List, [], ◌∷◌, ◌++◌, length, arith, ap, sym, ◌∙◌, refl}
+use Rattle.std.proofs.Common.{◌≡◌, ◌≢◌, ◌⊎◌, inl, inr, true, false, ◌+◌, ◌%◌, ℕ, zero, suc, ◌<◌, ◌≤◌, List}
+use Rattle.std.proofs.Common.{[], ◌∷◌, ◌++◌, length, arith, ap, sym, ◌∙◌, refl}
 use Rattle.std.specs.Prelude.{slice_index_or, slice_set, insert, remove}
 use Rattle.graded_polynomials.specs.Polynomials.{Term, IsPolynomial, IsSame, coefficient}
 use Rattle.linear_algebra.specs.Modular.{IsCongruent}

@@ -1,12 +1,15 @@
 -- The pieces of a text, one after another.
-use Rattle.std.proofs.Common.{◌≡◌, ◌≢◌, ℕ, zero, suc, ◌+◌, ◌<◌, ◌≤◌, Bool, true, false, eqb, List, [], ◌∷◌, ◌++◌, map, length, take, get_or, ◌⊎◌, inl, inr, append_assoc, arith, ap, ap₂, sym, ◌∙◌, refl, length-take}
+use Rattle.std.proofs.Common.{◌≡◌, ◌≢◌, ℕ, zero, suc, ◌+◌, ◌<◌, ◌≤◌, Bool, true, false, eqb, List, [], ◌∷◌}
+use Rattle.std.proofs.Common.{◌++◌, map, length, take, get_or, ◌⊎◌, inl, inr, append_assoc, arith, ap, ap₂}
+use Rattle.std.proofs.Common.{sym, ◌∙◌, refl, length-take}
 use Rattle.std.specs.Prelude.{decimal, slice_get, Some}
 use Rattle.std.specs.Option.{option_map}
 use Rattle.std.proofs.lemmas.Bool.{false≢true}
 use Rattle.std.proofs.lemmas.List.{take_more, map-append, append-nil, length-map}
 use Rattle.graded_polynomials.specs.Monomials.{exponent, IsTrimmed, IsWithin}
 use Rattle.graded_polynomials.specs.Polynomials.{Term}
-use Rattle.graded_polynomials.specs.Texts.{joined_by, star, power_text, factor_texts, pieces_text, term_text, plus_sign, polynomial_text}
+use Rattle.graded_polynomials.specs.Texts.{joined_by, star, power_text, factor_texts, pieces_text, term_text}
+use Rattle.graded_polynomials.specs.Texts.{plus_sign, polynomial_text}
 use Rattle.graded_polynomials.proofs.Terms.{eqb-true, eqb-false}
 use Rattle.gc_poly.proofs.SumLemmas.{take-term}
 

@@ -1,6 +1,7 @@
 //! The monomials of a degree: their number and their list.
 
-ghost use Rattle.std.specs.Prelude.{◌≡◌, ℕ, ◌+◌, ◌-◌, ◌^◌, ◌<◌, ◌≤◌, min, List, ◌++◌, map, drop, length, slice_index, IfOk, OnOk, if◌then◌else◌, nat_le};
+ghost use Rattle.std.specs.Prelude.{◌≡◌, ℕ, ◌+◌, ◌-◌, ◌^◌, ◌<◌, ◌≤◌, min, List, ◌++◌, map, drop, length};
+ghost use Rattle.std.specs.Prelude.{slice_index, IfOk, OnOk, if◌then◌else◌, nat_le};
 ghost use Rattle.limits.specs.declared.TheConstants.{GREATEST_COUNT};
 ghost use Rattle.graded_polynomials.specs.Monomials.{is_exterior, IsTrimmed, IsMonomials};
 ghost use Rattle.graded_polynomials.specs.AllMonomials.{all_monomials};

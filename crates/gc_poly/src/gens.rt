@@ -1,6 +1,7 @@
 //! Generators by their degrees.
 
-ghost use Rattle.std.specs.Prelude.{◌≡◌, ◌+◌, ◌∷◌, ◌++◌, ◌<◌, ◌≤◌, [], length, ◌==◌, slice_index, All, OnOk, OnErr};
+ghost use Rattle.std.specs.Prelude.{◌≡◌, ◌+◌, ◌∷◌, ◌++◌, ◌<◌, ◌≤◌, [], length, ◌==◌, slice_index, All, OnOk};
+ghost use Rattle.std.specs.Prelude.{OnErr};
 ghost use Rattle.limits.specs.declared.TheConstants.{GREATEST_DEGREE};
 ghost use Rattle.group_table.specs.Prime.{prime_value};
 ghost use Rattle.graded_polynomials.specs.Texts.{ordinal};

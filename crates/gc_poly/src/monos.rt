@@ -1,6 +1,7 @@
 //! Descending lists of monomials, numbered.
 
-ghost use Rattle.std.specs.Prelude.{◌≡◌, ◌<◌, [], ◌∷◌, ◌++◌, ◌==◌, ◌↔◌, length, All, Contains, OnOk, OnErr, IfSome, IsNone, slice_get, Some};
+ghost use Rattle.std.specs.Prelude.{◌≡◌, ◌<◌, [], ◌∷◌, ◌++◌, ◌==◌, ◌↔◌, length, All, Contains, OnOk, OnErr};
+ghost use Rattle.std.specs.Prelude.{IfSome, IsNone, slice_get, Some};
 ghost use Rattle.graded_polynomials.specs.Monomials.{IsGreater};
 
 use crate::Mono;

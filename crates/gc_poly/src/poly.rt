@@ -1,6 +1,7 @@
 //! Polynomials, made a term at a time.
 
-ghost use Rattle.std.specs.Prelude.{◌≡◌, ◌+◌, ◌<◌, ◌≤◌, [], ◌∷◌, ◌++◌, length, All, IfOk, OnOk, OnErr, IfSome, IsNone, ◌↔◌, ◌==◌, slice_get, Some, option_map};
+ghost use Rattle.std.specs.Prelude.{◌≡◌, ◌+◌, ◌<◌, ◌≤◌, [], ◌∷◌, ◌++◌, length, All, IfOk, OnOk, OnErr};
+ghost use Rattle.std.specs.Prelude.{IfSome, IsNone, ◌↔◌, ◌==◌, slice_get, Some, option_map};
 
 use crate::sums::{add_at, find};
 use crate::term::Term;

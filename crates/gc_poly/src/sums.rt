@@ -1,6 +1,7 @@
 //! Sums of polynomials.
 
-ghost use Rattle.std.specs.Prelude.{◌≡◌, ◌≢◌, ℕ, suc, ◌+◌, ◌-◌, ◌%◌, ◌<◌, ◌≤◌, [], ◌∷◌, ◌++◌, length, IfOk, IfErr, OnOk, OnErr, slice_index_or, slice_set, remove};
+ghost use Rattle.std.specs.Prelude.{◌≡◌, ◌≢◌, ℕ, suc, ◌+◌, ◌-◌, ◌%◌, ◌<◌, ◌≤◌, [], ◌∷◌, ◌++◌, length, IfOk};
+ghost use Rattle.std.specs.Prelude.{IfErr, OnOk, OnErr, slice_index_or, slice_set, remove};
 ghost use Rattle.graded_polynomials.specs.Monomials.{IsGreater};
 ghost use Rattle.graded_polynomials.specs.Polynomials as polynomials;
 ghost use Rattle.graded_polynomials.specs.Polynomials.{scaled};

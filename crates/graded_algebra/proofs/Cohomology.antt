@@ -2,7 +2,8 @@
 use Rattle.std.proofs.Common.{◌≡◌, ℕ, zero, suc, ◌+◌, List, [], ◌∷◌, ◌++◌, sym, refl}
 use Rattle.graded_polynomials.specs.Monomials.{IsMonomial}
 use Rattle.graded_polynomials.specs.Polynomials.{Term, Polynomial, IsOver, multiple, product}
-use Rattle.graded_algebra.specs.Algebras.{Algebra, Generator, degrees, evaluate, value, times, IsGradedCommutative}
+use Rattle.graded_algebra.specs.Algebras.{Algebra, Generator, degrees, evaluate, value, times}
+use Rattle.graded_algebra.specs.Algebras.{IsGradedCommutative}
 use Rattle.graded_algebra.specs.Claims.{PresentationClaims, CochainClaims}
 use Rattle.graded_algebra.proofs.Evaluation.{evaluate-in}
 use Rattle.graded_polynomials.proofs.Terms.{each-append}

@@ -1,12 +1,14 @@
 -- Standard monomials are closed under division.
-use Rattle.std.proofs.Common.{◌≡◌, ◌≢◌, ℕ, suc, ◌+◌, ◌*◌, ◌%◌, List, [], ◌∷◌, true, false, cond, eqb, ◌⊎◌, inl, inr, arith, ap, sym, ◌∙◌, refl}
+use Rattle.std.proofs.Common.{◌≡◌, ◌≢◌, ℕ, suc, ◌+◌, ◌*◌, ◌%◌, List, [], ◌∷◌, true, false, cond, eqb, ◌⊎◌}
+use Rattle.std.proofs.Common.{inl, inr, arith, ap, sym, ◌∙◌, refl}
 use Rattle.std.proofs.lemmas.Bool.{cases_Bool}
 use Rattle.linear_algebra.specs.Modular.{IsCongruent}
 use Rattle.graded_polynomials.specs.Monomials.{IsMonomial, IsGreater, joined, fits, sign, swaps, same}
 use Rattle.graded_polynomials.specs.Polynomials.{Term, coefficient, multiple, IsOver}
 use Rattle.graded_algebra.specs.Algebras.{Algebra, Generator, degrees, evaluate, times, IsGradedCommutative}
 use Rattle.graded_algebra.specs.Presentations.{IsLeading, IsRelation, IsStandard}
-use Rattle.linear_algebra.proofs.Congruences.{congruent_eq, congruent_trans, congruent_mul_left, congruent_add, congruent_refl, congruent_sym, to_congruent}
+use Rattle.linear_algebra.proofs.Congruences.{congruent_eq, congruent_trans, congruent_mul_left}
+use Rattle.linear_algebra.proofs.Congruences.{congruent_add, congruent_refl, congruent_sym, to_congruent}
 use Rattle.std.proofs.Math.Nat.{zero-mod}
 use Rattle.graded_algebra.proofs.Leading.{not-zero}
 use Rattle.graded_polynomials.proofs.Terms.{cases-same, same-self}

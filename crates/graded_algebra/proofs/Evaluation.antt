@@ -1,11 +1,14 @@
 -- Evaluation of monomials is multiplicative.
-use Rattle.std.proofs.Common.{◌≡◌, ℕ, zero, suc, ◌+◌, ◌*◌, ◌%◌, List, [], ◌∷◌, true, false, not, ◌&&◌, ◌||◌, leb, ◌⊎◌, inl, inr, arith, ap, ap₂, sym, ◌∙◌, refl}
+use Rattle.std.proofs.Common.{◌≡◌, ℕ, zero, suc, ◌+◌, ◌*◌, ◌%◌, List, [], ◌∷◌, true, false, not, ◌&&◌, ◌||◌}
+use Rattle.std.proofs.Common.{leb, ◌⊎◌, inl, inr, arith, ap, ap₂, sym, ◌∙◌, refl}
 use Rattle.std.proofs.lemmas.Bool.{cases_Bool}
 use Rattle.linear_algebra.specs.Modular.{IsCongruent}
 use Rattle.linear_algebra.proofs.Congruences.{to_congruent}
 use Rattle.graded_polynomials.specs.Monomials.{degree, fits, is_exterior, joined, swaps, sign}
-use Rattle.graded_algebra.specs.Algebras.{Algebra, Generator, degrees, powers, evaluate_from, evaluate, times, IsGradedCommutative}
-use Rattle.graded_algebra.proofs.Vectors.{times-one, times-times, times-congruent, mul-zero, zero-mul, mul-times, times-mul}
+use Rattle.graded_algebra.specs.Algebras.{Algebra, Generator, degrees, powers, evaluate_from, evaluate, times}
+use Rattle.graded_algebra.specs.Algebras.{IsGradedCommutative}
+use Rattle.graded_algebra.proofs.Vectors.{times-one, times-times, times-congruent, mul-zero, zero-mul}
+use Rattle.graded_algebra.proofs.Vectors.{mul-times, times-mul}
 use Rattle.graded_polynomials.proofs.Monomials.{degree-joined}
 
 -- a product of signs

@@ -1,14 +1,17 @@
 -- The exterior algebra of one generator of degree 1 over F_3 meets the laws, and is presented by that
 -- generator and no relation.
-use Rattle.std.proofs.Common.{◌≡◌, ℕ, zero, suc, ◌+◌, ◌*◌, ◌%◌, ◌≤◌, Bool, true, false, cond, leb, List, [], ◌∷◌, inl, inr, arith, ap, ap₂, sym, ◌∙◌, refl}
+use Rattle.std.proofs.Common.{◌≡◌, ℕ, zero, suc, ◌+◌, ◌*◌, ◌%◌, ◌≤◌, Bool, true, false, cond, leb, List, []}
+use Rattle.std.proofs.Common.{◌∷◌, inl, inr, arith, ap, ap₂, sym, ◌∙◌, refl}
 use Rattle.std.specs.Prelude.{◌<◌, slice_index_or}
 use Rattle.linear_algebra.specs.Modular.{IsCongruent, IsFieldModulo}
 use Rattle.graded_polynomials.specs.Monomials.{is_exterior, sign, IsMonomial, IsMonomials}
 use Rattle.graded_polynomials.specs.Polynomials.{Term, coefficient, IsOver}
 use Rattle.graded_algebra.specs.Algebras.{Generator, degrees, evaluate, value, times}
-use Rattle.graded_algebra.specs.Presentations.{IsGenerators, IsRelations, IsRelation, IsValue, IsStandard, IsLeading}
+use Rattle.graded_algebra.specs.Presentations.{IsGenerators, IsRelations, IsRelation, IsValue, IsStandard}
+use Rattle.graded_algebra.specs.Presentations.{IsLeading}
 use Rattle.graded_algebra.specs.Claims.{PresentationClaims}
-use Rattle.graded_algebra.specs.Vectors.{Vector, GradedAlgebra, IsOfDegree, algebra, basis, unit, residue, Below}
+use Rattle.graded_algebra.specs.Vectors.{Vector, GradedAlgebra, IsOfDegree, algebra, basis, unit, residue}
+use Rattle.graded_algebra.specs.Vectors.{Below}
 use Rattle.linear_algebra.proofs.Fields.{field_of_prime}
 use Rattle.graded_algebra.proofs.VectorLemmas.{times-at, plus-residue}
 use Rattle.graded_algebra.proofs.Presented.{presented-vectors}

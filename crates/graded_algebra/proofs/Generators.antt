@@ -1,20 +1,24 @@
 -- The generators generate, and none of them is superfluous.
-use Rattle.std.proofs.Common.{◌≡◌, ◌≢◌, ℕ, zero, suc, ◌+◌, ◌*◌, ◌%◌, ◌<◌, ◌≤◌, List, [], ◌∷◌, ◌++◌, length, ◌⊎◌, inl, inr, arith, ap, ap₂, sym, ◌∙◌, refl, append_assoc}
+use Rattle.std.proofs.Common.{◌≡◌, ◌≢◌, ℕ, zero, suc, ◌+◌, ◌*◌, ◌%◌, ◌<◌, ◌≤◌, List, [], ◌∷◌, ◌++◌, length}
+use Rattle.std.proofs.Common.{◌⊎◌, inl, inr, arith, ap, ap₂, sym, ◌∙◌, refl, append_assoc}
 use Rattle.std.proofs.lemmas.Bool.{cases_eq}
 use Rattle.std.specs.List.{AllByRecursion as Each}
 use Rattle.linear_algebra.specs.Modular.{IsCongruent, IsFieldModulo}
 use Rattle.graded_polynomials.specs.Monomials.{IsMonomial, exponent}
 use Rattle.graded_polynomials.specs.Polynomials.{Term, scaled, IsOver, IsOneOf}
-use Rattle.graded_algebra.specs.Algebras.{Algebra, Generator, degrees, evaluate, evaluate_from, value, times, IsGradedCommutative}
+use Rattle.graded_algebra.specs.Algebras.{Algebra, Generator, degrees, evaluate, evaluate_from, value, times}
+use Rattle.graded_algebra.specs.Algebras.{IsGradedCommutative}
 use Rattle.graded_algebra.specs.Presentations.{IsValue, IsTaken, IsGenerators, IsCombination, IsBasis}
 use Rattle.linear_algebra.proofs.Congruences.{congruent_trans, congruent_eq}
 use Rattle.graded_algebra.proofs.Leading.{zero-or-not}
 use Rattle.graded_polynomials.proofs.Terms.{each-append, each-map, over-scaled}
-use Rattle.graded_algebra.proofs.Vectors.{zero-add, times-one, times-times, times-congruent, times-add, times-sum, times-multiple}
+use Rattle.graded_algebra.proofs.Vectors.{zero-add, times-one, times-times, times-congruent, times-add}
+use Rattle.graded_algebra.proofs.Vectors.{times-sum, times-multiple}
 use Rattle.graded_algebra.proofs.Values.{linear-append, linear-scaled}
 use Rattle.graded_algebra.proofs.Ideals.{is-one-of-right, is-one-of-left}
 use Rattle.std.proofs.Math.Nat.{zero-mod}
-use Rattle.graded_algebra.proofs.MoreGenerators.{from-more, single, monomial-single, exponent-single, last-case, degrees-append, length-degrees, value-of-more}
+use Rattle.graded_algebra.proofs.MoreGenerators.{from-more, single, monomial-single, exponent-single}
+use Rattle.graded_algebra.proofs.MoreGenerators.{last-case, degrees-append, length-degrees, value-of-more}
 
 module _ (q : ℕ) (V : Type 0) (A : Algebra V) (In : ℕ → V → Type 0) (L : IsGradedCommutative q V A In) where
   -- the new generator is the value of its monomial

@@ -1,15 +1,20 @@
 -- Ideals: closed under sums and multiples, and of value 0 where the relations are.
-use Rattle.std.proofs.Common.{◌≡◌, ℕ, suc, ◌+◌, ◌*◌, List, [], ◌∷◌, ◌++◌, true, false, cond, ◌⊎◌, inl, inr, arith, ap, ap₂, sym, ◌∙◌, refl}
+use Rattle.std.proofs.Common.{◌≡◌, ℕ, suc, ◌+◌, ◌*◌, List, [], ◌∷◌, ◌++◌, true, false, cond, ◌⊎◌, inl, inr}
+use Rattle.std.proofs.Common.{arith, ap, ap₂, sym, ◌∙◌, refl}
 use Rattle.std.proofs.lemmas.Bool.{cases_Bool}
 use Rattle.std.specs.List.{AllByRecursion as Each}
 use Rattle.linear_algebra.specs.Modular.{IsCongruent}
 use Rattle.graded_polynomials.specs.Monomials.{same, joined, swaps, sign, fits, degree}
-use Rattle.graded_polynomials.specs.Polynomials.{Term, coefficient, scaled, multiple, IsSame, IsOver, Multiple, total, IsMultiple, IsInIdeal, Polynomial, IsOneOf}
-use Rattle.graded_algebra.specs.Algebras.{Algebra, Generator, degrees, evaluate, times, value, IsGradedCommutative}
-use Rattle.linear_algebra.proofs.Congruences.{congruent_trans, congruent_eq, congruent_add, to_congruent, congruent_sym}
+use Rattle.graded_polynomials.specs.Polynomials.{Term, coefficient, scaled, multiple, IsSame, IsOver}
+use Rattle.graded_polynomials.specs.Polynomials.{Multiple, total, IsMultiple, IsInIdeal, Polynomial, IsOneOf}
+use Rattle.graded_algebra.specs.Algebras.{Algebra, Generator, degrees, evaluate, times, value}
+use Rattle.graded_algebra.specs.Algebras.{IsGradedCommutative}
+use Rattle.linear_algebra.proofs.Congruences.{congruent_trans, congruent_eq, congruent_add, to_congruent}
+use Rattle.linear_algebra.proofs.Congruences.{congruent_sym}
 use Rattle.graded_algebra.proofs.Vectors.{times-zero, mul-zero}
 use Rattle.graded_algebra.proofs.Values.{linear-append, linear-same, value-multiple}
-use Rattle.graded_polynomials.proofs.Terms.{coefficient-append, coefficient-scaled, same-trans, same-scaled, each-append, each-map}
+use Rattle.graded_polynomials.proofs.Terms.{coefficient-append, coefficient-scaled, same-trans, same-scaled}
+use Rattle.graded_polynomials.proofs.Terms.{each-append, each-map}
 
 pub is-one-of-left : {X : Type 0} (x : X) (xs ys : List X) → IsOneOf x xs → IsOneOf x (xs ++ ys)
 is-one-of-left x [] ys o = elim o [ ]

@@ -3,7 +3,8 @@ use Rattle.std.proofs.Common.{◌≡◌, ◌≢◌, ℕ, zero, suc, ◌+◌, ◌
 use Rattle.std.proofs.lemmas.Bool.{cases_eq}
 use Rattle.std.proofs.Math.Nat.{zero-mod}
 use Rattle.linear_algebra.specs.Modular.{IsCongruent, IsFieldModulo}
-use Rattle.linear_algebra.proofs.Congruences.{congruent_trans, congruent_eq, congruent_add, congruent_refl, congruent_mul_left, to_congruent}
+use Rattle.linear_algebra.proofs.Congruences.{congruent_trans, congruent_eq, congruent_add, congruent_refl}
+use Rattle.linear_algebra.proofs.Congruences.{congruent_mul_left, to_congruent}
 
 pub zero-or-not : (q a : ℕ) → IsCongruent (suc q) a 0 ⊎ (a % suc q ≢ 0)
 zero-or-not q a = go (cases_eq (a % suc q) 0)

@@ -1,17 +1,20 @@
 -- Examples: the multiples of one vector in each degree where `on` holds, and 0 in the other degrees. The
 -- polynomials in one variable of degree 1 over F_2
 -- and the exterior algebra of one generator of degree 1 over F_3 are such, and meet the laws.
-use Rattle.std.proofs.Common.{◌≡◌, ℕ, zero, suc, ◌+◌, ◌*◌, ◌%◌, ◌≤◌, Bool, true, false, cond, eqb, leb, ◌⊎◌, inl, inr, arith, ap, sym, ◌∙◌, refl}
+use Rattle.std.proofs.Common.{◌≡◌, ℕ, zero, suc, ◌+◌, ◌*◌, ◌%◌, ◌≤◌, Bool, true, false, cond, eqb, leb, ◌⊎◌}
+use Rattle.std.proofs.Common.{inl, inr, arith, ap, sym, ◌∙◌, refl}
 use Rattle.std.proofs.Math.Path.{fun_ext}
 use Rattle.std.proofs.lemmas.Bool.{cases_Bool, cases_eq}
 use Rattle.linear_algebra.specs.Modular.{IsCongruent}
 use Rattle.graded_polynomials.specs.Monomials.{is_exterior, sign}
 use Rattle.graded_algebra.specs.Algebras.{Algebra, times, IsGradedCommutative}
 use Rattle.graded_algebra.specs.Vectors.{Below, residue, Vector, unit, vectors, GradedAlgebra}
-use Rattle.linear_algebra.proofs.Congruences.{congruent_mul_left, congruent_mul_right, congruent_mod, congruent_trans, congruent_eq, congruent_sym}
+use Rattle.linear_algebra.proofs.Congruences.{congruent_mul_left, congruent_mul_right, congruent_mod}
+use Rattle.linear_algebra.proofs.Congruences.{congruent_trans, congruent_eq, congruent_sym}
 use Rattle.graded_polynomials.proofs.Terms.{eqb-false, false≢true}
 use Rattle.graded_algebra.proofs.Vectors.{times-zero}
-use Rattle.graded_algebra.proofs.VectorLemmas.{below-path, residue-self, plus-residue, vector-assoc, vector-comm, vector-zero, vector-times-p, vector-space}
+use Rattle.graded_algebra.proofs.VectorLemmas.{below-path, residue-self, plus-residue, vector-assoc}
+use Rattle.graded_algebra.proofs.VectorLemmas.{vector-comm, vector-zero, vector-times-p, vector-space}
 
 module _ (q : ℕ) where
   -- the multiple of the vector with the coefficient c

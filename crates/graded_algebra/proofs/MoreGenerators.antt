@@ -1,7 +1,9 @@
 -- More generators: monomials, values and polynomials where generators are added behind the others.
-use Rattle.std.proofs.Common.{◌≡◌, ℕ, zero, suc, ◌+◌, ◌*◌, ◌<◌, ◌≤◌, List, [], ◌∷◌, ◌++◌, length, Bool, true, false, not, ◌||◌, ◌&&◌, leb, ◌⊎◌, inl, inr, arith, ap, ap₂, sym, ◌∙◌, refl}
+use Rattle.std.proofs.Common.{◌≡◌, ℕ, zero, suc, ◌+◌, ◌*◌, ◌<◌, ◌≤◌, List, [], ◌∷◌, ◌++◌, length, Bool, true}
+use Rattle.std.proofs.Common.{false, not, ◌||◌, ◌&&◌, leb, ◌⊎◌, inl, inr, arith, ap, ap₂, sym, ◌∙◌, refl}
 use Rattle.std.specs.List.{AllByRecursion as Each}
-use Rattle.graded_polynomials.specs.Monomials.{IsMonomial, IsWithin, IsTrimmed, degree, fits, exponent, is_exterior}
+use Rattle.graded_polynomials.specs.Monomials.{IsMonomial, IsWithin, IsTrimmed, degree, fits, exponent}
+use Rattle.graded_polynomials.specs.Monomials.{is_exterior}
 use Rattle.graded_polynomials.specs.Polynomials.{Term, IsOver}
 use Rattle.graded_algebra.specs.Algebras.{Algebra, Generator, degrees, evaluate_from, value, times, powers}
 use Rattle.graded_algebra.specs.Presentations.{IsValue}

@@ -1,5 +1,6 @@
 -- Each value has one normal form.
-use Rattle.std.proofs.Common.{◌≡◌, ℕ, suc, ◌+◌, ◌*◌, ◌<◌, List, [], ◌∷◌, ◌++◌, length, ◌⊎◌, inl, inr, arith, ap, ap₂, sym, ◌∙◌}
+use Rattle.std.proofs.Common.{◌≡◌, ℕ, suc, ◌+◌, ◌*◌, ◌<◌, List, [], ◌∷◌, ◌++◌, length, ◌⊎◌, inl, inr, arith}
+use Rattle.std.proofs.Common.{ap, ap₂, sym, ◌∙◌}
 use Rattle.std.specs.Prelude.{slice_index_or}
 use Rattle.std.specs.List.{AllByRecursion as Each}
 use Rattle.linear_algebra.specs.Modular.{IsCongruent}
@@ -7,7 +8,8 @@ use Rattle.graded_polynomials.specs.Monomials.{IsMonomial, IsMonomials}
 use Rattle.graded_polynomials.specs.Polynomials.{Term, coefficient, scaled}
 use Rattle.graded_algebra.specs.Algebras.{Algebra, Generator, degrees, evaluate, times, IsSpace}
 use Rattle.graded_algebra.specs.Presentations.{IsRelation, IsStandard, IsNormalForm}
-use Rattle.linear_algebra.proofs.Congruences.{congruent_eq, congruent_trans, congruent_sym, congruent_cancel, to_congruent}
+use Rattle.linear_algebra.proofs.Congruences.{congruent_eq, congruent_trans, congruent_sym, congruent_cancel}
+use Rattle.linear_algebra.proofs.Congruences.{to_congruent}
 use Rattle.graded_algebra.proofs.Leading.{LeadsAt, vanishes-below}
 use Rattle.graded_polynomials.proofs.Terms.{each-append, over-scaled, coefficient-append, coefficient-scaled}
 use Rattle.graded_algebra.proofs.Vectors.{add-minus}

@@ -1,18 +1,22 @@
 -- The relations generate the polynomials of value 0.
-use Rattle.std.proofs.Common.{◌≡◌, ◌≢◌, ℕ, zero, suc, ◌+◌, ◌%◌, ◌<◌, ◌≤◌, List, [], ◌∷◌, ◌++◌, length, ◌⊎◌, inl, inr, arith, ap, ap₂, ◌∙◌, refl}
+use Rattle.std.proofs.Common.{◌≡◌, ◌≢◌, ℕ, zero, suc, ◌+◌, ◌%◌, ◌<◌, ◌≤◌, List, [], ◌∷◌, ◌++◌, length, ◌⊎◌}
+use Rattle.std.proofs.Common.{inl, inr, arith, ap, ap₂, ◌∙◌, refl}
 use Rattle.std.specs.Prelude.{slice_index_or}
 use Rattle.std.proofs.lemmas.Bool.{cases_eq}
 use Rattle.linear_algebra.specs.Modular.{IsCongruent, IsFieldModulo}
 use Rattle.graded_polynomials.specs.Monomials.{IsMonomial, IsMonomials}
 use Rattle.graded_polynomials.specs.Polynomials.{Term, Polynomial, scaled, IsOneOf, IsInIdeal}
-use Rattle.graded_algebra.specs.Algebras.{Algebra, Generator, degrees, evaluate, value, times, IsSpace, IsGradedCommutative}
-use Rattle.graded_algebra.specs.Presentations.{IsLeading, IsRelation, IsConsequence, IsStandard, IsRelationAt, IsRelationsFrom, IsRelations}
+use Rattle.graded_algebra.specs.Algebras.{Algebra, Generator, degrees, evaluate, value, times, IsSpace}
+use Rattle.graded_algebra.specs.Algebras.{IsGradedCommutative}
+use Rattle.graded_algebra.specs.Presentations.{IsLeading, IsRelation, IsConsequence, IsStandard, IsRelationAt}
+use Rattle.graded_algebra.specs.Presentations.{IsRelationsFrom, IsRelations}
 use Rattle.linear_algebra.proofs.Congruences.{congruent_eq}
 use Rattle.graded_algebra.proofs.Leading.{LeadsAt, generates, vanishes-below}
 use Rattle.graded_polynomials.proofs.Terms.{each-append, over-scaled, coefficient-append, coefficient-scaled}
 use Rattle.graded_algebra.proofs.Vectors.{times-zero}
 use Rattle.graded_algebra.proofs.Values.{linear-append, linear-scaled}
-use Rattle.graded_algebra.proofs.Ideals.{Vanishes, ideal-vanishes, ideal-zero, ideal-back, ideal-more, ideal-self, is-one-of-left, is-one-of-right, is-one-of-append}
+use Rattle.graded_algebra.proofs.Ideals.{Vanishes, ideal-vanishes, ideal-zero, ideal-back, ideal-more}
+use Rattle.graded_algebra.proofs.Ideals.{ideal-self, is-one-of-left, is-one-of-right, is-one-of-append}
 use Rattle.std.proofs.Math.Nat.{mod-eq_of_lt}
 use Rattle.graded_polynomials.proofs.Order.{greater-self}
 use Rattle.graded_algebra.proofs.Places.{coefficient_at, zero-everywhere, leading-at, at-leading}

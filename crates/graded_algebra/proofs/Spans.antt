@@ -1,16 +1,20 @@
 -- Generators that are chosen by spans are those that are chosen by values of polynomials.
-use Rattle.std.proofs.Common.{◌≡◌, ℕ, zero, suc, ◌+◌, ◌<◌, List, [], ◌∷◌, ◌++◌, length, map, ◌⊎◌, inl, inr, arith, ap, ap₂, sym, ◌∙◌, refl, append_assoc}
+use Rattle.std.proofs.Common.{◌≡◌, ℕ, zero, suc, ◌+◌, ◌<◌, List, [], ◌∷◌, ◌++◌, length, map, ◌⊎◌, inl, inr}
+use Rattle.std.proofs.Common.{arith, ap, ap₂, sym, ◌∙◌, refl, append_assoc}
 use Rattle.std.specs.Prelude.{slice_index_or}
 use Rattle.std.specs.List.{AllByRecursion as Each}
 use Rattle.graded_polynomials.specs.Monomials.{IsMonomial, IsMonomials, IsWithin, exponent}
 use Rattle.graded_polynomials.specs.Polynomials.{Term, IsOver, IsOneOf}
-use Rattle.graded_algebra.specs.Algebras.{Algebra, Generator, degrees, evaluate, value, times, IsGradedCommutative}
-use Rattle.graded_algebra.specs.Presentations.{IsCombination, IsBasis, IsValue, IsTaken, IsGenerators, IsChosen, IsSpanGenerators, generators_of}
+use Rattle.graded_algebra.specs.Algebras.{Algebra, Generator, degrees, evaluate, value, times}
+use Rattle.graded_algebra.specs.Algebras.{IsGradedCommutative}
+use Rattle.graded_algebra.specs.Presentations.{IsCombination, IsBasis, IsValue, IsTaken, IsGenerators}
+use Rattle.graded_algebra.specs.Presentations.{IsChosen, IsSpanGenerators, generators_of}
 use Rattle.graded_algebra.proofs.Vectors.{times-one, times-sum}
 use Rattle.graded_algebra.proofs.Ideals.{is-one-of-right, is-one-of-append}
 use Rattle.graded_polynomials.proofs.Terms.{each-append, each-map}
 use Rattle.graded_algebra.proofs.MoreGenerators.{degrees-append, value-of-more}
-use Rattle.graded_algebra.proofs.Generators.{AllNew, Split, split, value-combination, value-of-new, generators-new, all-new-positive}
+use Rattle.graded_algebra.proofs.Generators.{AllNew, Split, split, value-combination, value-of-new}
+use Rattle.graded_algebra.proofs.Generators.{generators-new, all-new-positive}
 
 module _ (q : ℕ) (V : Type 0) (A : Algebra V) (In : ℕ → V → Type 0) (L : IsGradedCommutative q V A In) where
   combination-zero : (xs : List V) → IsCombination A xs A.zero

@@ -1,11 +1,15 @@
 -- Relations stay what they are where generators of higher degree are added.
-use Rattle.std.proofs.Common.{◌≡◌, ℕ, zero, suc, ◌+◌, ◌*◌, ◌<◌, ◌≤◌, List, [], ◌∷◌, ◌++◌, Bool, cond, ◌⊎◌, inl, inr, arith, ap, ap₂, sym, ◌∙◌, refl}
+use Rattle.std.proofs.Common.{◌≡◌, ℕ, zero, suc, ◌+◌, ◌*◌, ◌<◌, ◌≤◌, List, [], ◌∷◌, ◌++◌, Bool, cond, ◌⊎◌}
+use Rattle.std.proofs.Common.{inl, inr, arith, ap, ap₂, sym, ◌∙◌, refl}
 use Rattle.std.specs.List.{AllByRecursion as Each}
 use Rattle.linear_algebra.specs.Modular.{IsCongruent}
-use Rattle.graded_polynomials.specs.Monomials.{IsMonomial, IsWithin, IsTrimmed, degree, fits, swaps, joined, sign}
-use Rattle.graded_polynomials.specs.Polynomials.{Term, Polynomial, Multiple, coefficient, multiple, total, IsOver, IsOneOf, IsMultiple, IsInIdeal}
+use Rattle.graded_polynomials.specs.Monomials.{IsMonomial, IsWithin, IsTrimmed, degree, fits, swaps, joined}
+use Rattle.graded_polynomials.specs.Monomials.{sign}
+use Rattle.graded_polynomials.specs.Polynomials.{Term, Polynomial, Multiple, coefficient, multiple, total}
+use Rattle.graded_polynomials.specs.Polynomials.{IsOver, IsOneOf, IsMultiple, IsInIdeal}
 use Rattle.graded_algebra.specs.Algebras.{Algebra, Generator, degrees}
-use Rattle.graded_algebra.specs.Presentations.{IsLeading, IsRelation, IsConsequence, IsStandard, IsRelationAt, IsRelationsFrom, IsRelations}
+use Rattle.graded_algebra.specs.Presentations.{IsLeading, IsRelation, IsConsequence, IsStandard, IsRelationAt}
+use Rattle.graded_algebra.specs.Presentations.{IsRelationsFrom, IsRelations}
 use Rattle.graded_polynomials.proofs.Terms.{each-map}
 use Rattle.graded_polynomials.proofs.Monomials.{within-joined}
 use Rattle.graded_polynomials.proofs.MoreGenerators.{fits-more, degree-more, monomial-more}

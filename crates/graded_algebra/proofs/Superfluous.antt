@@ -1,20 +1,26 @@
 -- No relation is in the ideal of the others.
-use Rattle.std.proofs.Common.{◌≡◌, ◌≢◌, ℕ, zero, suc, ◌*◌, ◌<◌, ◌≤◌, List, [], ◌∷◌, ◌++◌, length, true, false, ◌⊎◌, inl, inr, arith, ap, sym, ◌∙◌, refl}
+use Rattle.std.proofs.Common.{◌≡◌, ◌≢◌, ℕ, zero, suc, ◌*◌, ◌<◌, ◌≤◌, List, [], ◌∷◌, ◌++◌, length, true, false}
+use Rattle.std.proofs.Common.{◌⊎◌, inl, inr, arith, ap, sym, ◌∙◌, refl}
 use Rattle.std.specs.Prelude.{slice_index_or}
 use Rattle.std.proofs.lemmas.Bool.{cases_eq, cases_order}
 use Rattle.std.specs.List.{AllByRecursion as Each}
 use Rattle.linear_algebra.specs.Modular.{IsCongruent, IsFieldModulo}
 use Rattle.graded_polynomials.specs.Monomials.{IsMonomial, IsMonomials, same}
-use Rattle.graded_polynomials.specs.Polynomials.{Term, Polynomial, Multiple, coefficient, multiple, total, IsOver, IsOneOf, IsInIdeal, IsMultiple}
+use Rattle.graded_polynomials.specs.Polynomials.{Term, Polynomial, Multiple, coefficient, multiple, total}
+use Rattle.graded_polynomials.specs.Polynomials.{IsOver, IsOneOf, IsInIdeal, IsMultiple}
 use Rattle.graded_algebra.specs.Algebras.{Algebra, Generator, degrees, IsGradedCommutative}
-use Rattle.graded_algebra.specs.Presentations.{IsLeading, IsRelation, IsConsequence, IsStandard, IsRelationAt, IsRelationsFrom, IsRelations}
-use Rattle.linear_algebra.proofs.Congruences.{congruent_eq, congruent_trans, congruent_sym, congruent_add, congruent_mul_left, congruent_refl}
+use Rattle.graded_algebra.specs.Presentations.{IsLeading, IsRelation, IsConsequence, IsStandard, IsRelationAt}
+use Rattle.graded_algebra.specs.Presentations.{IsRelationsFrom, IsRelations}
+use Rattle.linear_algebra.proofs.Congruences.{congruent_eq, congruent_trans, congruent_sym, congruent_add}
+use Rattle.linear_algebra.proofs.Congruences.{congruent_mul_left, congruent_refl}
 use Rattle.graded_algebra.proofs.Leading.{LeadsAt, vanishes-below, not-zero}
 use Rattle.graded_polynomials.proofs.Terms.{coefficient-append, cases-same, same-refl}
 use Rattle.graded_polynomials.proofs.Monomials.{over-total, only-one}
-use Rattle.graded_algebra.proofs.Ideals.{is-one-of-left, is-one-of-right, is-one-of-append, multiple-one, multiple-scaled}
+use Rattle.graded_algebra.proofs.Ideals.{is-one-of-left, is-one-of-right, is-one-of-append, multiple-one}
+use Rattle.graded_algebra.proofs.Ideals.{multiple-scaled}
 use Rattle.graded_algebra.proofs.Places.{coefficient_at, leading-at}
-use Rattle.graded_algebra.proofs.Relations.{Status, status-at, Placed, placed, IsDefining, defining, consequence-relation, one-not-zero, places-apart}
+use Rattle.graded_algebra.proofs.Relations.{Status, status-at, Placed, placed, IsDefining, defining}
+use Rattle.graded_algebra.proofs.Relations.{consequence-relation, one-not-zero, places-apart}
 
 module _ (q : ℕ) (V : Type 0) (A : Algebra V) (In : ℕ → V
     → Type 0) (L : IsGradedCommutative q V A In) (gs : List (Generator V))

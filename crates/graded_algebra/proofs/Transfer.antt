@@ -3,7 +3,8 @@
 use Rattle.std.proofs.Common.{◌≡◌, ℕ, zero, suc, ◌+◌, ◌*◌, List, [], ◌∷◌, arith, subst}
 use Rattle.graded_polynomials.specs.Monomials.{degree}
 use Rattle.graded_polynomials.specs.Polynomials.{Term, IsOver}
-use Rattle.graded_algebra.specs.Algebras.{Algebra, Generator, degrees, powers, evaluate_from, evaluate, value, times}
+use Rattle.graded_algebra.specs.Algebras.{Algebra, Generator, degrees, powers, evaluate_from, evaluate, value}
+use Rattle.graded_algebra.specs.Algebras.{times}
 
 -- Close d u v: u and v, of degree d, differ by a coboundary; k is the cochain of a class
 pub record IsComparison (V W : Type 0) (A : Algebra V) (B : Algebra W) (k : ℕ → V → W) (Close : ℕ → W → W

@@ -1,12 +1,15 @@
 -- Each definition by a relation has one answer.
-use Rattle.std.proofs.Common.{◌≡◌, ◌≢◌, ℕ, zero, suc, ◌+◌, ◌*◌, ◌<◌, List, [], ◌∷◌, ◌++◌, length, true, false, ◌⊎◌, inl, inr, arith, ap, ap₂, sym, ◌∙◌}
+use Rattle.std.proofs.Common.{◌≡◌, ◌≢◌, ℕ, zero, suc, ◌+◌, ◌*◌, ◌<◌, List, [], ◌∷◌, ◌++◌, length, true, false}
+use Rattle.std.proofs.Common.{◌⊎◌, inl, inr, arith, ap, ap₂, sym, ◌∙◌}
 use Rattle.std.specs.Prelude.{slice_index_or}
 use Rattle.linear_algebra.specs.Modular.{IsCongruent}
 use Rattle.graded_polynomials.specs.Monomials.{IsMonomial, IsMonomials, same}
 use Rattle.graded_polynomials.specs.Polynomials.{Term, Polynomial, coefficient, scaled}
 use Rattle.graded_algebra.specs.Algebras.{Algebra, Generator, degrees, IsSpace}
-use Rattle.graded_algebra.specs.Presentations.{IsTaken, IsGenerators, IsRelation, IsStandard, IsRelationAt, IsRelationsFrom, IsRelations}
-use Rattle.linear_algebra.proofs.Congruences.{congruent_eq, congruent_trans, congruent_sym, congruent_add, congruent_mul_left, congruent_cancel, to_congruent}
+use Rattle.graded_algebra.specs.Presentations.{IsTaken, IsGenerators, IsRelation, IsStandard, IsRelationAt}
+use Rattle.graded_algebra.specs.Presentations.{IsRelationsFrom, IsRelations}
+use Rattle.linear_algebra.proofs.Congruences.{congruent_eq, congruent_trans, congruent_sym, congruent_add}
+use Rattle.linear_algebra.proofs.Congruences.{congruent_mul_left, congruent_cancel, to_congruent}
 use Rattle.graded_algebra.proofs.Leading.{LeadsAt, vanishes-below}
 use Rattle.graded_polynomials.proofs.Terms.{cases-same, coefficient-append, coefficient-scaled}
 use Rattle.graded_polynomials.proofs.Stored.{polynomial-unique}

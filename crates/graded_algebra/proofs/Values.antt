@@ -1,14 +1,20 @@
 -- Values of polynomials: the value depends on the coefficients alone, and is linear and multiplicative.
-use Rattle.std.proofs.Common.{◌≡◌, ◌≢◌, ℕ, zero, suc, ◌+◌, ◌*◌, ◌≤◌, List, [], ◌∷◌, ◌++◌, length, true, false, cond, ◌⊎◌, inl, inr, arith, ap, ap₂, sym, ◌∙◌, refl}
+use Rattle.std.proofs.Common.{◌≡◌, ◌≢◌, ℕ, zero, suc, ◌+◌, ◌*◌, ◌≤◌, List, [], ◌∷◌, ◌++◌, length, true, false}
+use Rattle.std.proofs.Common.{cond, ◌⊎◌, inl, inr, arith, ap, ap₂, sym, ◌∙◌, refl}
 use Rattle.std.proofs.lemmas.Bool.{cases_Bool}
 use Rattle.linear_algebra.specs.Modular.{IsCongruent}
 use Rattle.graded_polynomials.specs.Monomials.{same, joined, swaps, sign, fits, degree}
 use Rattle.graded_polynomials.specs.Polynomials.{Term, coefficient, scaled, multiple, IsSame, IsOver, product}
-use Rattle.graded_algebra.specs.Algebras.{Algebra, Generator, degrees, evaluate, times, linear, value, IsSpace, IsGradedCommutative}
-use Rattle.linear_algebra.proofs.Congruences.{congruent_trans, congruent_eq, congruent_add, to_congruent, congruent_refl}
-use Rattle.graded_algebra.proofs.Vectors.{zero-add, times-add, times-zero, times-sum, times-times, times-congruent, equal-from, mul-zero, mul-times, zero-mul, times-mul}
+use Rattle.graded_algebra.specs.Algebras.{Algebra, Generator, degrees, evaluate, times, linear, value}
+use Rattle.graded_algebra.specs.Algebras.{IsSpace, IsGradedCommutative}
+use Rattle.linear_algebra.proofs.Congruences.{congruent_trans, congruent_eq, congruent_add, to_congruent}
+use Rattle.linear_algebra.proofs.Congruences.{congruent_refl}
+use Rattle.graded_algebra.proofs.Vectors.{zero-add, times-add, times-zero, times-sum, times-times}
+use Rattle.graded_algebra.proofs.Vectors.{times-congruent, equal-from, mul-zero, mul-times, zero-mul}
+use Rattle.graded_algebra.proofs.Vectors.{times-mul}
 use Rattle.graded_algebra.proofs.Evaluation.{evaluate-mul, evaluate-unfit}
-use Rattle.graded_polynomials.proofs.Terms.{cases-same, removed, length-removed, coefficient-removed, coefficient-kept, coefficient-append, coefficient-scaled}
+use Rattle.graded_polynomials.proofs.Terms.{cases-same, removed, length-removed, coefficient-removed}
+use Rattle.graded_polynomials.proofs.Terms.{coefficient-kept, coefficient-append, coefficient-scaled}
 
 module _ (q : ℕ) (V : Type 0) (A : Algebra V) (S : IsSpace q V A) where
   pub linear-append : (u : List ℕ → V) (f g : List Term)

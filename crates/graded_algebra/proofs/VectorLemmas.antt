@@ -1,5 +1,6 @@
 -- The units are a basis of the vectors of a degree.
-use Rattle.std.proofs.Common.{◌≡◌, ℕ, zero, suc, ◌+◌, ◌*◌, ◌%◌, ◌<◌, ◌≤◌, cond, eqb, ◌⊎◌, inl, inr, arith, ap, ap₂, sym, ◌∙◌, refl}
+use Rattle.std.proofs.Common.{◌≡◌, ℕ, zero, suc, ◌+◌, ◌*◌, ◌%◌, ◌<◌, ◌≤◌, cond, eqb, ◌⊎◌, inl, inr, arith, ap}
+use Rattle.std.proofs.Common.{ap₂, sym, ◌∙◌, refl}
 use Rattle.std.proofs.Math.Path.{fun_ext}
 use Rattle.std.proofs.Math.Nat.{mod-eq_of_lt, add-mod-mod, mod-add-mod}
 use Rattle.std.proofs.lemmas.Bool.{cases_eq, cases_lt}
@@ -10,7 +11,8 @@ use Rattle.linear_algebra.proofs.Congruences.{congruent_mul_left, congruent_mod,
 use Rattle.graded_polynomials.specs.Polynomials.{IsOneOf}
 use Rattle.graded_algebra.specs.Algebras.{times, IsSpace}
 use Rattle.graded_algebra.specs.Presentations.{IsCombination, IsBasis}
-use Rattle.graded_algebra.specs.Vectors.{Below, residue, Vector, unit, units, vectors, GradedAlgebra, IsOfDegree, algebra, basis}
+use Rattle.graded_algebra.specs.Vectors.{Below, residue, Vector, unit, units, vectors, GradedAlgebra}
+use Rattle.graded_algebra.specs.Vectors.{IsOfDegree, algebra, basis}
 use Rattle.graded_polynomials.proofs.Terms.{eqb-self, eqb-false}
 
 pub below-path : {n : ℕ} (a b : Below n) → a.0 ≡ b.0 → a ≡ b

@@ -5,7 +5,8 @@ use Rattle.std.specs.Prelude.{◌≡◌, ◌≢◌, ℕ, zero, suc, ◌%◌, ◌
 use Rattle.std.specs.List.{AllByRecursion as Each}
 use Rattle.linear_algebra.specs.Modular.{IsCongruent}
 use Rattle.graded_polynomials.specs.Monomials.{IsMonomial, IsMonomials, IsGreater}
-use Rattle.graded_polynomials.specs.Polynomials.{Term, Polynomial, coefficient, IsOver, IsPolynomial, IsInIdeal, IsOneOf}
+use Rattle.graded_polynomials.specs.Polynomials.{Term, Polynomial, coefficient, IsOver, IsPolynomial}
+use Rattle.graded_polynomials.specs.Polynomials.{IsInIdeal, IsOneOf}
 use Rattle.graded_algebra.specs.Algebras.{Algebra, Generator, degrees, evaluate, value, times}
 
 -- v is a sum of multiples of vs

@@ -10,7 +10,8 @@ ghost use Rattle.linear_algebra.specs.Modular.{IsFieldModulo};
 ghost use Rattle.graded_polynomials.specs.Monomials.{fits, joined, IsMonomial, IsMonomials};
 ghost use Rattle.graded_polynomials.specs.Polynomials.{Term, Polynomial};
 ghost use Rattle.graded_algebra.specs.Algebras.{Generator, degrees};
-ghost use Rattle.graded_algebra.specs.Presentations.{IsGenerators, IsSpanGenerators, IsRelations, IsStandard, IsNormalForm};
+ghost use Rattle.graded_algebra.specs.Presentations.{IsGenerators, IsSpanGenerators, IsRelations, IsStandard};
+ghost use Rattle.graded_algebra.specs.Presentations.{IsNormalForm};
 ghost use Rattle.graded_algebra.specs.Vectors.{Vector, vectors, GradedAlgebra, IsOfDegree, algebra, basis};
 ghost use Rattle.graded_algebra.specs.Claims.{PresentationClaims};
 

@@ -1,5 +1,7 @@
 -- The list of all monomials has each monomial of the degree, in descending order.
-use Rattle.std.proofs.Common.{◌≡◌, ◌≢◌, ℕ, zero, suc, ◌+◌, ◌-◌, ◌*◌, ◌<◌, ◌≤◌, Bool, true, false, not, ◌&&◌, ◌||◌, cond, leb, List, [], ◌∷◌, map, ◌⊎◌, inl, inr, arith, sym, subst, ◌∙◌, refl}
+use Rattle.std.proofs.Common.{◌≡◌, ◌≢◌, ℕ, zero, suc, ◌+◌, ◌-◌, ◌*◌, ◌<◌, ◌≤◌, Bool, true, false, not, ◌&&◌}
+use Rattle.std.proofs.Common.{◌||◌, cond, leb, List, [], ◌∷◌, map, ◌⊎◌, inl, inr, arith, sym, subst, ◌∙◌}
+use Rattle.std.proofs.Common.{refl}
 use Rattle.std.specs.List.{AllByRecursion as Each}
 use Rattle.std.proofs.Math.Nat.{mul-le-mul_left}
 use Rattle.std.proofs.lemmas.Bool.{cases_Bool, false≢true}
@@ -9,7 +11,9 @@ use Rattle.graded_polynomials.specs.Monomials.{IsMonomial, IsMonomials, IsGreate
 use Rattle.graded_polynomials.proofs.Terms.{each-append}
 use Rattle.graded_polynomials.proofs.Monomials.{only-one}
 use Rattle.graded_polynomials.specs.AllMonomials.{with_first, all_monomials}
-use Rattle.graded_polynomials.proofs.Ordered.{Ordered, ordered-append, ordered-map, each-mapped, each-true, pairs-of, greater-after, greater-before, Stands, stands-left, stands-right, stands-map}
+use Rattle.graded_polynomials.proofs.Ordered.{Ordered, ordered-append, ordered-map, each-mapped, each-true}
+use Rattle.graded_polynomials.proofs.Ordered.{pairs-of, greater-after, greater-before, Stands, stands-left}
+use Rattle.graded_polynomials.proofs.Ordered.{stands-right, stands-map}
 
 pub leb-of : (x y : ℕ) → x ≤ y → leb x y ≡ true
 leb-of x y l = grind (arith, nat_tests)

@@ -1,5 +1,6 @@
 -- Monomials by their exponents.
-use Rattle.std.proofs.Common.{◌≡◌, ℕ, zero, suc, ◌+◌, ◌<◌, List, [], ◌∷◌, ◌⊎◌, inl, inr, arith, ap, ap₂, sym, ◌∙◌, refl}
+use Rattle.std.proofs.Common.{◌≡◌, ℕ, zero, suc, ◌+◌, ◌<◌, List, [], ◌∷◌, ◌⊎◌, inl, inr, arith, ap, ap₂, sym}
+use Rattle.std.proofs.Common.{◌∙◌, refl}
 use Rattle.std.proofs.lemmas.Bool.{cases_order}
 use Rattle.graded_polynomials.specs.Monomials.{exponent, joined, IsTrimmed, IsGreater}
 

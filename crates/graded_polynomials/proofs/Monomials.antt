@@ -1,9 +1,11 @@
 -- Products of monomials, and the monomial of degree 0.
-use Rattle.std.proofs.Common.{◌≡◌, ℕ, zero, suc, ◌+◌, ◌<◌, List, [], ◌∷◌, true, false, ◌⊎◌, inl, inr, arith, refl}
+use Rattle.std.proofs.Common.{◌≡◌, ℕ, zero, suc, ◌+◌, ◌<◌, List, [], ◌∷◌, true, false, ◌⊎◌, inl, inr, arith}
+use Rattle.std.proofs.Common.{refl}
 use Rattle.std.proofs.lemmas.Bool.{cases_Bool}
 use Rattle.std.specs.List.{AllByRecursion as Each}
 use Rattle.graded_polynomials.specs.Monomials.{joined, fits, degree, IsMonomial, IsWithin, IsTrimmed}
-use Rattle.graded_polynomials.specs.Polynomials.{Term, multiple, IsOver, Multiple, total, IsMultiple, Polynomial, IsOneOf}
+use Rattle.graded_polynomials.specs.Polynomials.{Term, multiple, IsOver, Multiple, total, IsMultiple}
+use Rattle.graded_polynomials.specs.Polynomials.{Polynomial, IsOneOf}
 use Rattle.graded_polynomials.proofs.Terms.{each-append}
 
 -- the degree of a product

@@ -1,5 +1,6 @@
 -- A stored polynomial is determined by its coefficients.
-use Rattle.std.proofs.Common.{◌≡◌, ◌≢◌, ℕ, suc, ◌+◌, ◌<◌, ◌≤◌, List, [], ◌∷◌, true, false, cond, ◌⊎◌, inl, inr, arith, ap, ap₂, sym, ◌∙◌, refl}
+use Rattle.std.proofs.Common.{◌≡◌, ◌≢◌, ℕ, suc, ◌+◌, ◌<◌, ◌≤◌, List, [], ◌∷◌, true, false, cond, ◌⊎◌, inl}
+use Rattle.std.proofs.Common.{inr, arith, ap, ap₂, sym, ◌∙◌, refl}
 use Rattle.std.specs.Prelude.{AllPairs}
 use Rattle.std.specs.List.{AllByRecursion as Each}
 use Rattle.std.proofs.lemmas.List.Elements.{recursion_from_All}

@@ -1,7 +1,8 @@
 -- Monomials of the free graded commutative algebra (Brown, "Cohomology of Groups", V.6) over generators with
 -- the degrees ds, for the prime p = q + 1:
 -- lists of exponents without a zero at the end.
-use Rattle.std.specs.Prelude.{◌≡◌, ◌≢◌, ℕ, ◌+◌, ◌*◌, ◌%◌, ◌<◌, Bool, true, false, cond, not, ◌&&◌, ◌||◌, eqb, leb, List, [], ◌∷◌, length, slice_index_or}
+use Rattle.std.specs.Prelude.{◌≡◌, ◌≢◌, ℕ, ◌+◌, ◌*◌, ◌%◌, ◌<◌, Bool, true, false, cond, not, ◌&&◌, ◌||◌, eqb}
+use Rattle.std.specs.Prelude.{leb, List, [], ◌∷◌, length, slice_index_or}
 
 -- the exponent of generator i, 0 past the end
 abbrev pub exponent : List ℕ → ℕ → ℕ

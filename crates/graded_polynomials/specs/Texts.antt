@@ -1,5 +1,6 @@
 -- The text of a polynomial over generators with the degrees ds.
-use Rattle.std.specs.Prelude.{ℕ, zero, suc, ◌+◌, cond, eqb, List, [], ◌∷◌, ◌++◌, map, get_or, take, decimal, codes, count_by}
+use Rattle.std.specs.Prelude.{ℕ, zero, suc, ◌+◌, cond, eqb, List, [], ◌∷◌, ◌++◌, map, get_or, take, decimal}
+use Rattle.std.specs.Prelude.{codes, count_by}
 use Rattle.graded_polynomials.specs.Polynomials.{Term, product}
 
 -- which one generator i is among those of its degree, from 1

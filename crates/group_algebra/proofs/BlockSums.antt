@@ -1,5 +1,6 @@
 -- The value of a linear map given by rows is the sum of the products of the blocks with the rows.
-use Rattle.std.proofs.Common.{◌≡◌, ℕ, suc, ◌+◌, ◌*◌, ◌<◌, ◌≤◌, ◌⊎◌, List, length, replicate, inl, inr, arith, ap, ap₂, sym, ◌∙◌}
+use Rattle.std.proofs.Common.{◌≡◌, ℕ, suc, ◌+◌, ◌*◌, ◌<◌, ◌≤◌, ◌⊎◌, List, length, replicate, inl, inr, arith}
+use Rattle.std.proofs.Common.{ap, ap₂, sym, ◌∙◌}
 use Rattle.std.proofs.lemmas.Bool.{cases_lt}
 use Rattle.std.proofs.lemmas.List.{get_or_past, ext_get_or}
 use native.Mathlib.Nat.{lt-suc_self}
@@ -18,7 +19,8 @@ use Rattle.radical_layers.specs.LayerBasis.{layer_basis}
 use Rattle.radical_layers.proofs.BasisForm.{list_of, length-list_of, entry-list_of}
 use Rattle.p_groups.specs.PGroups.{PGroup, largest_residue, group}
 use Rattle.p_groups.proofs.Fields.{residues}
-use Rattle.group_algebra.specs.Coordinates.{free_module, layer_coordinates, layers, sizes, table_of, row_of, member, product_with}
+use Rattle.group_algebra.specs.Coordinates.{free_module, layer_coordinates, layers, sizes, table_of, row_of}
+use Rattle.group_algebra.specs.Coordinates.{member, product_with}
 use Rattle.group_algebra.specs.RowMaps.{map_row, IsBlock}
 use Rattle.group_algebra.proofs.ImageLemmas.{zero-row}
 use Rattle.group_algebra.proofs.LayerLaws.{layer_claims}

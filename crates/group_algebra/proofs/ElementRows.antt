@@ -1,5 +1,6 @@
 -- Layer coordinates from sum coordinates and from coefficients, and back.
-use Rattle.std.proofs.Common.{◌≡◌, ◌≢◌, ℕ, suc, ◌+◌, ◌*◌, ◌%◌, ◌<◌, ◌≤◌, ◌⊎◌, true, false, eqb, List, length, replicate, inl, inr, arith, ap, ap₂, sym, ◌∙◌, refl}
+use Rattle.std.proofs.Common.{◌≡◌, ◌≢◌, ℕ, suc, ◌+◌, ◌*◌, ◌%◌, ◌<◌, ◌≤◌, ◌⊎◌, true, false, eqb, List, length}
+use Rattle.std.proofs.Common.{replicate, inl, inr, arith, ap, ap₂, sym, ◌∙◌, refl}
 use Rattle.std.proofs.lemmas.Bool.{cases_lt}
 use Rattle.std.proofs.lemmas.Bool.Decides.{eqb_tells}
 use Rattle.std.proofs.lemmas.List.{get_or_past, get_or-replicate, length-replicate}
@@ -12,7 +13,8 @@ use Rattle.linear_algebra.specs.Rows.{entry, row, IsRow, IsCombination}
 use Rattle.linear_algebra.specs.Choices.{IsPreimage}
 use Rattle.linear_algebra.specs.Kernels.{unit_row}
 use Rattle.linear_algebra.proofs.AugmentLemmas.{entry_unit_same, entry_unit_other}
-use Rattle.linear_algebra.proofs.Congruences.{congruent_trans, congruent_eq, congruent_sym, congruent_mul_right, congruent_mod, same_below}
+use Rattle.linear_algebra.proofs.Congruences.{congruent_trans, congruent_eq, congruent_sym}
+use Rattle.linear_algebra.proofs.Congruences.{congruent_mul_right, congruent_mod, same_below}
 use Rattle.linear_algebra.proofs.Independence.{combine_combinations}
 use Rattle.linear_algebra.proofs.Sums.{sum_below-same, sum_below-congruent}
 use Rattle.radical_layers.proofs.UnitRow.{unit-is-row}
@@ -29,7 +31,8 @@ use Rattle.group_modules.proofs.MapLaws.{terms-sum}
 use Rattle.radical_layers.specs.LayerBasis.{layer_basis}
 use Rattle.p_groups.specs.PGroups.{PGroup, largest_residue, group}
 use Rattle.p_groups.proofs.Fields.{residues, field}
-use Rattle.group_algebra.specs.Coordinates.{layers, layer_coordinates, free_module, row_of, table_of, member, product_with, AreCoefficients}
+use Rattle.group_algebra.specs.Coordinates.{layers, layer_coordinates, free_module, row_of, table_of, member}
+use Rattle.group_algebra.specs.Coordinates.{product_with, AreCoefficients}
 use Rattle.group_algebra.specs.Coefficients.{AreSumCoordinates}
 use Rattle.group_algebra.proofs.Combined.{IsCombined}
 use Rattle.group_algebra.proofs.Members.{residue-row, sum-is, total-sum}

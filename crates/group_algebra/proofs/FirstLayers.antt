@@ -1,5 +1,6 @@
 -- The layer basis, one layer at a time.
-use Rattle.std.proofs.Common.{◌≡◌, ℕ, zero, suc, ◌+◌, ◌<◌, ◌≤◌, ◌⊎◌, List, [], ◌∷◌, ◌++◌, length, get_or, inl, inr, arith, ap, ap₂, sym, ◌∙◌, refl, append_assoc}
+use Rattle.std.proofs.Common.{◌≡◌, ℕ, zero, suc, ◌+◌, ◌<◌, ◌≤◌, ◌⊎◌, List, [], ◌∷◌, ◌++◌, length, get_or, inl}
+use Rattle.std.proofs.Common.{inr, arith, ap, ap₂, sym, ◌∙◌, refl, append_assoc}
 use Rattle.std.proofs.lemmas.Bool.{cases_eq, cases_lt}
 use Rattle.std.proofs.lemmas.List.{get_or_push, get_or_append_left, get_or_past, length_push, append-nil}
 use mathlib.Core.Path.{subst}
@@ -7,7 +8,8 @@ use Rattle.group_table.specs.Tables.{order}
 use Rattle.linear_algebra.specs.Rows.{IsMatrix, IsEchelon}
 use Rattle.linear_algebra.specs.Choices.{rows_at, IsGreedy}
 use Rattle.radical_layers.specs.Layers.{IsPowerList}
-use Rattle.radical_layers.specs.LayerBasis.{AreLayerLists, layers_of, layer_basis, layer_sizes, joined, sizes_from}
+use Rattle.radical_layers.specs.LayerBasis.{AreLayerLists, layers_of, layer_basis, layer_sizes, joined}
+use Rattle.radical_layers.specs.LayerBasis.{sizes_from}
 use Rattle.radical_layers.proofs.LayerForm.{size-at-most}
 use Rattle.radical_layers.proofs.SameDimension.{echelon-independent}
 use Rattle.radical_layers.proofs.LayerLaws.{layer-claims}

@@ -1,11 +1,14 @@
 -- Rows that gain multiples of rows, one at a time.
-use Rattle.std.proofs.Common.{◌≡◌, ◌≢◌, ℕ, ◌+◌, ◌*◌, ◌%◌, ◌<◌, ◌≤◌, ◌⊎◌, List, length, slice_set, inl, inr, arith, ap, sym, ◌∙◌, add-one, get_or-set_same, get_or-set_other, below_more, refl}
+use Rattle.std.proofs.Common.{◌≡◌, ◌≢◌, ℕ, ◌+◌, ◌*◌, ◌%◌, ◌<◌, ◌≤◌, ◌⊎◌, List, length, slice_set, inl, inr}
+use Rattle.std.proofs.Common.{arith, ap, sym, ◌∙◌, add-one, get_or-set_same, get_or-set_other, below_more}
+use Rattle.std.proofs.Common.{refl}
 use Rattle.std.proofs.lemmas.Bool.{cases_eq}
 use Rattle.std.proofs.lemmas.List.{length-set}
 use mathlib.Core.Path.{subst}
 use Rattle.linear_algebra.specs.Modular.{IsCongruent, sum_below}
 use Rattle.linear_algebra.specs.Rows.{entry, add_multiple, IsRow}
-use Rattle.linear_algebra.proofs.Congruences.{congruent_trans, congruent_eq, congruent_add, congruent_mul_right, congruent_mod}
+use Rattle.linear_algebra.proofs.Congruences.{congruent_trans, congruent_eq, congruent_add}
+use Rattle.linear_algebra.proofs.Congruences.{congruent_mul_right, congruent_mod}
 use Rattle.linear_algebra.proofs.Reducing.{entry_congruent}
 use Rattle.radical_layers.specs.Placing.{place_of, size_of}
 use Rattle.group_algebra.specs.Gains.{BlockGains}

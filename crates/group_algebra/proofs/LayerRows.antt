@@ -1,12 +1,14 @@
 -- Layer coordinates: block by block, and under maps of the blocks.
-use Rattle.std.proofs.Common.{◌≡◌, ℕ, zero, suc, ◌+◌, ◌-◌, ◌*◌, ◌<◌, ◌≤◌, ◌⊎◌, List, [], ◌∷◌, length, inl, inr, arith, ap, ap₂, sym, ◌∙◌, refl}
+use Rattle.std.proofs.Common.{◌≡◌, ℕ, zero, suc, ◌+◌, ◌-◌, ◌*◌, ◌<◌, ◌≤◌, ◌⊎◌, List, [], ◌∷◌, length, inl}
+use Rattle.std.proofs.Common.{inr, arith, ap, ap₂, sym, ◌∙◌, refl}
 use Rattle.group_algebra.proofs.PlaceLemmas.{yes, otherwise}
 use Rattle.std.proofs.lemmas.Bool.{cases_lt}
 use mathlib.Core.Path.{subst, fun_ext}
 use Rattle.group_table.specs.Tables.{order}
 use Rattle.linear_algebra.specs.Modular.{IsCongruent, sum_below}
 use Rattle.linear_algebra.specs.Rows.{entry, IsRow, IsCombination}
-use Rattle.linear_algebra.proofs.Congruences.{congruent_trans, congruent_eq, congruent_sym, congruent_add, congruent_mul_left, same_below}
+use Rattle.linear_algebra.proofs.Congruences.{congruent_trans, congruent_eq, congruent_sym, congruent_add}
+use Rattle.linear_algebra.proofs.Congruences.{congruent_mul_left, same_below}
 use Rattle.group_modules.specs.Module.{Module, times, IsAdditive}
 use Rattle.group_modules.proofs.Laws.{map-times}
 use Rattle.group_modules.specs.Field.{Below, residue}
@@ -22,7 +24,8 @@ use Rattle.radical_layers.proofs.Bridge.{at-total, at-times, from-span}
 use Rattle.radical_layers.proofs.LayerForm.{basis-size, size, joined-matrix}
 use Rattle.p_groups.specs.PGroups.{PGroup, largest_residue, group}
 use Rattle.p_groups.proofs.Fields.{field}
-use Rattle.group_algebra.specs.Coordinates.{sum_coordinates, layers, layer_coordinates, free_module, row_of, table_of, sizes, member}
+use Rattle.group_algebra.specs.Coordinates.{sum_coordinates, layers, layer_coordinates, free_module, row_of}
+use Rattle.group_algebra.specs.Coordinates.{table_of, sizes, member}
 use Rattle.group_algebra.proofs.LayerLaws.{layers_are, layer_claims}
 
 -- the places of one block

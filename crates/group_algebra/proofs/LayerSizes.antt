@@ -1,5 +1,6 @@
 -- The sizes of the layers as a list.
-use Rattle.std.proofs.Common.{◌≡◌, ℕ, zero, suc, ◌+◌, ◌*◌, ◌<◌, List, length, slice_index, arith, ap, sym, ◌∙◌, refl}
+use Rattle.std.proofs.Common.{◌≡◌, ℕ, zero, suc, ◌+◌, ◌*◌, ◌<◌, List, length, slice_index, arith, ap, sym}
+use Rattle.std.proofs.Common.{◌∙◌, refl}
 use mathlib.Core.Path.{subst}
 use Rattle.group_table.specs.Tables.{order}
 use Rattle.linear_algebra.specs.Rows.{entry, IsRow}

@@ -13,4 +13,6 @@ pub mod ElementRows
 pub mod TableLemmas
 pub mod ImageLemmas
 pub mod BlockSums
+pub mod LayerPlaces
+pub mod ImageSums
 mod Combined

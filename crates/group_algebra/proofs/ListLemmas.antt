@@ -1,5 +1,6 @@
 -- Lists that a loop makes one member at a time.
-use Rattle.std.proofs.Common.{◌≡◌, ℕ, ◌+◌, ◌<◌, List, [], ◌∷◌, ◌++◌, length, map, take, replicate, slice_set, ap, sym, ◌∙◌, arith, append_assoc, below_more}
+use Rattle.std.proofs.Common.{◌≡◌, ℕ, ◌+◌, ◌<◌, List, [], ◌∷◌, ◌++◌, length, map, take, replicate, slice_set}
+use Rattle.std.proofs.Common.{ap, sym, ◌∙◌, arith, append_assoc, below_more}
 use Rattle.std.proofs.lemmas.List.{take_more, map-append, set-set, set-get_or, get_or-replicate, get_or_push}
 use mathlib.Core.Path.{subst}
 use Rattle.linear_algebra.specs.Rows.{row}

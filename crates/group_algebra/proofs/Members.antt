@@ -1,5 +1,6 @@
 -- Members of the group algebra by their coefficients and by their sum coordinates.
-use Rattle.std.proofs.Common.{◌≡◌, ◌≢◌, ℕ, zero, suc, ◌+◌, ◌-◌, ◌*◌, ◌%◌, ◌<◌, ◌⊎◌, List, length, inl, inr, arith, ap, sym, ◌∙◌}
+use Rattle.std.proofs.Common.{◌≡◌, ◌≢◌, ℕ, zero, suc, ◌+◌, ◌-◌, ◌*◌, ◌%◌, ◌<◌, ◌⊎◌, List, length, inl, inr}
+use Rattle.std.proofs.Common.{arith, ap, sym, ◌∙◌}
 use Rattle.std.proofs.lemmas.Bool.{cases_eq}
 use Rattle.std.proofs.lemmas.Grind.{same_number_lists}
 use Rattle.std.proofs.Math.Nat.{mod-eq_of_lt, add-mod-mod}
@@ -7,7 +8,8 @@ use mathlib.Core.Path.{subst}
 use Rattle.group_table.specs.Tables.{order}
 use Rattle.linear_algebra.specs.Modular.{IsCongruent, sum_below}
 use Rattle.linear_algebra.specs.Rows.{entry, add_multiple, IsRow}
-use Rattle.linear_algebra.proofs.Congruences.{congruent_trans, congruent_eq, congruent_sym, congruent_add, congruent_mod, same_below}
+use Rattle.linear_algebra.proofs.Congruences.{congruent_trans, congruent_eq, congruent_sym, congruent_add}
+use Rattle.linear_algebra.proofs.Congruences.{congruent_mod, same_below}
 use Rattle.linear_algebra.proofs.Reducing.{add_multiple_is_row}
 use Rattle.linear_algebra.proofs.RowLemmas.{entry-add_multiple}
 use Rattle.group_modules.specs.Module.{Module, Monoid, sub}

@@ -1,5 +1,6 @@
 -- The rows that an algebra keeps, one at a time.
-use Rattle.std.proofs.Common.{◌≡◌, ℕ, ◌+◌, ◌*◌, ◌/◌, ◌%◌, ◌<◌, ◌≤◌, ◌⊎◌, List, [], ◌∷◌, ◌++◌, length, replicate, inl, inr, suc, arith, ap, ap₂, ◌-◌, sym, ◌∙◌, refl}
+use Rattle.std.proofs.Common.{◌≡◌, ℕ, ◌+◌, ◌*◌, ◌/◌, ◌%◌, ◌<◌, ◌≤◌, ◌⊎◌, List, [], ◌∷◌, ◌++◌, length}
+use Rattle.std.proofs.Common.{replicate, inl, inr, suc, arith, ap, ap₂, ◌-◌, sym, ◌∙◌, refl}
 use Rattle.std.proofs.lemmas.Bool.{cases_lt}
 use Rattle.std.proofs.lemmas.List.{get_or_push, length_push, length-append, get_or-append-add}
 use Rattle.std.proofs.Math.ListN.{get_or-append}
@@ -17,14 +18,17 @@ use Rattle.radical_layers.proofs.LayerForm.{basis-spans}
 use Rattle.radical_layers.proofs.UnitRow.{unit-is-row}
 use Rattle.p_groups.specs.PGroups.{PGroup, largest_residue, group}
 use Rattle.p_groups.proofs.Fields.{residues, field}
-use Rattle.group_algebra.specs.Coordinates.{sum_coordinates, layers, free_module, row_of, member, AreCoefficients}
+use Rattle.group_algebra.specs.Coordinates.{sum_coordinates, layers, free_module, row_of, member}
+use Rattle.group_algebra.specs.Coordinates.{AreCoefficients}
 use Rattle.group_algebra.proofs.LayerLaws.{layers_are}
 use Rattle.group_algebra.specs.Coefficients.{AreSumCoordinates, IsTranslate}
 use Rattle.group_algebra.proofs.Combined.{IsCombined, combined}
 use Rattle.group_algebra.proofs.LayerRows.{basis-count}
-use Rattle.group_algebra.specs.Tables.{HasShape, AreMembers, TakesSumsToLayers, IsElementRow, IsTranslateRow, IsProductRow, EachRow, element}
+use Rattle.group_algebra.specs.Tables.{HasShape, AreMembers, TakesSumsToLayers, IsElementRow, IsTranslateRow}
+use Rattle.group_algebra.specs.Tables.{IsProductRow, EachRow, element}
 use Rattle.group_algebra.proofs.Members.{translate-is}
-use Rattle.group_algebra.proofs.ElementRows.{one, layers-of-sums, element-coefficients, product-row, times-one-is}
+use Rattle.group_algebra.proofs.ElementRows.{one, layers-of-sums, element-coefficients, product-row}
+use Rattle.group_algebra.proofs.ElementRows.{times-one-is}
 
 pub each-pushed : (P : ℕ → List ℕ → Type 0) (rows : List (List ℕ)) (x : List ℕ) → EachRow P rows
     → P (length rows) x → EachRow P (rows ++ x ∷ [])

@@ -3,7 +3,8 @@ use Rattle.std.specs.Prelude.{◌≡◌, ℕ, List, ◌*◌, ◌≤◌}
 use Rattle.fp_rows.specs.Values.{MatrixValue}
 use Rattle.p_groups.specs.PGroups.{PGroup, order_of}
 use Rattle.group_algebra.specs.Coordinates.{sizes}
-use Rattle.group_algebra.specs.Tables.{HasShape, AreMembers, IsElementRow, IsTranslateRow, IsProductRow, EachRow}
+use Rattle.group_algebra.specs.Tables.{HasShape, AreMembers, IsElementRow, IsTranslateRow, IsProductRow}
+use Rattle.group_algebra.specs.Tables.{EachRow}
 
 -- the table of a p-group of at most 256 elements, the sizes of its layers, and the rows of members, elements,
 -- translates and products

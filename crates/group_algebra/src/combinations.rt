@@ -1,29 +1,20 @@
 //! The images of the blocks of a row.
 
 ghost use Rattle.std.specs.Prelude.{◌≡◌, ◌+◌, ◌*◌, ◌^◌, ◌<◌, ◌≤◌, ℕ, length};
-ghost use Rattle.group_table.specs.Prime.{prime_value};
+ghost use Rattle.linear_algebra.specs.Modular.{IsCongruent, sum_below};
 ghost use Rattle.linear_algebra.specs.Rows.{entry, IsRow};
-ghost use Rattle.radical_layers.specs.Placing.{size_of};
+ghost use Rattle.radical_layers.specs.Placing.{size_of, place_of};
 ghost use Rattle.fp_rows.specs.Refs.{entries_of, modulus_of};
 ghost use Rattle.group_algebra.specs.Gains.{stepped, BlockGains, image_entry, GainsImage};
 
 use crate::places::Places;
-use fp_rows::{Matrix, Row, RowRef, add_product};
-use group_table::Prime;
+use fp_rows::{Matrix, Row, RowRef, ShortRow};
 
-/// Adds c times the row r of the group algebra to one block.
-fn add_to_block(
-    p: Prime,
-    places: &Places,
-    rank: usize,
-    block: usize,
-    c: u8,
-    r: RowRef<'_>,
-    out: &mut Row,
-)
-    requires prime { (prime_value p ≡ out.old.p) × (modulus_of r ≡ out.old.p) }
+/// Adds c times the row r of the group algebra to one block, a layer at a time.
+fn add_to_block(places: &Places, rank: usize, block: usize, c: u8, r: RowRef<'_>, out: &mut Row)
+    requires prime { modulus_of r ≡ out.old.p }
     requires block { block < rank }
-    requires factor { c < prime_value p }
+    requires factor { c < out.old.p }
     requires row_length { length (entries_of r) ≡ size_of places.now }
     requires length { length out.old.entries ≡ size_of places.now * rank }
     requires small { size_of places.now * rank < 2 ^ 64 }
@@ -31,12 +22,12 @@ fn add_to_block(
     ensures gains { BlockGains out.old.p places.now rank block (λ j. c * entry (entries_of r.entry) j) out.old.entries out.new.entries }
 {
     prove!(r.len() <= out.len());
-    if c == 0 {
-        return;
-    }
-    for j in 0..r.len() {
-        let place = places.place(rank, block, j);
-        out.set(place, add_product(p, out.get(place), c, r.get(j)));
+    let mut start = 0;
+    for i in 0..places.layers() {
+        let size = places.size(i);
+        let at = places.layer_place(rank, block, i, start);
+        out.add_part(at, c, r.part(start, size));
+        start += size;
     }
 }
 
@@ -61,6 +52,64 @@ impl<'a> Images<'a> {
     }
 }
 
+// Adds the images of the members from number `start` on with these coefficients.
+fn add_images(images: Images<'_>, start: usize, coefficients: RowRef<'_>, sum: &mut ShortRow)
+    requires primes { (modulus_of coefficients ≡ sum.old.p) × (images.rows.now.p ≡ sum.old.p) }
+    requires width { images.rows.now.width ≡ length sum.old.entries }
+    requires inside { (k : ℕ) → k < length (entries_of coefficients)
+        → images.first + (start + k) * images.step < length images.rows.now.rows }
+    requires few { length images.rows.now.rows ≤ 65536 }
+    requires short { start + length (entries_of coefficients) ≤ 256 }
+    ensures prime { sum.new.p ≡ sum.old.p }
+    ensures same_length { length sum.new.entries ≡ length sum.old.entries }
+    ensures sums { (j : ℕ) → j < length sum.old.entries
+        → IsCongruent sum.old.p (entry sum.new.entries j)
+        (entry sum.old.entries j + sum_below (length (entries_of coefficients.entry))
+        (λ k. entry (entries_of coefficients.entry) k
+        * entry (stepped images.entry.rows.now.rows images.entry.first images.entry.step (start + k)) j)) }
+{
+    for k in 0..coefficients.len() {
+        let x = coefficients.get(k);
+        if x != 0 {
+            sum.add(x, images.image(start + k));
+        }
+    }
+}
+
+// The image of one block of v.
+fn block_image(
+    places: &Places,
+    images: Images<'_>,
+    rank: usize,
+    block: usize,
+    v: RowRef<'_>,
+) -> ShortRow
+    requires prime { images.rows.now.p ≡ modulus_of v }
+    requires block { block < rank }
+    requires length { length (entries_of v) ≡ size_of places.now * rank }
+    requires small { size_of places.now * rank < 2 ^ 64 }
+    requires width { images.rows.now.width ≡ size_of places.now }
+    requires short { size_of places.now ≤ 256 }
+    requires inside { (k : ℕ) → k < size_of places.now → images.first + k * images.step < length images.rows.now.rows }
+    requires few { length images.rows.now.rows ≤ 65536 }
+    ensures prime { result.p ≡ modulus_of v.entry }
+    ensures length { length result.entries ≡ size_of places.now }
+    ensures image { (j : ℕ) → j < size_of places.now → IsCongruent result.p (entry result.entries j)
+        (sum_below (size_of places.now) (λ k. entry (entries_of v.entry) (place_of places.now rank block k)
+        * entry (stepped images.entry.rows.now.rows images.entry.first images.entry.step k) j)) }
+{
+    let _length = v.len();
+    let mut sum = ShortRow::zero(images.rows.prime(), images.rows.width());
+    let mut start = 0;
+    for i in 0..places.layers() {
+        let size = places.size(i);
+        let at = places.layer_place(rank, block, i, start);
+        add_images(images, start, v.part(at, size), &mut sum);
+        start += size;
+    }
+    sum
+}
+
 /// Adds c times the image of one block of v to that block.
 fn add_block_image(
     places: &Places,
@@ -79,18 +128,15 @@ fn add_block_image(
     requires width { images.rows.now.width ≡ size_of places.now }
     requires inside { (k : ℕ) → k < size_of places.now → images.first + k * images.step < length images.rows.now.rows }
     requires few { length images.rows.now.rows ≤ 65536 }
+    requires short { size_of places.now ≤ 256 }
     ensures prime { out.new.p ≡ out.old.p }
     ensures gains { BlockGains out.old.p places.now rank block
         (image_entry places.now rank (stepped images.entry.rows.now.rows images.entry.first images.entry.step) c (entries_of v.entry) block)
         out.old.entries out.new.entries }
 {
     prove!(out.len() == v.len());
-    let p = images.rows.prime();
-    for k in 0..images.rows.width() {
-        let x = v.get(places.place(rank, block, k));
-        let factor = add_product(p, 0, c, x);
-        add_to_block(p, places, rank, block, factor, images.image(k), out);
-    }
+    let sum = block_image(places, images, rank, block, v);
+    add_to_block(places, rank, block, c, sum.view(), out);
 }
 
 /// Adds c times the image of each block of v to that block.
@@ -109,6 +155,7 @@ pub(crate) fn add_image(
     requires width { images.rows.now.width ≡ size_of places.now }
     requires inside { (k : ℕ) → k < size_of places.now → images.first + k * images.step < length images.rows.now.rows }
     requires few { length images.rows.now.rows ≤ 65536 }
+    requires short { size_of places.now ≤ 256 }
     ensures prime { out.new.p ≡ out.old.p }
     ensures gains { GainsImage out.old.p places.now rank (stepped images.entry.rows.now.rows images.entry.first images.entry.step) c (entries_of v.entry)
         out.old.entries out.new.entries }

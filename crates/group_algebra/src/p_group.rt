@@ -10,7 +10,8 @@ use group_table::{Group, Memory, Prime};
 use std::alloc::Global;
 use std::marker::Model;
 
-/// A group of prime power order, seen as its table with the law that makes it one: contracts need no premise on the table.
+/// A group of prime power order, seen as its table with the law that makes it one: contracts need no premise
+/// on the table.
 #[derive(Drop)]
 pub struct PGroup {
     group: Group,

@@ -2,7 +2,7 @@
 
 ghost use Rattle.std.specs.Prelude.{◌≡◌, ◌+◌, ◌*◌, ◌^◌, ◌<◌, ◌≤◌, length, slice_index, IfOk};
 ghost use Rattle.radical_layers.specs.Placing.{size_of, place_of};
-ghost use Rattle.group_algebra.specs.Places.{start_of, span_of};
+ghost use Rattle.group_algebra.specs.Places.{start_of, span_of, start_at};
 
 use group_table::Memory;
 use std::alloc::Global;
@@ -80,11 +80,26 @@ impl Places {
     }
 
     /// The size of layer i.
+    #[tactic(auto, using(crate::proofs::LayerPlaces::start_within))]
     pub(crate) fn size(&self, i: usize) -> usize
         requires { i < length self.now }
-        ensures { result ≡ slice_index self.now i }
+        ensures value { result ≡ slice_index self.now i }
+        ensures within { start_at self.now i + result ≤ size_of self.now }
     {
         self.sizes[i]
+    }
+
+    /// The place of the first member of layer i in a block, of `rank` blocks, where `start` members are
+    /// before the layer.
+    pub(crate) fn layer_place(&self, rank: usize, block: usize, i: usize, start: usize) -> usize
+        requires block { block < rank }
+        requires layer { i < length self.now }
+        requires start { start ≡ start_at self.now i }
+        requires small { size_of self.now * rank < 2 ^ 64 }
+        ensures value { result ≡ rank * start_at self.now i + block * slice_index self.now i }
+        ensures within { result + slice_index self.now i ≤ size_of self.now * rank }
+    {
+        rank * start + block * self.sizes[i]
     }
 
     /// The place of a member in a block, of `rank` blocks.

@@ -23,9 +23,11 @@ fn write_move(group: &PGroup, g: u16, a: RowRef<'_>, moved: &mut Row, out: &mut 
     requires modulus { modulus_of a ≡ prime_of group.now }
     requires same_prime { (moved.old.p ≡ prime_of group.now) × (out.old.p ≡ prime_of group.now) }
     requires length { length (entries_of a) ≡ order_of group.now }
-    requires same_length { (length moved.old.entries ≡ order_of group.now) × (length out.old.entries ≡ order_of group.now) }
+    requires same_length { (length moved.old.entries ≡ order_of group.now)
+        × (length out.old.entries ≡ order_of group.now) }
     ensures primes { (moved.new.p ≡ moved.old.p) × (out.new.p ≡ out.old.p) }
-    ensures lengths { (length moved.new.entries ≡ order_of group.now) × (length out.new.entries ≡ order_of group.now) }
+    ensures lengths { (length moved.new.entries ≡ order_of group.now)
+        × (length out.new.entries ≡ order_of group.now) }
     ensures difference { (l : g < order_of group.now) (v : (free_module group.now 1).of)
         → AreCoefficients group.now (entries_of a.entry) v
         → out.new.entries
@@ -102,7 +104,8 @@ pub(crate) fn next_power(alloc: Global, group: &PGroup, list: &Echelon) -> Resul
 /// The list of the whole group algebra: the unit rows.
 pub(crate) fn whole_list(alloc: Global, group: &PGroup) -> Result<Echelon, Memory>
     ensures units { IfOk result (λ e.
-        (length e.rows ≡ order_of group.now) × ((k : ℕ) → k < order_of group.now → row e.rows k ≡ unit_row (order_of group.now) k)) }
+        (length e.rows ≡ order_of group.now) × ((k : ℕ) → k < order_of group.now
+        → row e.rows k ≡ unit_row (order_of group.now) k)) }
     ensures kept { IfOk result (λ e. (e.p ≡ prime_of group.now) × (e.width ≡ order_of group.now)) }
     ensures power { IfOk result (λ e.
         IsPowerList (largest_residue group.now) (group_of group.now) (sum_coordinates group.now) 0 e.rows) }

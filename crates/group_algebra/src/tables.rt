@@ -4,7 +4,8 @@ ghost use Rattle.std.specs.Prelude.{◌≡◌, ◌++◌, ◌+◌, ◌*◌, ◌<�
 ghost use Rattle.radical_layers.specs.LayerBasis.{layer_basis as basis_rows};
 ghost use Rattle.linear_algebra.specs.Rows.{combination_row, entry, row};
 ghost use Rattle.group_algebra.specs.Coordinates.{layers};
-ghost use Rattle.group_algebra.specs.Tables.{HasShape, AreMembers, TakesSumsToLayers, IsElementRow, IsTranslateRow, IsProductRow, EachRow};
+ghost use Rattle.group_algebra.specs.Tables.{HasShape, AreMembers, TakesSumsToLayers, IsElementRow};
+ghost use Rattle.group_algebra.specs.Tables.{IsTranslateRow, IsProductRow, EachRow};
 ghost use Rattle.p_groups.specs.PGroups.{order_of};
 
 use crate::coefficients::{write_coefficients, write_sum_coordinates, write_translate};
@@ -32,7 +33,8 @@ pub(crate) fn member_rows(alloc: Global, group: &PGroup, basis: &Matrix) -> Resu
     Ok(m)
 }
 
-/// The rows that take sum coordinates to layer coordinates: the combinations of the members that give the unit rows.
+/// The rows that take sum coordinates to layer coordinates: the combinations of the members that give the
+/// unit rows.
 pub(crate) fn unit_preimages(
     alloc: Global,
     group: &PGroup,

@@ -9,7 +9,8 @@ use std::alloc::{AllocError, Global};
 use std::process::Abort;
 use std::test::Fail;
 
-// The group of the p^n elements x^i y^j, i below m and j below q, numbered i + m j: x^m is 1, y^q is x^turn, and y x is x y or x^-1 y.
+// The group of the p^n elements x^i y^j, i below m and j below q, numbered i + m j: x^m is 1, y^q is x^turn,
+// and y x is x y or x^-1 y.
 #[derive(Clone, Copy)]
 struct Shape {
     p: Prime,
@@ -128,8 +129,8 @@ fn assert_layers(
     Ok(())
 }
 
-// The dimensions are the coefficients of the product of the (1 + t^i + .. + t^(i (p - 1)))^(e_i), e_i the Jennings numbers of the group:
-// e_1 = 1 for C2; 1, 1 for C4; 2, 1 for the groups of order 8; 2 for C3 x C3.
+// The dimensions are the coefficients of the product of the (1 + t^i + .. + t^(i (p - 1)))^(e_i), e_i the
+// Jennings numbers of the group: e_1 = 1 for C2; 1, 1 for C4; 2, 1 for the groups of order 8; 2 for C3 x C3.
 #[test]
 fn finds_the_radical_layers(rt: HostRuntime) -> Result<(), Fail> {
     assert_layers(&rt, rt.alloc(), TWO, &[1, 1])?;

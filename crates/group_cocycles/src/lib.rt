@@ -3,7 +3,8 @@
 //! in the minimal resolution.
 #![tactic(auto)]
 
-ghost use Rattle.group_cocycles.specs.Cocycles.{cocycle_of, GroupCochain, IsClass, IsClassOf, IsCoboundary, IsCocycle};
+ghost use Rattle.group_cocycles.specs.Cocycles.{cocycle_of, GroupCochain, IsClass, IsClassOf, IsCoboundary};
+ghost use Rattle.group_cocycles.specs.Cocycles.{IsCocycle};
 ghost use Rattle.cohomology_algebra.specs.Claims.{IsPresentation};
 ghost use Rattle.graded_algebra.specs.Algebras.{Generator};
 ghost use Rattle.graded_algebra.specs.Vectors.{Vector};

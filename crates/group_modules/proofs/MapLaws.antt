@@ -1,5 +1,6 @@
 -- Each table is the sum of its terms, and the linear maps between free modules.
-use Rattle.std.specs.Prelude.{◌≡◌, ℕ, suc, refl, List, [], ◌∷◌, ◌<◌, ◌≢◌, ◌⊎◌, Bool, true, false, eqb, ◌&&◌, ◌+◌}
+use Rattle.std.specs.Prelude.{◌≡◌, ℕ, suc, refl, List, [], ◌∷◌, ◌<◌, ◌≢◌, ◌⊎◌, Bool, true, false, eqb, ◌&&◌}
+use Rattle.std.specs.Prelude.{◌+◌}
 use Rattle.std.proofs.Common.{sym, ◌∙◌, ap, ap₂, arith, inl, inr, eq-eqb}
 use mathlib.Core.Path.{fun_ext}
 use Rattle.std.proofs.lemmas.Bool.Decides.{eqb_tells}

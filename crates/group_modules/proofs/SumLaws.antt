@@ -1,5 +1,6 @@
 -- Laws of sums over lists and over all numbers below a bound.
-use Rattle.std.specs.Prelude.{◌≡◌, ℕ, zero, suc, refl, List, [], ◌∷◌, ◌++◌, map, ◌<◌, ◌≢◌, ◌⊎◌, true, false, eqb}
+use Rattle.std.specs.Prelude.{◌≡◌, ℕ, zero, suc, refl, List, [], ◌∷◌, ◌++◌, map, ◌<◌, ◌≢◌, ◌⊎◌, true, false}
+use Rattle.std.specs.Prelude.{eqb}
 use Rattle.std.proofs.Common.{sym, ◌∙◌, ap, ap₂, arith, inl, inr}
 use Rattle.std.proofs.lemmas.Bool.Decides.{eqb_tells}
 use native.Mathlib.Nat.{lt-suc_self}

@@ -3,7 +3,8 @@ use Rattle.std.specs.Prelude.{ℕ, suc, refl, List, [], ◌∷◌, ◌++◌, Boo
 use Rattle.group_modules.specs.Module.{Monoid, Module, times, Term}
 use Rattle.group_modules.specs.Field.{Below, Fp, residue, plus, minus}
 use Rattle.group_modules.specs.Sums.{below, total}
-use Rattle.numbered_groups.proofs.Entries.{entries-set, entries-assoc, entries-comm, entries-zero, entries-neg, entries-p, move-one, move-mul}
+use Rattle.numbered_groups.proofs.Entries.{entries-set, entries-assoc, entries-comm, entries-zero}
+use Rattle.numbered_groups.proofs.Entries.{entries-neg, entries-p, move-one, move-mul}
 pub use Rattle.numbered_groups.specs.Groups.{Group}
 
 -- the group, of which only the product and the unit are used

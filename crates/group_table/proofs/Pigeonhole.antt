@@ -1,5 +1,6 @@
 -- A one to one map of the numbers below n into themselves reaches each of them.
-use Rattle.std.proofs.Common.{◌≡◌, ℕ, zero, suc, refl, sym, ◌∙◌, ap, ◌<◌, ◌≤◌, arith, Bool, true, false, eqb, cond, ◌⊎◌, inl, inr, eqb-true}
+use Rattle.std.proofs.Common.{◌≡◌, ℕ, zero, suc, refl, sym, ◌∙◌, ap, ◌<◌, ◌≤◌, arith, Bool, true, false, eqb}
+use Rattle.std.proofs.Common.{cond, ◌⊎◌, inl, inr, eqb-true}
 use Rattle.std.proofs.lemmas.Bool.{eqb-false}
 use Rattle.std.proofs.lemmas.Bool.Decides.{eqb_tells}
 

@@ -5,7 +5,8 @@ use Rattle.std.proofs.Math.Nat.{one-le-pow}
 use Rattle.group_table.specs.Prime.{prime_value}
 use Rattle.group_table.specs.declared.Prime.{Prime}
 use Rattle.group_table.specs.declared.Prime.TheVariants.{P2, P3, P5, P7}
-use Rattle.group_table.specs.TableFaults.{HasUnit, HasLatinRows, IsAssociative, IsLatinAt, IsAssociativeAt, IsFirstFailure, IsFirstNotAssociative}
+use Rattle.group_table.specs.TableFaults.{HasUnit, HasLatinRows, IsAssociative, IsLatinAt, IsAssociativeAt}
+use Rattle.group_table.specs.TableFaults.{IsFirstFailure, IsFirstNotAssociative}
 use Rattle.group_table.specs.Tables.{GroupTable, IsTable, IsGroupTable, order, order_is, product, product_is}
 use Rattle.group_table.proofs.Laws.{place-below}
 use Rattle.group_table.proofs.Pigeonhole.{preimage}

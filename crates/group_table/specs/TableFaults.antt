@@ -2,7 +2,8 @@
 use Rattle.std.specs.Prelude.{◌≡◌, ◌≢◌, ℕ, ◌<◌, ◌⊎◌}
 use Rattle.group_table.specs.Tables.{GroupTable, order, product}
 use Rattle.group_table.specs.declared.table_fault.TableFault.{TableFault}
-use Rattle.group_table.specs.declared.table_fault.TableFault.TheVariants.{NotUnit, NotLatin, NotAssociative, Memory}
+use Rattle.group_table.specs.declared.table_fault.TableFault.TheVariants.{NotUnit, NotLatin, NotAssociative}
+use Rattle.group_table.specs.declared.table_fault.TableFault.TheVariants.{Memory}
 
 -- 0 is a unit for a on both sides
 abbrev pub IsUnitAt : GroupTable → ℕ → Type 0

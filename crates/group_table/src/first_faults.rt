@@ -1,6 +1,7 @@
 //! The first place where a table is not that of a group with the identity 0.
 
-ghost use Rattle.group_table.specs.TableFaults.{IsUnitAt, IsLatinAt, IsAssociativeAt, HasUnit, HasLatinRows, IsAssociative, IsFirstFailure, IsFirstNotAssociative};
+ghost use Rattle.group_table.specs.TableFaults.{IsUnitAt, IsLatinAt, IsAssociativeAt, HasUnit, HasLatinRows};
+ghost use Rattle.group_table.specs.TableFaults.{IsAssociative, IsFirstFailure, IsFirstNotAssociative};
 ghost use Rattle.group_table.specs.Tables.{GroupTable, order, product};
 ghost use Rattle.std.specs.Prelude.{◌≡◌, ◌<◌, ◌↔◌, ℕ, IsTrue, IfOk, MatchOption, length};
 
@@ -84,7 +85,8 @@ fn first_third(table: &Table, a: u16, b: u16) -> Option<u16>
     requires left { a < order table.now }
     requires middle { b < order table.now }
     ensures { let n = order table.now in
-        MatchOption result ((c : ℕ) → c < n → IsAssociativeAt table.now a b c) (IsFirstFailure n (IsAssociativeAt table.now a b)) }
+        MatchOption result ((c : ℕ) → c < n
+        → IsAssociativeAt table.now a b c) (IsFirstFailure n (IsAssociativeAt table.now a b)) }
 {
     let ab = table.mul(a, b);
     for c in 0..table.order() {

@@ -2,7 +2,8 @@
 
 ghost use Rattle.group_table.specs.Prime.{prime_value};
 ghost use Rattle.group_table.specs.TableFaults.{IsFirstFault};
-ghost use Rattle.group_table.specs.Tables.{GroupTable, IsTable, IsGroupTable, IsInverse, order, product, power};
+ghost use Rattle.group_table.specs.Tables.{GroupTable, IsTable, IsGroupTable, IsInverse, order, product};
+ghost use Rattle.group_table.specs.Tables.{power};
 ghost use Rattle.std.specs.Prelude.{◌≡◌, ◌*◌, ◌^◌, ◌<◌, ◌≤◌, ◌↔◌, ℕ, All, IsTrue, IfOk, IfErr, vec_len};
 
 use crate::first_faults::{first_not_associative, first_not_latin, first_not_unit};
@@ -29,8 +30,8 @@ impl Model for Group {
 }
 
 impl Group {
-    /// The group with this table by rows, where the table is a group's; else the first place that shows that it is not:
-    /// the unit is looked at before the rows, and these before associativity.
+    /// The group with this table by rows, where the table is a group's; else the first place that shows that
+    /// it is not: the unit is looked at before the rows, and these before associativity.
     pub fn from_table(alloc: Global, p: Prime, n: u32, table: Vec<u16>) -> Result<Group, TableFault>
         requires small { prime_value p ^ n ≤ 256 }
         requires size { vec_len table ≡ prime_value p ^ n * prime_value p ^ n }
@@ -127,7 +128,8 @@ impl Group {
     pub fn conj(&self, x: u16, g: u16) -> u16
         requires element { x < order self.now }
         requires by { g < order self.now }
-        ensures value { (h : ℕ) → IsInverse self.now g h → result ≡ product self.now (product self.now h x) g }
+        ensures value { (h : ℕ) → IsInverse self.now g h
+            → result ≡ product self.now (product self.now h x) g }
         ensures moved { product self.now g result ≡ product self.now x g }
         ensures below { result < order self.now }
     {

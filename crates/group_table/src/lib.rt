@@ -1,4 +1,5 @@
-//! Groups of prime power order by their multiplication tables, their primes, and the refusal for want of memory.
+//! Groups of prime power order by their multiplication tables, their primes, and the refusal for want of
+//! memory.
 #![tactic(auto)]
 
 ghost use Rattle.std.specs.Prelude.{◌≡◌, ◌≢◌, ◌↔◌, ℕ, IfSome, IsNone};

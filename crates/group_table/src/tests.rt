@@ -62,7 +62,8 @@ fn names_a_row_with_an_entry_twice(rt: HostRuntime) -> Result<(), Fail> {
     Ok(())
 }
 
-// In each table of four elements the named place is not the first entry, and what comes before it is in order.
+// In each table of four elements the named place is not the first entry, and what comes before it is in
+// order.
 #[test]
 fn names_the_first_fault(rt: HostRuntime) -> Result<(), Fail> {
     for (entries, fault) in [

@@ -1,16 +1,25 @@
 -- What one turn of the elimination leaves: the reduced echelon list of the rows and one more.
-use Rattle.std.proofs.Common.{◌≡◌, ◌≢◌, ℕ, ◌+◌, ◌*◌, ◌-◌, ◌%◌, ◌<◌, ◌≤◌, ◌⊎◌, List, [], ◌∷◌, ◌++◌, length, map, take, drop, get_or, inl, inr, arith, ap, sym, ◌∙◌, refl}
+use Rattle.std.proofs.Common.{◌≡◌, ◌≢◌, ℕ, ◌+◌, ◌*◌, ◌-◌, ◌%◌, ◌<◌, ◌≤◌, ◌⊎◌, List, [], ◌∷◌, ◌++◌, length}
+use Rattle.std.proofs.Common.{map, take, drop, get_or, inl, inr, arith, ap, sym, ◌∙◌, refl}
 use Rattle.std.specs.Prelude.{insert}
 use Rattle.std.proofs.lemmas.Bool.{cases_eq, cases_lt}
-use Rattle.std.proofs.lemmas.List.{get_or-map, length-map, get_or_past, map-append, take-map, drop-map, ext_get_or}
+use Rattle.std.proofs.lemmas.List.{get_or-map, length-map, get_or_past, map-append, take-map, drop-map}
+use Rattle.std.proofs.lemmas.List.{ext_get_or}
 use Rattle.std.proofs.Math.Nat.{zero-mod, mod-eq_of_lt, mod-lt}
 use Rattle.linear_algebra.specs.Modular.{IsCongruent}
-use Rattle.linear_algebra.specs.Rows.{entry, row, pivot, IsRow, IsMatrix, IsEchelon, IsEchelonOf, IsReduced, IsInSpan}
+use Rattle.linear_algebra.specs.Rows.{entry, row, pivot, IsRow, IsMatrix, IsEchelon, IsEchelonOf, IsReduced}
+use Rattle.linear_algebra.specs.Rows.{IsInSpan}
 use Rattle.linear_algebra.specs.Elimination.{IsPrepared, AreCleared, IsPlace}
-use Rattle.linear_algebra.proofs.Congruences.{congruent_refl, congruent_add, congruent_trans, congruent_eq, congruent_sym, congruent_mul_left, congruent_mod, congruent_minus, congruent_cancel}
+use Rattle.linear_algebra.proofs.Congruences.{congruent_refl, congruent_add, congruent_trans, congruent_eq}
+use Rattle.linear_algebra.proofs.Congruences.{congruent_sym, congruent_mul_left, congruent_mod}
+use Rattle.linear_algebra.proofs.Congruences.{congruent_minus, congruent_cancel}
 use Rattle.linear_algebra.proofs.PivotLemmas.{before_pivot, pivot_is}
-use Rattle.linear_algebra.proofs.Spans.{in_span_congruent, in_span_add, in_span_zero, in_span_trans, in_span_pushed, are_in_span_push, are_in_span_with, are_in_span_self, are_in_span_trans}
-use Rattle.linear_algebra.proofs.Insertion.{IsNewRow, inserted_matrix, inserted_echelon, spanned_by_rows_and_new, spans_rows, spans_rows_and_new, cleared_pivot}
+use Rattle.linear_algebra.proofs.Spans.{in_span_congruent, in_span_add, in_span_zero, in_span_trans}
+use Rattle.linear_algebra.proofs.Spans.{in_span_pushed, are_in_span_push, are_in_span_with, are_in_span_self}
+use Rattle.linear_algebra.proofs.Spans.{are_in_span_trans}
+use Rattle.linear_algebra.proofs.Insertion.{IsNewRow, inserted_matrix, inserted_echelon}
+use Rattle.linear_algebra.proofs.Insertion.{spanned_by_rows_and_new, spans_rows, spans_rows_and_new}
+use Rattle.linear_algebra.proofs.Insertion.{cleared_pivot}
 
 -- minus minus x is x
 pub congruent_minus_minus : {p : ℕ} (x : ℕ) → 1 < p → IsCongruent p ((p - 1) * ((p - 1) * x)) x

@@ -1,10 +1,13 @@
 -- n + 1 vectors with n places are dependent, and what follows for the counts of independent lists.
-use Rattle.std.proofs.Common.{◌≡◌, ◌≢◌, ℕ, zero, suc, ◌+◌, ◌*◌, ◌-◌, ◌%◌, ◌<◌, ◌⊎◌, inl, inr, ⊎_elim, arith, ap, sym, ◌∙◌}
+use Rattle.std.proofs.Common.{◌≡◌, ◌≢◌, ℕ, zero, suc, ◌+◌, ◌*◌, ◌-◌, ◌%◌, ◌<◌, ◌⊎◌, inl, inr, ⊎_elim, arith}
+use Rattle.std.proofs.Common.{ap, sym, ◌∙◌}
 use Rattle.std.proofs.lemmas.Bool.{cases_eq}
 use Rattle.std.proofs.Math.Nat.{zero-mod, mod-eq_of_lt}
 use Rattle.linear_algebra.specs.Modular.{IsCongruent, IsFieldModulo, sum_below}
-use Rattle.linear_algebra.proofs.Congruences.{congruent_refl, congruent_add, congruent_trans, congruent_eq, congruent_mul_left, congruent_minus}
-use Rattle.linear_algebra.proofs.Sums.{sum_below-vanishes, sum_below-same, update, update_same, update_other, sum_below-update}
+use Rattle.linear_algebra.proofs.Congruences.{congruent_refl, congruent_add, congruent_trans, congruent_eq}
+use Rattle.linear_algebra.proofs.Congruences.{congruent_mul_left, congruent_minus}
+use Rattle.linear_algebra.proofs.Sums.{sum_below-vanishes, sum_below-same, update, update_same, update_other}
+use Rattle.linear_algebra.proofs.Sums.{sum_below-update}
 
 -- a combination of the m rows that is 0 at the places below n, with a coefficient that is not 0
 pub record Dependence (p m n : ℕ) (C : ℕ → ℕ → ℕ) : Type 0 where

@@ -3,10 +3,12 @@ use Rattle.std.proofs.Common.{◌≡◌, ◌≢◌, ℕ, ◌*◌, ◌<◌, List,
 use Rattle.std.proofs.lemmas.List.{ext_get_or}
 use Rattle.linear_algebra.specs.Modular.{IsCongruent}
 use Rattle.linear_algebra.specs.Rows.{entry, row, IsMatrix, IsCombination, AreInSpan, pivot, IsEchelon}
-use Rattle.linear_algebra.proofs.Congruences.{congruent_trans, congruent_eq, congruent_sym, congruent_mul_right, same_below}
+use Rattle.linear_algebra.proofs.Congruences.{congruent_trans, congruent_eq, congruent_sym}
+use Rattle.linear_algebra.proofs.Congruences.{congruent_mul_right, same_below}
 use Rattle.linear_algebra.proofs.Sums.{sum_below-one}
 use Rattle.linear_algebra.proofs.PivotLemmas.{before_pivot}
-use Rattle.linear_algebra.proofs.Pivots.{Combines, HasPivots, SameValues, same_values_count, same_values_upto, first_place_is_pivot, coefficient_at_pivot}
+use Rattle.linear_algebra.proofs.Pivots.{Combines, HasPivots, SameValues, same_values_count, same_values_upto}
+use Rattle.linear_algebra.proofs.Pivots.{first_place_is_pivot, coefficient_at_pivot}
 
 -- the rows of an echelon list, as functions of the place
 pub HasPivots-from_echelon : {rows : List (List ℕ)} → IsEchelon rows →

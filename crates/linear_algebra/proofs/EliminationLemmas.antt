@@ -2,7 +2,8 @@
 use Rattle.std.proofs.Common.{◌≡◌, ℕ, ◌+◌, ◌<◌, List, [], ◌∷◌, ◌++◌, length, take, arith}
 use Rattle.std.proofs.lemmas.List.{take_more}
 use Rattle.linear_algebra.specs.Rows.{row, IsEchelonOf, AreInSpan}
-use Rattle.linear_algebra.proofs.Spans.{in_span_trans, in_span_pushed, are_in_span_push, are_in_span_with, are_in_span_trans}
+use Rattle.linear_algebra.proofs.Spans.{in_span_trans, in_span_pushed, are_in_span_push, are_in_span_with}
+use Rattle.linear_algebra.proofs.Spans.{are_in_span_trans}
 
 pub echelon_none : {p width : ℕ} → IsEchelonOf p width [] []
 echelon_none = record {

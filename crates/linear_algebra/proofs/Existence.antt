@@ -1,20 +1,24 @@
 -- Each list of rows has a reduced echelon list; so has each decidable set of rows that is closed under
 -- combinations; and membership of a span is decidable.
-use Rattle.std.proofs.Common.{◌≡◌, ◌≢◌, ℕ, zero, suc, ◌+◌, ◌*◌, ◌-◌, ◌%◌, ◌<◌, ◌≤◌, ◌⊎◌, List, [], ◌∷◌, ◌++◌, length, map, inl, inr, arith, ap, ap₂, sym, ◌∙◌, refl}
+use Rattle.std.proofs.Common.{◌≡◌, ◌≢◌, ℕ, zero, suc, ◌+◌, ◌*◌, ◌-◌, ◌%◌, ◌<◌, ◌≤◌, ◌⊎◌, List, [], ◌∷◌, ◌++◌}
+use Rattle.std.proofs.Common.{length, map, inl, inr, arith, ap, ap₂, sym, ◌∙◌, refl}
 use Rattle.std.specs.Prelude.{insert}
 use Rattle.std.proofs.lemmas.Bool.{cases_eq, cases_lt, cases_order}
 use Rattle.std.proofs.lemmas.List.{get_or-map, length-map, length_push}
 use Rattle.std.proofs.Math.Nat.{mod-eq_of_lt}
 use mathlib.Core.Path.{subst}
 use Rattle.linear_algebra.specs.Modular.{IsCongruent, IsFieldModulo}
-use Rattle.linear_algebra.specs.Rows.{entry, row, pivot, add_multiple, IsRow, IsMatrix, IsEchelon, IsEchelonOf, IsReduced, IsInSpan, AreInSpan}
+use Rattle.linear_algebra.specs.Rows.{entry, row, pivot, add_multiple, IsRow, IsMatrix, IsEchelon}
+use Rattle.linear_algebra.specs.Rows.{IsEchelonOf, IsReduced, IsInSpan, AreInSpan}
 use Rattle.linear_algebra.specs.Elimination.{IsPrepared, IsCleared, AreCleared}
 use Rattle.linear_algebra.proofs.Congruences.{congruent_eq, same_below}
 use Rattle.linear_algebra.proofs.PivotLemmas.{pivot-le-length, not_zero_at_pivot}
 use Rattle.linear_algebra.proofs.Pivots.{zero_at_pivots}
 use Rattle.linear_algebra.proofs.EchelonLists.{HasPivots-from_echelon, Combines-from_combination}
-use Rattle.linear_algebra.proofs.Spans.{row_push, row_before_push, in_span_row, in_span_trans, in_span_pushed, are_in_span_push, are_in_span_with, are_in_span_trans}
-use Rattle.linear_algebra.proofs.AddedRow.{in_span_left, in_span_right, zeros_in_span, prepared_zero, prepared_scaled, scaled_pivot, added_nothing, added_row}
+use Rattle.linear_algebra.proofs.Spans.{row_push, row_before_push, in_span_row, in_span_trans, in_span_pushed}
+use Rattle.linear_algebra.proofs.Spans.{are_in_span_push, are_in_span_with, are_in_span_trans}
+use Rattle.linear_algebra.proofs.AddedRow.{in_span_left, in_span_right, zeros_in_span, prepared_zero}
+use Rattle.linear_algebra.proofs.AddedRow.{prepared_scaled, scaled_pivot, added_nothing, added_row}
 use Rattle.linear_algebra.proofs.Reducing.{IsReducedUpTo, reduced_start, reduced_step, cleared_by}
 
 empty_echelon : IsEchelon []

@@ -1,8 +1,10 @@
 -- The numbers modulo 2, 3, 5 and 7 are fields: the inverse of a is a to the power p - 2.
-use Rattle.std.proofs.Common.{◌≡◌, ◌≢◌, ℕ, zero, suc, ◌*◌, ◌%◌, ◌^◌, ◌<◌, inl, inr, arith, sym, ◌∙◌, refl, lit<}
+use Rattle.std.proofs.Common.{◌≡◌, ◌≢◌, ℕ, zero, suc, ◌*◌, ◌%◌, ◌^◌, ◌<◌, inl, inr, arith, sym, ◌∙◌, refl}
+use Rattle.std.proofs.Common.{lit<}
 use Rattle.std.proofs.Math.Nat.{mod-lt, mod-eq_of_lt}
 use Rattle.linear_algebra.specs.Modular.{IsFieldModulo, IsSmallPrime}
-use Rattle.linear_algebra.proofs.Congruences.{congruent_trans, congruent_mul_right, congruent_sym, congruent_mod}
+use Rattle.linear_algebra.proofs.Congruences.{congruent_trans, congruent_mul_right, congruent_sym}
+use Rattle.linear_algebra.proofs.Congruences.{congruent_mod}
 
 unit_power_2 : (r : ℕ) → r < 2 → r ≢ 0 → r * r ^ 0 % 2 ≡ 1
 unit_power_2 zero l n = absurd (n refl)

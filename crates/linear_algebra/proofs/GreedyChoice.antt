@@ -1,8 +1,10 @@
 -- What a greedy choice of rows gives: with the rows before them they span, and they are independent modulo
 -- these.
-use Rattle.std.proofs.Common.{◌≡◌, ◌≢◌, ℕ, zero, suc, ◌+◌, ◌*◌, ◌-◌, ◌%◌, ◌<◌, ◌≤◌, ◌⊎◌, List, [], ◌∷◌, ◌++◌, length, get_or, take, inl, inr, arith, ap, sym, ◌∙◌, refl}
+use Rattle.std.proofs.Common.{◌≡◌, ◌≢◌, ℕ, zero, suc, ◌+◌, ◌*◌, ◌-◌, ◌%◌, ◌<◌, ◌≤◌, ◌⊎◌, List, [], ◌∷◌, ◌++◌}
+use Rattle.std.proofs.Common.{length, get_or, take, inl, inr, arith, ap, sym, ◌∙◌, refl}
 use Rattle.std.proofs.lemmas.Bool.{cases_eq, cases_lt}
-use Rattle.std.proofs.lemmas.List.{get_or_append_left, get_or-append-add, length-append, length_push, length-map, get_or-map, get_or_push}
+use Rattle.std.proofs.lemmas.List.{get_or_append_left, get_or-append-add, length-append, length_push}
+use Rattle.std.proofs.lemmas.List.{length-map, get_or-map, get_or_push}
 use Rattle.std.proofs.Math.Nat.{zero-mod, le_refl}
 use Rattle.std.proofs.Math.Seq.{take-length}
 use Rattle.std.proofs.lemmas.List.{take-append-le}
@@ -11,8 +13,11 @@ use Rattle.linear_algebra.proofs.Sums.{sum_below-same}
 use Rattle.linear_algebra.specs.Modular.{IsCongruent, IsFieldModulo, sum_below}
 use Rattle.linear_algebra.specs.Rows.{entry, row, combination, IsInSpan, AreInSpan}
 use Rattle.linear_algebra.specs.Choices.{rows_at, IsGreedyBelow}
-use Rattle.linear_algebra.proofs.Spans.{in_span_congruent, in_span_zero, in_span_row, in_span_add, in_span_trans, row_push, row_before_push, are_in_span_push, in_span_pushed}
-use Rattle.linear_algebra.proofs.Congruences.{congruent_refl, congruent_add, congruent_trans, congruent_eq, congruent_mul_left, congruent_mul_right, congruent_minus}
+use Rattle.linear_algebra.proofs.Spans.{in_span_congruent, in_span_zero, in_span_row, in_span_add}
+use Rattle.linear_algebra.proofs.Spans.{in_span_trans, row_push, row_before_push, are_in_span_push}
+use Rattle.linear_algebra.proofs.Spans.{in_span_pushed}
+use Rattle.linear_algebra.proofs.Congruences.{congruent_refl, congruent_add, congruent_trans, congruent_eq}
+use Rattle.linear_algebra.proofs.Congruences.{congruent_mul_left, congruent_mul_right, congruent_minus}
 
 pub append-push : {A : Type 0} (xs ys : List A) (y : A) → xs ++ (ys ++ y ∷ []) ≡ (xs ++ ys) ++ y ∷ []
 append-push [] ys y = refl

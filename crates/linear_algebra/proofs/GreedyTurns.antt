@@ -4,7 +4,8 @@ use Rattle.std.proofs.lemmas.List.{append-nil}
 use mathlib.Core.Path.{subst}
 use Rattle.linear_algebra.specs.Rows.{entry, row, IsMatrix, IsEchelon, IsEchelonOf, IsInSpan}
 use Rattle.linear_algebra.specs.Choices.{rows_at, IsGreedyBelow}
-use Rattle.linear_algebra.proofs.Spans.{in_span_trans, are_in_span_push, are_in_span_with, are_in_span_self, are_in_span_trans}
+use Rattle.linear_algebra.proofs.Spans.{in_span_trans, are_in_span_push, are_in_span_with, are_in_span_self}
+use Rattle.linear_algebra.proofs.Spans.{are_in_span_trans}
 use Rattle.linear_algebra.proofs.EliminationLemmas.{echelon_push}
 use Rattle.linear_algebra.proofs.GreedyChoice.{append-push, rows-push}
 

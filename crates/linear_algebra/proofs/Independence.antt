@@ -3,8 +3,11 @@ use Rattle.std.proofs.Common.{◌≡◌, ◌≢◌, ℕ, zero, suc, ◌+◌, ◌
 use Rattle.std.proofs.lemmas.Bool.{cases_lt}
 use Rattle.std.proofs.Math.Nat.{zero-mod}
 use Rattle.linear_algebra.specs.Modular.{IsCongruent, IsFieldModulo, sum_below}
-use Rattle.linear_algebra.proofs.Congruences.{congruent_refl, congruent_add, congruent_trans, congruent_eq, congruent_sym, congruent_mul_left, congruent_mul_right, congruent_minus, congruent_cancel}
-use Rattle.linear_algebra.proofs.Sums.{sum_below-vanishes, sum_below-congruent, sum_below-same, sum_below-mul, sum_below-swap}
+use Rattle.linear_algebra.proofs.Congruences.{congruent_refl, congruent_add, congruent_trans, congruent_eq}
+use Rattle.linear_algebra.proofs.Congruences.{congruent_sym, congruent_mul_left, congruent_mul_right}
+use Rattle.linear_algebra.proofs.Congruences.{congruent_minus, congruent_cancel}
+use Rattle.linear_algebra.proofs.Sums.{sum_below-vanishes, sum_below-congruent, sum_below-same, sum_below-mul}
+use Rattle.linear_algebra.proofs.Sums.{sum_below-swap}
 use Rattle.linear_algebra.proofs.Pivots.{Combines}
 use Rattle.linear_algebra.proofs.Dimension.{Dependence, dependent}
 

@@ -1,14 +1,18 @@
 -- One more row in a reduced echelon list.
-use Rattle.std.proofs.Common.{◌≡◌, ◌≢◌, ℕ, suc, ◌+◌, ◌*◌, ◌-◌, ◌<◌, ◌≤◌, ◌⊎◌, List, [], ◌∷◌, ◌++◌, length, inl, inr, arith, ap, sym, ◌∙◌, refl}
+use Rattle.std.proofs.Common.{◌≡◌, ◌≢◌, ℕ, suc, ◌+◌, ◌*◌, ◌-◌, ◌<◌, ◌≤◌, ◌⊎◌, List, [], ◌∷◌, ◌++◌, length}
+use Rattle.std.proofs.Common.{inl, inr, arith, ap, sym, ◌∙◌, refl}
 use Rattle.std.specs.Prelude.{insert}
 use Rattle.std.proofs.lemmas.Bool.{cases_lt, cases_order}
-use Rattle.std.proofs.lemmas.List.Edits.{length-insert, get_or-insert_below, get_or-insert_at, get_or-insert_above}
+use Rattle.std.proofs.lemmas.List.Edits.{length-insert, get_or-insert_below, get_or-insert_at}
+use Rattle.std.proofs.lemmas.List.Edits.{get_or-insert_above}
 use Rattle.std.proofs.Math.Nat.{sub-zero}
 use Rattle.linear_algebra.specs.Modular.{IsCongruent}
 use Rattle.linear_algebra.specs.Rows.{entry, row, pivot, IsRow, IsMatrix, IsEchelon, IsInSpan, AreInSpan}
 use Rattle.linear_algebra.specs.Elimination.{AreCleared, IsPlace}
-use Rattle.linear_algebra.proofs.Congruences.{congruent_refl, congruent_add, congruent_trans, congruent_eq, congruent_sym, same_below, to_congruent}
-use Rattle.linear_algebra.proofs.Spans.{in_span_congruent, in_span_row, in_span_add, in_span_pushed, are_in_span_push, are_in_span_with}
+use Rattle.linear_algebra.proofs.Congruences.{congruent_refl, congruent_add, congruent_trans, congruent_eq}
+use Rattle.linear_algebra.proofs.Congruences.{congruent_sym, same_below, to_congruent}
+use Rattle.linear_algebra.proofs.Spans.{in_span_congruent, in_span_row, in_span_add, in_span_pushed}
+use Rattle.linear_algebra.proofs.Spans.{are_in_span_push, are_in_span_with}
 use Rattle.linear_algebra.proofs.PivotLemmas.{before_pivot, pivot_is}
 
 -- what the new row v, with the pivot t, is to the list E

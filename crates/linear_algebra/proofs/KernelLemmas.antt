@@ -1,20 +1,25 @@
 -- The kernel from the reduced echelon list of the augmented rows.
-use Rattle.std.proofs.Common.{◌≡◌, ℕ, zero, suc, ◌+◌, ◌-◌, ◌*◌, ◌<◌, ◌≤◌, ◌⊎◌, List, [], ◌∷◌, length, map, drop, get_or, inl, inr, arith, ap, sym, ◌∙◌}
+use Rattle.std.proofs.Common.{◌≡◌, ℕ, zero, suc, ◌+◌, ◌-◌, ◌*◌, ◌<◌, ◌≤◌, ◌⊎◌, List, [], ◌∷◌, length, map}
+use Rattle.std.proofs.Common.{drop, get_or, inl, inr, arith, ap, sym, ◌∙◌}
 use Rattle.std.proofs.lemmas.Bool.{cases_eq, cases_lt}
 use Rattle.std.proofs.lemmas.List.{get_or-drop, length-drop, get_or_past, get_or-map, length-map, ext_get_or}
 use Rattle.linear_algebra.specs.Modular.{IsCongruent, sum_below}
-use Rattle.linear_algebra.specs.Rows.{entry, row, combination, pivot, IsRow, IsMatrix, IsEchelon, IsEchelonOf, IsInSpan}
-use Rattle.linear_algebra.specs.Kernels.{augment, IsAmong, IsEchelonOfOthers, IsInKernel, IsKernelOf, IsAugmented, AreRightParts}
+use Rattle.linear_algebra.specs.Rows.{entry, row, combination, pivot, IsRow, IsMatrix, IsEchelon, IsEchelonOf}
+use Rattle.linear_algebra.specs.Rows.{IsInSpan}
+use Rattle.linear_algebra.specs.Kernels.{augment, IsAmong, IsEchelonOfOthers, IsInKernel, IsKernelOf}
+use Rattle.linear_algebra.specs.Kernels.{IsAugmented, AreRightParts}
 use Rattle.linear_algebra.proofs.AugmentLemmas.{augment_is, length-augment_from}
 use Rattle.linear_algebra.proofs.Others.{others_all}
 use mathlib.Core.Path.{subst}
-use Rattle.linear_algebra.proofs.Congruences.{congruent_refl, congruent_add, congruent_trans, congruent_eq, congruent_sym, congruent_mul_right}
+use Rattle.linear_algebra.proofs.Congruences.{congruent_refl, congruent_add, congruent_trans, congruent_eq}
+use Rattle.linear_algebra.proofs.Congruences.{congruent_sym, congruent_mul_right}
 use Rattle.linear_algebra.proofs.Sums.{sum_below-parts, sum_below-same, sum_below-vanishes}
 use Rattle.linear_algebra.proofs.Pivots.{coefficient_at_pivot}
 use Rattle.linear_algebra.proofs.PivotLemmas.{before_pivot}
 use Rattle.linear_algebra.proofs.EchelonLists.{HasPivots-from_echelon, Combines-from_combination}
 use Rattle.linear_algebra.proofs.Spans.{in_span_trans}
-use Rattle.linear_algebra.proofs.Combinations.{combination_past, same_coefficients, augmented_left, augmented_right}
+use Rattle.linear_algebra.proofs.Combinations.{combination_past, same_coefficients, augmented_left}
+use Rattle.linear_algebra.proofs.Combinations.{augmented_right}
 
 pub pivot-drop : (w : ℕ) (r : List ℕ) → w ≤ pivot r → pivot (drop w r) + w ≡ pivot r
 pivot-drop zero r l = omega arith

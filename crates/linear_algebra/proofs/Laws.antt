@@ -1,14 +1,17 @@
 -- The laws of the crate, from the lemmas.
-use Rattle.std.proofs.Common.{◌≡◌, ◌≢◌, ℕ, zero, suc, ◌+◌, ◌-◌, ◌*◌, ◌%◌, ◌<◌, ◌≤◌, ◌⊎◌, List, [], ◌∷◌, ◌++◌, length, map, drop, inl, inr, arith, sym, ◌∙◌, refl}
+use Rattle.std.proofs.Common.{◌≡◌, ◌≢◌, ℕ, zero, suc, ◌+◌, ◌-◌, ◌*◌, ◌%◌, ◌<◌, ◌≤◌, ◌⊎◌, List, [], ◌∷◌, ◌++◌}
+use Rattle.std.proofs.Common.{length, map, drop, inl, inr, arith, sym, ◌∙◌, refl}
 use Rattle.std.proofs.lemmas.Bool.{cases_lt}
 use Rattle.std.proofs.lemmas.List.{get_or_past, length_push, append-nil, ext_get_or}
 use mathlib.Core.Path.{subst}
 use Rattle.linear_algebra.specs.Modular.{IsCongruent, IsFieldModulo}
-use Rattle.linear_algebra.specs.Rows.{entry, row, pivot, combination, IsRow, IsMatrix, IsEchelon, IsEchelonOf, IsInSpan, IsCombination, IsReduced}
+use Rattle.linear_algebra.specs.Rows.{entry, row, pivot, combination, IsRow, IsMatrix, IsEchelon, IsEchelonOf}
+use Rattle.linear_algebra.specs.Rows.{IsInSpan, IsCombination, IsReduced}
 use Rattle.linear_algebra.specs.Kernels.{augment, IsInKernel, IsKernelOf}
 use Rattle.linear_algebra.specs.Choices.{rows_at, IsGreedyBelow, IsGreedy}
 use Rattle.linear_algebra.specs.Ranks.{IsIndependent}
-use Rattle.linear_algebra.proofs.Congruences.{congruent_refl, congruent_add, congruent_trans, congruent_eq, congruent_sym, congruent_minus, congruent_cancel, same_below}
+use Rattle.linear_algebra.proofs.Congruences.{congruent_refl, congruent_add, congruent_trans, congruent_eq}
+use Rattle.linear_algebra.proofs.Congruences.{congruent_sym, congruent_minus, congruent_cancel, same_below}
 use Rattle.linear_algebra.proofs.Combinations.{combination_past}
 use Rattle.linear_algebra.proofs.Spans.{in_span_add, row_push, row_before_push}
 use Rattle.linear_algebra.proofs.Dimension.{Dependence, dependent}

@@ -1,6 +1,8 @@
 use Rattle.std.proofs.Common.{◌≡◌, ℕ, zero, suc, ◌+◌, ◌*◌, ◌-◌, ◌<◌, arith}
 use Rattle.linear_algebra.specs.Modular.{IsCongruent, sum_below}
-use Rattle.linear_algebra.proofs.Congruences.{congruent_refl, congruent_add, congruent_trans, congruent_eq, congruent_sym, congruent_mul_left, congruent_mul_right, congruent_minus, congruent_cancel}
+use Rattle.linear_algebra.proofs.Congruences.{congruent_refl, congruent_add, congruent_trans, congruent_eq}
+use Rattle.linear_algebra.proofs.Congruences.{congruent_sym, congruent_mul_left, congruent_mul_right}
+use Rattle.linear_algebra.proofs.Congruences.{congruent_minus, congruent_cancel}
 use Rattle.linear_algebra.proofs.Sums.{sum_below-congruent}
 use Rattle.linear_algebra.proofs.Pivots.{Combines, HasPivots, zero_at_pivots}
 use Rattle.linear_algebra.specs.Maps.{IsLinear, times_matrix}

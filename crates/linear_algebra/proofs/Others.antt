@@ -1,17 +1,21 @@
 -- The elimination of the generators at some positions: its turns, and what its rows are combinations of.
-use Rattle.std.proofs.Common.{◌≡◌, ℕ, zero, suc, ◌+◌, ◌*◌, ◌<◌, ◌≤◌, ◌⊎◌, List, [], ◌∷◌, ◌++◌, length, inl, inr, arith, sym, ◌∙◌}
+use Rattle.std.proofs.Common.{◌≡◌, ℕ, zero, suc, ◌+◌, ◌*◌, ◌<◌, ◌≤◌, ◌⊎◌, List, [], ◌∷◌, ◌++◌, length, inl}
+use Rattle.std.proofs.Common.{inr, arith, sym, ◌∙◌}
 use Rattle.std.proofs.lemmas.Bool.{cases_eq, cases_lt}
 use Rattle.std.proofs.lemmas.List.{length_push}
 use mathlib.Core.Path.{subst}
 use Rattle.linear_algebra.specs.Modular.{IsCongruent, sum_below}
 use Rattle.linear_algebra.specs.Rows.{entry, row, IsCombination, IsInSpan, IsEchelonOf}
 use Rattle.linear_algebra.specs.Kernels.{IsAmong, IsEchelonOfOthers}
-use Rattle.linear_algebra.proofs.Congruences.{congruent_refl, congruent_add, congruent_trans, congruent_eq, congruent_sym, congruent_mul_left, congruent_mul_right}
+use Rattle.linear_algebra.proofs.Congruences.{congruent_refl, congruent_add, congruent_trans, congruent_eq}
+use Rattle.linear_algebra.proofs.Congruences.{congruent_sym, congruent_mul_left, congruent_mul_right}
 use Rattle.linear_algebra.proofs.Sums.{sum_below-vanishes, update, update_other}
 use Rattle.linear_algebra.proofs.Pivots.{Combines}
 use Rattle.linear_algebra.proofs.Independence.{combine_combinations}
 use Rattle.linear_algebra.proofs.EliminationLemmas.{echelon_none}
-use Rattle.linear_algebra.proofs.Spans.{in_span_trans, in_span_congruent, in_span_zero, in_span_add, in_span_pushed, are_in_span_push, are_in_span_trans, row_push, row_before_push, unit_combination}
+use Rattle.linear_algebra.proofs.Spans.{in_span_trans, in_span_congruent, in_span_zero, in_span_add}
+use Rattle.linear_algebra.proofs.Spans.{in_span_pushed, are_in_span_push, are_in_span_trans, row_push}
+use Rattle.linear_algebra.proofs.Spans.{row_before_push, unit_combination}
 
 -- a combination of the generators with the coefficient 0 at the skipped positions
 abbrev pub IsOtherCombination : ℕ → List (List ℕ) → List ℕ → (ℕ → ℕ) → Type 0

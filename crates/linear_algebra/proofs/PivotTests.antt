@@ -1,5 +1,6 @@
 -- The test for a pivot.
-use Rattle.std.proofs.Common.{◌≡◌, ◌≢◌, ℕ, zero, suc, ◌<◌, List, [], ◌∷◌, length, Bool, true, false, ◌||◌, eqb, ◌⊎◌, inl, inr, arith, refl}
+use Rattle.std.proofs.Common.{◌≡◌, ◌≢◌, ℕ, zero, suc, ◌<◌, List, [], ◌∷◌, length, Bool, true, false, ◌||◌}
+use Rattle.std.proofs.Common.{eqb, ◌⊎◌, inl, inr, arith, refl}
 use Rattle.std.proofs.lemmas.Bool.{cases_Bool, eqb-true, eq-eqb}
 use Rattle.linear_algebra.specs.Rows.{row, pivot, IsPivot, is_pivot}
 

@@ -2,7 +2,8 @@
 use Rattle.std.proofs.Common.{◌≡◌, ◌≢◌, ℕ, zero, suc, ◌*◌, ◌<◌, ◌≤◌, ◌⊎◌, inl, inr, arith, ap, sym}
 use Rattle.std.proofs.lemmas.Bool.{cases_eq, cases_order}
 use Rattle.linear_algebra.specs.Modular.{IsCongruent, sum_below}
-use Rattle.linear_algebra.proofs.Congruences.{congruent_trans, congruent_eq, congruent_sym, congruent_mul_right}
+use Rattle.linear_algebra.proofs.Congruences.{congruent_trans, congruent_eq, congruent_sym}
+use Rattle.linear_algebra.proofs.Congruences.{congruent_mul_right}
 use Rattle.linear_algebra.proofs.Sums.{sum_below-one, sum_below-vanishes, find_below}
 
 -- v is the combination of m rows R with the coefficients u

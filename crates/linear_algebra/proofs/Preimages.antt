@@ -1,21 +1,29 @@
 -- The preimage that is 0 at the pivots of the kernel: it exists, and elimination of the other augmented rows
 -- finds it.
-use Rattle.std.proofs.Common.{◌≡◌, ◌≢◌, ℕ, zero, suc, ◌+◌, ◌*◌, ◌-◌, ◌%◌, ◌<◌, ◌≤◌, ◌⊎◌, List, [], ◌∷◌, ◌++◌, length, map, drop, replicate, inl, inr, arith, ap, sym, ◌∙◌, refl}
+use Rattle.std.proofs.Common.{◌≡◌, ◌≢◌, ℕ, zero, suc, ◌+◌, ◌*◌, ◌-◌, ◌%◌, ◌<◌, ◌≤◌, ◌⊎◌, List, [], ◌∷◌, ◌++◌}
+use Rattle.std.proofs.Common.{length, map, drop, replicate, inl, inr, arith, ap, sym, ◌∙◌, refl}
 use Rattle.std.proofs.lemmas.Bool.{cases_lt}
-use Rattle.std.proofs.lemmas.List.{get_or-map, get_or-drop, get_or_append_left, get_or-append-add, get_or-replicate, get_or_past, length-map, length-drop, length-replicate, length_push, ext_get_or}
+use Rattle.std.proofs.lemmas.List.{get_or-map, get_or-drop, get_or_append_left, get_or-append-add}
+use Rattle.std.proofs.lemmas.List.{get_or-replicate, get_or_past, length-map, length-drop, length-replicate}
+use Rattle.std.proofs.lemmas.List.{length_push, ext_get_or}
 use Rattle.std.proofs.Math.Nat.{mod-lt}
 use mathlib.Core.Path.{subst}
 use Rattle.linear_algebra.specs.Modular.{IsCongruent, sum_below}
-use Rattle.linear_algebra.specs.Rows.{entry, row, combination, pivot, IsRow, IsMatrix, IsCombination, IsInSpan, IsReduced}
+use Rattle.linear_algebra.specs.Rows.{entry, row, combination, pivot, IsRow, IsMatrix, IsCombination}
+use Rattle.linear_algebra.specs.Rows.{IsInSpan, IsReduced}
 use Rattle.linear_algebra.specs.Kernels.{IsInKernel, IsKernelOf, IsAugmented, IsAmong, IsEchelonOfOthers}
 use Rattle.linear_algebra.specs.Choices.{IsPreimage, ArePreimages}
-use Rattle.linear_algebra.proofs.Congruences.{congruent_refl, congruent_add, congruent_trans, congruent_eq, congruent_sym, congruent_mul_left, congruent_minus, congruent_cancel, congruent_mod, same_below}
+use Rattle.linear_algebra.proofs.Congruences.{congruent_refl, congruent_add, congruent_trans, congruent_eq}
+use Rattle.linear_algebra.proofs.Congruences.{congruent_sym, congruent_mul_left, congruent_minus}
+use Rattle.linear_algebra.proofs.Congruences.{congruent_cancel, congruent_mod, same_below}
 use Rattle.linear_algebra.proofs.Sums.{sum_below-vanishes, sum_below-one, find_below}
 use Rattle.linear_algebra.proofs.Pivots.{HasPivots, zero_at_pivots}
 use Rattle.linear_algebra.proofs.PivotLemmas.{before_pivot}
 use Rattle.linear_algebra.proofs.Independence.{combine_combinations}
-use Rattle.linear_algebra.proofs.EchelonLists.{HasPivots-from_echelon, Combines-from_combination, one_not_zero}
-use Rattle.linear_algebra.proofs.Combinations.{combination_past, same_coefficients, augmented_left, augmented_right}
+use Rattle.linear_algebra.proofs.EchelonLists.{HasPivots-from_echelon, Combines-from_combination}
+use Rattle.linear_algebra.proofs.EchelonLists.{one_not_zero}
+use Rattle.linear_algebra.proofs.Combinations.{combination_past, same_coefficients, augmented_left}
+use Rattle.linear_algebra.proofs.Combinations.{augmented_right}
 use Rattle.linear_algebra.proofs.Spans.{in_span_add, in_span_row, row_push, row_before_push}
 use Rattle.linear_algebra.proofs.Others.{IsOtherCombination, other_combination, in_span_sum}
 use Rattle.linear_algebra.proofs.Tables.{table, length-table, entry-table}

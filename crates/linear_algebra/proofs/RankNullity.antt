@@ -1,11 +1,14 @@
 -- A list of independent vectors in the kernel with the kernel's dimension spans the kernel.
-use Rattle.std.proofs.Common.{◌≡◌, ◌≢◌, ℕ, suc, ◌+◌, ◌*◌, ◌-◌, ◌%◌, ◌<◌, ◌≤◌, ◌⊎◌, inl, inr, cond, ltb, arith, ap, sym, ◌∙◌}
+use Rattle.std.proofs.Common.{◌≡◌, ◌≢◌, ℕ, suc, ◌+◌, ◌*◌, ◌-◌, ◌%◌, ◌<◌, ◌≤◌, ◌⊎◌, inl, inr, cond, ltb, arith}
+use Rattle.std.proofs.Common.{ap, sym, ◌∙◌}
 use Rattle.std.proofs.lemmas.Bool.{cases_lt, cases_order}
 use Rattle.std.proofs.lemmas.Bool.Decides.{nat_tests}
 use Rattle.std.proofs.Math.Nat.{zero-mod}
 use Rattle.linear_algebra.specs.Modular.{IsCongruent, IsFieldModulo, sum_below}
-use Rattle.linear_algebra.proofs.Congruences.{congruent_refl, congruent_add, congruent_trans, congruent_eq, congruent_sym, congruent_mul_left, congruent_mul_right}
-use Rattle.linear_algebra.proofs.Sums.{sum_below-parts, sum_below-same, sum_below-congruent, sum_below-vanishes}
+use Rattle.linear_algebra.proofs.Congruences.{congruent_refl, congruent_add, congruent_trans, congruent_eq}
+use Rattle.linear_algebra.proofs.Congruences.{congruent_sym, congruent_mul_left, congruent_mul_right}
+use Rattle.linear_algebra.proofs.Sums.{sum_below-parts, sum_below-same, sum_below-congruent}
+use Rattle.linear_algebra.proofs.Sums.{sum_below-vanishes}
 use Rattle.linear_algebra.proofs.Pivots.{Combines}
 use Rattle.linear_algebra.proofs.Dimension.{Dependence, dependent}
 use Rattle.linear_algebra.proofs.Independence.{Independent, combines_from_dependence}

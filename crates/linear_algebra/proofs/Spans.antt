@@ -1,10 +1,12 @@
 -- The span of a list of rows: its rows, 0, sums and multiples are in it, and spans are transitive.
-use Rattle.std.proofs.Common.{◌≡◌, ℕ, zero, suc, ◌+◌, ◌*◌, ◌<◌, ◌≤◌, ◌⊎◌, List, [], ◌∷◌, ◌++◌, length, inl, inr, arith, ap, ◌∙◌, refl}
+use Rattle.std.proofs.Common.{◌≡◌, ℕ, zero, suc, ◌+◌, ◌*◌, ◌<◌, ◌≤◌, ◌⊎◌, List, [], ◌∷◌, ◌++◌, length, inl}
+use Rattle.std.proofs.Common.{inr, arith, ap, ◌∙◌, refl}
 use Rattle.std.proofs.lemmas.Bool.{cases_lt}
 use Rattle.std.proofs.lemmas.List.{get_or_append_left, length_push, get_or_push}
 use Rattle.linear_algebra.specs.Modular.{IsCongruent, sum_below}
 use Rattle.linear_algebra.specs.Rows.{entry, row, IsCombination, IsInSpan, AreInSpan}
-use Rattle.linear_algebra.proofs.Congruences.{congruent_add, congruent_trans, congruent_eq, congruent_mul_left}
+use Rattle.linear_algebra.proofs.Congruences.{congruent_add, congruent_trans, congruent_eq}
+use Rattle.linear_algebra.proofs.Congruences.{congruent_mul_left}
 use Rattle.linear_algebra.proofs.Sums.{sum_below-one, sum_below-vanishes, update, update_same, update_other}
 use Rattle.linear_algebra.proofs.Pivots.{Combines}
 use Rattle.linear_algebra.proofs.Independence.{combine_combinations}

@@ -1,7 +1,9 @@
 -- Kernels of matrices, and the elimination of rows each followed by its unit row that finds them.
-use Rattle.std.specs.Prelude.{◌≡◌, ◌≢◌, ℕ, suc, ◌+◌, ◌<◌, ◌≤◌, List, [], ◌∷◌, ◌++◌, length, drop, replicate, slice_set}
+use Rattle.std.specs.Prelude.{◌≡◌, ◌≢◌, ℕ, suc, ◌+◌, ◌<◌, ◌≤◌, List, [], ◌∷◌, ◌++◌, length, drop, replicate}
+use Rattle.std.specs.Prelude.{slice_set}
 use Rattle.linear_algebra.specs.Modular.{IsCongruent}
-use Rattle.linear_algebra.specs.Rows.{entry, row, combination, pivot, IsRow, IsMatrix, IsEchelon, IsCombination, IsInSpan}
+use Rattle.linear_algebra.specs.Rows.{entry, row, combination, pivot, IsRow, IsMatrix, IsEchelon}
+use Rattle.linear_algebra.specs.Rows.{IsCombination, IsInSpan}
 
 -- the rows with the coefficients u combine to 0
 abbrev pub IsInKernel : ℕ → List (List ℕ) → (ℕ → ℕ) → Type 0

@@ -1,6 +1,7 @@
 -- Rows, combinations, spans and reduced row echelon form (Hoffman and Kunze, "Linear Algebra", sections 1.4
 -- and 2.5).
-use Rattle.std.specs.Prelude.{◌≡◌, ◌≢◌, ℕ, zero, suc, ◌+◌, ◌-◌, ◌*◌, ◌%◌, ◌<◌, Bool, false, ◌||◌, eqb, List, [], ◌∷◌, length, replicate, slice_index_or}
+use Rattle.std.specs.Prelude.{◌≡◌, ◌≢◌, ℕ, zero, suc, ◌+◌, ◌-◌, ◌*◌, ◌%◌, ◌<◌, Bool, false, ◌||◌, eqb, List}
+use Rattle.std.specs.Prelude.{[], ◌∷◌, length, replicate, slice_index_or}
 use Rattle.linear_algebra.specs.Modular.{IsCongruent, sum_below}
 
 -- the entry of a row at place j, and 0 past its end

@@ -1,10 +1,12 @@
-//! Linear algebra over the field of p elements: definitions on lists of numbers, their lemmas, and the laws that readers can cite.
-//! A row is a list of numbers below p. Everything linear is said place by place and compared modulo p.
+//! Linear algebra over the field of p elements: definitions on lists of numbers, their lemmas, and the laws
+//! that readers can cite. A row is a list of numbers below p. Everything linear is said place by place and
+//! compared modulo p.
 #![tactic(auto)]
 
 ghost use Rattle.std.specs.Prelude.{◌≡◌, ◌≢◌, ℕ, ◌+◌, ◌%◌, ◌<◌, List, length};
 ghost use Rattle.linear_algebra.specs.Modular.{IsSmallPrime, IsFieldModulo};
-ghost use Rattle.linear_algebra.specs.Rows.{entry, row, IsRow, IsMatrix, IsEchelon, IsEchelonOf, IsCombination, IsInSpan, AreInSpan, IsReduced};
+ghost use Rattle.linear_algebra.specs.Rows.{entry, row, IsRow, IsMatrix, IsEchelon, IsEchelonOf};
+ghost use Rattle.linear_algebra.specs.Rows.{IsCombination, IsInSpan, AreInSpan, IsReduced};
 ghost use Rattle.linear_algebra.specs.Kernels.{IsInKernel, IsKernelOf};
 ghost use Rattle.linear_algebra.specs.Choices.{IsGreedy, IsPreimage};
 ghost use Rattle.linear_algebra.specs.Ranks.{IsIndependent};
@@ -28,7 +30,8 @@ pub fn echelon_exists()
         → (rows : List (List ℕ)) × IsEchelonOf p width generators rows }
 {}
 
-/// A vector has one reduced form: two rows that differ from it by members of the span and are 0 at every pivot are equal.
+/// A vector has one reduced form: two rows that differ from it by members of the span and are 0 at every
+/// pivot are equal.
 pub fn reduced_is_unique()
     ensures { (p width : ℕ) (rows : List (List ℕ)) (v w x : List ℕ) → 1 < p → IsEchelon rows
         → IsRow p width w → IsRow p width x → IsReduced p rows v w → IsReduced p rows v x
@@ -37,17 +40,20 @@ pub fn reduced_is_unique()
 
 /// More rows than places are dependent.
 pub fn dependent_rows()
-    ensures { (p width : ℕ) (rows : List (List ℕ)) → IsFieldModulo p → IsMatrix p width rows → width < length rows
+    ensures { (p width : ℕ) (rows : List (List ℕ)) → IsFieldModulo p → IsMatrix p width rows
+        → width < length rows
         → (u : ℕ → ℕ) × IsInKernel p rows u × (i : ℕ) × (i < length rows) × (u i % p ≢ 0) }
 {}
 
-/// Independent rows of the kernel span it where, with rows whose images are independent, there are as many as places.
+/// Independent rows of the kernel span it where, with rows whose images are independent, there are as many as
+/// places.
 pub fn kernel_by_count()
     ensures { (p : ℕ) (rows kernel chosen images : List (List ℕ)) → IsFieldModulo p
         → IsMatrix p (length rows) kernel → IsMatrix p (length rows) chosen
         → length kernel + length chosen ≡ length rows → length images ≡ length chosen
         → ((i : ℕ) → i < length kernel → IsInKernel p rows (entry (row kernel i))) → IsIndependent p kernel
-        → ((i : ℕ) → i < length chosen → IsCombination p (entry (row chosen i)) rows (entry (row images i))) → IsIndependent p images
+        → ((i : ℕ) → i < length chosen
+        → IsCombination p (entry (row chosen i)) rows (entry (row images i))) → IsIndependent p images
         → (u : List ℕ) → IsRow p (length rows) u → IsInKernel p rows (entry u) → IsInSpan p kernel (entry u) }
 {}
 
@@ -59,7 +65,8 @@ pub fn greedy_exists()
 
 /// The greedy complement is one list.
 pub fn greedy_is_unique()
-    ensures { (p : ℕ) (s t : List (List ℕ)) (xs ys : List ℕ) → IsGreedy p s t xs → IsGreedy p s t ys → xs ≡ ys }
+    ensures { (p : ℕ) (s t : List (List ℕ)) (xs ys : List ℕ) → IsGreedy p s t xs → IsGreedy p s t ys
+        → xs ≡ ys }
 {}
 
 /// Each list of rows has a reduced row echelon basis of its kernel.
@@ -70,12 +77,14 @@ pub fn kernel_exists()
 
 /// The reduced row echelon basis of the kernel is one list.
 pub fn kernel_is_unique()
-    ensures { (p : ℕ) (rows kernel other : List (List ℕ)) → 1 < p → IsKernelOf p rows kernel → IsKernelOf p rows other → kernel ≡ other }
+    ensures { (p : ℕ) (rows kernel other : List (List ℕ)) → 1 < p → IsKernelOf p rows kernel
+        → IsKernelOf p rows other → kernel ≡ other }
 {}
 
 /// Each member of the span has a preimage that is 0 at the pivots of the kernel.
 pub fn preimage_exists()
-    ensures { (p : ℕ) (rows kernel : List (List ℕ)) (target : List ℕ) → 1 < p → IsKernelOf p rows kernel → IsInSpan p rows (entry target)
+    ensures { (p : ℕ) (rows kernel : List (List ℕ)) (target : List ℕ) → 1 < p → IsKernelOf p rows kernel
+        → IsInSpan p rows (entry target)
         → (u : List ℕ) × IsPreimage p rows kernel target u }
 {}
 

@@ -1,7 +1,9 @@
 -- The moves by generators span what all moves span.
-use Rattle.std.proofs.Common.{◌≡◌, ℕ, zero, suc, ◌+◌, ◌-◌, ◌<◌, ◌≤◌, ◌⊎◌, List, [], ◌∷◌, ◌++◌, length, map, get_or, inl, inr, arith, ap, ap₂, sym, ◌∙◌, refl}
+use Rattle.std.proofs.Common.{◌≡◌, ℕ, zero, suc, ◌+◌, ◌-◌, ◌<◌, ◌≤◌, ◌⊎◌, List, [], ◌∷◌, ◌++◌, length, map}
+use Rattle.std.proofs.Common.{get_or, inl, inr, arith, ap, ap₂, sym, ◌∙◌, refl}
 use Rattle.std.proofs.lemmas.Bool.{cases_lt}
-use Rattle.std.proofs.lemmas.List.{get_or_append_left, get_or-append-add, length-append, length-map, get_or-map}
+use Rattle.std.proofs.lemmas.List.{get_or_append_left, get_or-append-add, length-append, length-map}
+use Rattle.std.proofs.lemmas.List.{get_or-map}
 use mathlib.Core.Path.{subst, fun_ext}
 use Rattle.group_modules.specs.Module.{Module, sub, times}
 use Rattle.group_modules.proofs.Laws.{sub-add, map-times, sub-self, sub-back}
@@ -13,12 +15,14 @@ use Rattle.group_modules.proofs.SumLaws.{map-total}
 use Rattle.augmentation_ideal.specs.Radical.{Moved, none, both, moved, IsSubmodule}
 use Rattle.linear_algebra.specs.Rows.{entry, row, IsMatrix, IsInSpan, AreInSpan, IsEchelonOf}
 use Rattle.linear_algebra.specs.Choices.{IsGreedy}
-use Rattle.linear_algebra.proofs.Spans.{in_span_congruent, in_span_zero, in_span_row, in_span_add, are_in_span_trans}
+use Rattle.linear_algebra.proofs.Spans.{in_span_congruent, in_span_zero, in_span_row, in_span_add}
+use Rattle.linear_algebra.proofs.Spans.{are_in_span_trans}
 use Rattle.linear_algebra.proofs.Congruences.{congruent_trans, congruent_eq, congruent_sym}
 use Rattle.linear_algebra.proofs.GreedyChoice.{in-left, in-right, greedy-same-span}
 use Rattle.radical_layers.specs.Coordinates.{RowForm}
 use Rattle.radical_layers.specs.Moves.{move_row, moves_by, moves}
-use Rattle.radical_layers.proofs.Bridge.{at, at-zero, from-span, span-total, moves-matrix, moved-from-span, span-from-moved}
+use Rattle.radical_layers.proofs.Bridge.{at, at-zero, from-span, span-total, moves-matrix, moved-from-span}
+use Rattle.radical_layers.proofs.Bridge.{span-from-moved}
 use Rattle.min_res.specs.Products.{IsProductOf, unit, times as more, Generate, numbers}
 
 -- the product and the unit of Γ, on numbers

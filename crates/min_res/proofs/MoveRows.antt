@@ -1,5 +1,6 @@
 -- The rows of (g - 1) v, one after another.
-use Rattle.std.proofs.Common.{◌≡◌, ℕ, suc, ◌+◌, ◌-◌, ◌*◌, ◌<◌, List, [], ◌∷◌, ◌++◌, length, map, get_or, take, append_assoc, arith, ap, ap₂, sym, ◌∙◌}
+use Rattle.std.proofs.Common.{◌≡◌, ℕ, suc, ◌+◌, ◌-◌, ◌*◌, ◌<◌, List, [], ◌∷◌, ◌++◌, length, map, get_or, take}
+use Rattle.std.proofs.Common.{append_assoc, arith, ap, ap₂, sym, ◌∙◌}
 use Rattle.std.proofs.lemmas.List.{map-append, append-nil, length-map, get_or-map}
 use Rattle.std.proofs.Math.Seq.{take-suc, take-length}
 use mathlib.Core.Path.{subst}

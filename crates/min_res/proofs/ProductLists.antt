@@ -1,8 +1,10 @@
 -- Lists of products of group elements.
-use Rattle.std.proofs.Common.{◌≡◌, ◌≢◌, ℕ, ◌+◌, ◌<◌, ◌⊎◌, List, [], ◌∷◌, ◌++◌, length, get_or, set, Bool, true, false, inl, inr, arith, sym, ◌∙◌, refl}
+use Rattle.std.proofs.Common.{◌≡◌, ◌≢◌, ℕ, ◌+◌, ◌<◌, ◌⊎◌, List, [], ◌∷◌, ◌++◌, length, get_or, set, Bool}
+use Rattle.std.proofs.Common.{true, false, inl, inr, arith, sym, ◌∙◌, refl}
 use Rattle.std.specs.Prelude.{Contains}
 use Rattle.std.proofs.lemmas.Bool.{cases_eq}
-use Rattle.std.proofs.lemmas.List.{get_or_append_left, length_push, get_or_push, get_or-set_other, get_or_default}
+use Rattle.std.proofs.lemmas.List.{get_or_append_left, length_push, get_or_push, get_or-set_other}
+use Rattle.std.proofs.lemmas.List.{get_or_default}
 use Rattle.std.proofs.lemmas.List.Elements.{All-push}
 use mathlib.Core.Path.{subst}
 use Rattle.group_table.specs.Tables.{GroupTable, IsGroupTable, order, product}

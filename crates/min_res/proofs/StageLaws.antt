@@ -20,7 +20,8 @@ use Rattle.resolution_stages.specs.Chain.{parts_of}
 use Rattle.resolution_stages.proofs.NextList.{list-of-submodule}
 use Rattle.resolution_stages.proofs.ChainLaws.{next-of, stage-claims}
 use Rattle.resolution_stages.proofs.Unique.{next-is-one}
-use Rattle.resolution_stages.proofs.FromDefinitions.{kernel-is-submodule, stage-basis, onto, fewest-rows, rows}
+use Rattle.resolution_stages.proofs.FromDefinitions.{kernel-is-submodule, stage-basis, onto, fewest-rows}
+use Rattle.resolution_stages.proofs.FromDefinitions.{rows}
 use Rattle.p_groups.specs.PGroups.{PGroup, largest_residue, group}
 use Rattle.p_groups.proofs.Fields.{field, prime_power}
 use Rattle.group_algebra.specs.Coordinates.{layer_coordinates}

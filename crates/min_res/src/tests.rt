@@ -159,7 +159,8 @@ fn has_first_value(alloc: Global, stage: &Stage, value: &[u8]) -> Result<bool, F
     Ok(shows(image.view(), value))
 }
 
-// In the basis 1, g - 1 of the group of two elements the boundary of degree 1 takes 1 to g - 1, and g - 1 to 0.
+// In the basis 1, g - 1 of the group of two elements the boundary of degree 1 takes 1 to g - 1, and g - 1 to
+// 0.
 #[test]
 fn reads_the_stage_of_two_elements(rt: HostRuntime) -> Result<(), Fail> {
     let resolution = resolved(&rt, rt.alloc(), SmallGroup::Two, 1)?;

@@ -1,12 +1,16 @@
 -- Vectors with different heads, each 0 at the heads before it.
-use Rattle.std.proofs.Common.{◌≡◌, ◌≢◌, ℕ, zero, suc, ◌+◌, ◌*◌, ◌-◌, ◌%◌, ◌<◌, ◌≤◌, ◌⊎◌, List, [], ◌∷◌, ◌++◌, length, inl, inr, arith, ap, sym, ◌∙◌}
+use Rattle.std.proofs.Common.{◌≡◌, ◌≢◌, ℕ, zero, suc, ◌+◌, ◌*◌, ◌-◌, ◌%◌, ◌<◌, ◌≤◌, ◌⊎◌, List, [], ◌∷◌, ◌++◌}
+use Rattle.std.proofs.Common.{length, inl, inr, arith, ap, sym, ◌∙◌}
 use Rattle.std.proofs.lemmas.Bool.{cases_eq, cases_lt, cases_order}
 use Rattle.std.proofs.lemmas.List.{length_push, ext_get_or}
 use Rattle.linear_algebra.specs.Modular.{IsCongruent, IsFieldModulo}
 use Rattle.linear_algebra.specs.Rows.{entry, row, pivot, add_multiple, IsRow, IsInSpan, IsReduced}
-use Rattle.linear_algebra.proofs.Congruences.{congruent_refl, congruent_add, congruent_trans, congruent_eq, congruent_sym, congruent_mul_right, congruent_minus, congruent_cancel, same_below, to_congruent}
+use Rattle.linear_algebra.proofs.Congruences.{congruent_refl, congruent_add, congruent_trans, congruent_eq}
+use Rattle.linear_algebra.proofs.Congruences.{congruent_sym, congruent_mul_right, congruent_minus}
+use Rattle.linear_algebra.proofs.Congruences.{congruent_cancel, same_below, to_congruent}
 use Rattle.linear_algebra.proofs.Sums.{sum_below-one, sum_below-vanishes}
-use Rattle.linear_algebra.proofs.Spans.{in_span_congruent, in_span_row, in_span_add, in_span_zero, row_push, row_before_push}
+use Rattle.linear_algebra.proofs.Spans.{in_span_congruent, in_span_row, in_span_add, in_span_zero, row_push}
+use Rattle.linear_algebra.proofs.Spans.{row_before_push}
 use Rattle.linear_algebra.proofs.AddedRow.{in_span_left, in_span_right}
 use Rattle.linear_algebra.proofs.Reducing.{IsReducedUpTo, add_multiple_is_row, entry_congruent}
 use Rattle.neg_basis.specs.Bases.{IsBasis, IsReducedMultiple}

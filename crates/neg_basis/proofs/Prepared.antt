@@ -1,10 +1,12 @@
 -- A reduced vector, scaled to 1 at its head.
-use Rattle.std.proofs.Common.{◌≡◌, ℕ, ◌*◌, ◌-◌, ◌%◌, ◌<◌, ◌≤◌, List, length, map, arith, inl, inr, ap, sym, ◌∙◌, refl}
+use Rattle.std.proofs.Common.{◌≡◌, ℕ, ◌*◌, ◌-◌, ◌%◌, ◌<◌, ◌≤◌, List, length, map, arith, inl, inr, ap, sym}
+use Rattle.std.proofs.Common.{◌∙◌, refl}
 use Rattle.std.proofs.lemmas.List.{length-map, length_push, get_or_past, get_or-replicate, length-replicate}
 use Rattle.std.proofs.Math.Nat.{mod-lt, mod-eq_of_lt, zero-mod}
 use Rattle.linear_algebra.specs.Modular.{IsCongruent, IsFieldModulo}
 use Rattle.linear_algebra.specs.Rows.{entry, row, pivot, add_multiple, IsRow, IsInSpan, IsReduced}
-use Rattle.linear_algebra.proofs.Congruences.{congruent_refl, congruent_add, congruent_trans, congruent_eq, congruent_sym, congruent_mod}
+use Rattle.linear_algebra.proofs.Congruences.{congruent_refl, congruent_add, congruent_trans, congruent_eq}
+use Rattle.linear_algebra.proofs.Congruences.{congruent_sym, congruent_mod}
 use Rattle.linear_algebra.proofs.Spans.{in_span_congruent, in_span_add, in_span_zero}
 use Rattle.std.proofs.Common.{replicate, ◌⊎◌}
 use Rattle.std.proofs.lemmas.Bool.{cases_lt}

@@ -2,8 +2,10 @@
 use Rattle.std.proofs.Common.{ℕ, zero, suc, ◌+◌, ◌*◌, ◌<◌, List, [], ◌∷◌, ◌++◌, length, arith}
 use Rattle.linear_algebra.specs.Modular.{IsCongruent, sum_below}
 use Rattle.linear_algebra.specs.Rows.{entry, row, combination, IsInSpan}
-use Rattle.linear_algebra.proofs.Congruences.{congruent_refl, congruent_add, congruent_trans, congruent_eq, congruent_sym, congruent_cancel}
-use Rattle.linear_algebra.proofs.Spans.{in_span_congruent, in_span_add, in_span_zero, in_span_trans, in_span_pushed, are_in_span_push, are_in_span_trans}
+use Rattle.linear_algebra.proofs.Congruences.{congruent_refl, congruent_add, congruent_trans, congruent_eq}
+use Rattle.linear_algebra.proofs.Congruences.{congruent_sym, congruent_cancel}
+use Rattle.linear_algebra.proofs.Spans.{in_span_congruent, in_span_add, in_span_zero, in_span_trans}
+use Rattle.linear_algebra.proofs.Spans.{in_span_pushed, are_in_span_push, are_in_span_trans}
 use Rattle.neg_basis.specs.Maps.{IsClosed, IsInSubmodule}
 use Rattle.linear_algebra.specs.Maps.{IsLinear}
 

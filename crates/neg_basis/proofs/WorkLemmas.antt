@@ -1,11 +1,14 @@
 -- The turns of the worklist.
-use Rattle.std.proofs.Common.{◌≡◌, ℕ, ◌+◌, ◌-◌, ◌<◌, ◌≤◌, ◌⊎◌, List, [], ◌∷◌, ◌++◌, length, take, inl, inr, arith, ap, sym, ◌∙◌, refl}
+use Rattle.std.proofs.Common.{◌≡◌, ℕ, ◌+◌, ◌-◌, ◌<◌, ◌≤◌, ◌⊎◌, List, [], ◌∷◌, ◌++◌, length, take, inl, inr}
+use Rattle.std.proofs.Common.{arith, ap, sym, ◌∙◌, refl}
 use Rattle.std.proofs.lemmas.Bool.{cases_eq, cases_lt}
-use Rattle.std.proofs.lemmas.List.{take_more, take-append-le, take_all, length_push, get_or_push, get_or_append_left}
+use Rattle.std.proofs.lemmas.List.{take_more, take-append-le, take_all, length_push, get_or_push}
+use Rattle.std.proofs.lemmas.List.{get_or_append_left}
 use Rattle.linear_algebra.specs.Modular.{IsCongruent, IsFieldModulo}
 use Rattle.linear_algebra.specs.Rows.{entry, row, IsInSpan, AreInSpan}
 use Rattle.linear_algebra.proofs.Congruences.{congruent_refl, congruent_add, congruent_mul_left}
-use Rattle.linear_algebra.proofs.Spans.{in_span_congruent, in_span_trans, in_span_pushed, are_in_span_push, are_in_span_with, are_in_span_trans, row_push, row_before_push}
+use Rattle.linear_algebra.proofs.Spans.{in_span_congruent, in_span_trans, in_span_pushed, are_in_span_push}
+use Rattle.linear_algebra.proofs.Spans.{are_in_span_with, are_in_span_trans, row_push, row_before_push}
 use Rattle.neg_basis.specs.Maps.{IsInSubmodule}
 use Rattle.linear_algebra.specs.Maps.{IsLinear}
 use Rattle.neg_basis.specs.Bases.{IsBasis, IsReducedMultiple}
@@ -14,8 +17,10 @@ use Rattle.neg_basis.specs.Results.{IsNegBasisOf}
 use Rattle.neg_basis.specs.Turns.{IsNew, IsAdded, IsWorked}
 use Rattle.neg_basis.specs.declared.origin.Origin.{Origin}
 use Rattle.neg_basis.specs.declared.origin.Origin.TheVariants.{Chosen, Step}
-use Rattle.neg_basis.proofs.BasisLemmas.{no_vectors, basis_push, in_span_with_new, new_in_span, new_not_in_span}
-use Rattle.neg_basis.proofs.SubmoduleLemmas.{closed, submodule_span, submodule_image, submodule_more, submodule_last}
+use Rattle.neg_basis.proofs.BasisLemmas.{no_vectors, basis_push, in_span_with_new, new_in_span}
+use Rattle.neg_basis.proofs.BasisLemmas.{new_not_in_span}
+use Rattle.neg_basis.proofs.SubmoduleLemmas.{closed, submodule_span, submodule_image, submodule_more}
+use Rattle.neg_basis.proofs.SubmoduleLemmas.{submodule_last}
 
 -- the list of origins with one more
 origin_last : (origins : List Origin) (o : Origin) → origin_at (origins ++ o ∷ []) (length origins) ≡ o

@@ -5,7 +5,8 @@ use Rattle.graded_polynomials.specs.Polynomials.{Polynomial}
 use Rattle.gc_poly.specs.Generators.{Generators}
 use Rattle.gc_poly.specs.Polynomials.{IsOverGenerators}
 use Rattle.param_test.specs.Counting.{number}
-use Rattle.param_test.specs.Finiteness.{AreVariables, AllInIdeal, AreCounted, IsPassedOver, IsYes, IsNo, IsTooMany}
+use Rattle.param_test.specs.Finiteness.{AreVariables, AllInIdeal, AreCounted, IsPassedOver, IsYes, IsNo}
+use Rattle.param_test.specs.Finiteness.{IsTooMany}
 use Rattle.param_test.proofs.Counts.{counted}
 use Rattle.param_test.proofs.Later.{none-before}
 use Rattle.param_test.proofs.Numbers.{number-one}

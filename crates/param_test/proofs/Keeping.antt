@@ -1,5 +1,6 @@
 -- Polynomials without the terms in other generators, as polynomials in the variables.
-use Rattle.std.proofs.Common.{◌≡◌, ℕ, zero, suc, ◌+◌, ◌<◌, ◌≤◌, List, [], ◌∷◌, ◌++◌, take, true, false, ◌⊎◌, inl, inr, Some, slice_get, map, add-one, arith, ap, sym, subst, ◌∙◌, refl}
+use Rattle.std.proofs.Common.{◌≡◌, ℕ, zero, suc, ◌+◌, ◌<◌, ◌≤◌, List, [], ◌∷◌, ◌++◌, take, true, false, ◌⊎◌}
+use Rattle.std.proofs.Common.{inl, inr, Some, slice_get, map, add-one, arith, ap, sym, subst, ◌∙◌, refl}
 use Rattle.std.specs.Prelude.{All, AllPairs, option_map}
 use Rattle.std.specs.List.{AllByRecursion as Each}
 use Rattle.std.proofs.lemmas.Bool.{cases_Bool}
@@ -13,7 +14,8 @@ use Rattle.graded_polynomials.proofs.Stored.{Descending, descending-from, polyno
 use Rattle.gc_poly.specs.Generators.{Generators, greatest}
 use Rattle.gc_poly.specs.Polynomials.{IsOverGenerators, IsMonomialOf, IsSumOf}
 use Rattle.gc_poly.proofs.SumLemmas.{take-term}
-use Rattle.param_test.specs.Variables.{is_variable, is_in_variables, restricted, kept_terms, kept, all_kept, variables}
+use Rattle.param_test.specs.Variables.{is_variable, is_in_variables, restricted, kept_terms, kept, all_kept}
+use Rattle.param_test.specs.Variables.{variables}
 use Rattle.param_test.proofs.Lists.{each-both, each-take}
 use Rattle.param_test.proofs.Restricting.{zero-of, both, monomial-restricted}
 

@@ -1,12 +1,15 @@
 -- What lies in the ideal in one degree lies there in each later degree.
-use Rattle.std.proofs.Common.{◌≡◌, ◌≢◌, ℕ, zero, suc, ◌+◌, ◌-◌, ◌*◌, ◌≤◌, List, [], ◌∷◌, ◌++◌, map, true, ◌⊎◌, inl, inr, arith, ap, ap₂, sym, subst, ◌∙◌, refl}
+use Rattle.std.proofs.Common.{◌≡◌, ◌≢◌, ℕ, zero, suc, ◌+◌, ◌-◌, ◌*◌, ◌≤◌, List, [], ◌∷◌, ◌++◌, map, true, ◌⊎◌}
+use Rattle.std.proofs.Common.{inl, inr, arith, ap, ap₂, sym, subst, ◌∙◌, refl}
 use Rattle.std.specs.Prelude.{All}
 use Rattle.std.specs.List.{AllByRecursion as Each}
 use Rattle.std.proofs.lemmas.List.Elements.{recursion_from_All}
 use Rattle.linear_algebra.specs.Modular.{IsCongruent}
 use Rattle.linear_algebra.proofs.Congruences.{congruent_eq, congruent_trans, congruent_mul_left}
-use Rattle.graded_polynomials.specs.Monomials.{joined, degree, fits, sign, swaps, IsWithin, IsTrimmed, IsMonomial}
-use Rattle.graded_polynomials.specs.Polynomials.{Term, Polynomial, Multiple, coefficient, multiple, total, IsSame, IsMultiple, IsOneOf, IsOver, IsInIdeal}
+use Rattle.graded_polynomials.specs.Monomials.{joined, degree, fits, sign, swaps, IsWithin, IsTrimmed}
+use Rattle.graded_polynomials.specs.Monomials.{IsMonomial}
+use Rattle.graded_polynomials.specs.Polynomials.{Term, Polynomial, Multiple, coefficient, multiple, total}
+use Rattle.graded_polynomials.specs.Polynomials.{IsSame, IsMultiple, IsOneOf, IsOver, IsInIdeal}
 use Rattle.graded_polynomials.proofs.Monomials.{degree-joined, monomial-joined, over-total}
 use Rattle.graded_algebra.proofs.Ideals.{degree-nil}
 use Rattle.graded_algebra.proofs.Division.{coefficient-multiple, multiple-occurs}

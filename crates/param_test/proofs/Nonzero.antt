@@ -1,9 +1,11 @@
 -- The polynomial 0 adds nothing to an ideal.
-use Rattle.std.proofs.Common.{◌≡◌, ℕ, ◌+◌, ◌<◌, List, [], ◌∷◌, ◌++◌, length, take, get_or, true, false, not, cond, eqb, ◌⊎◌, inl, inr, arith, ap, sym, subst, ◌∙◌, refl}
+use Rattle.std.proofs.Common.{◌≡◌, ℕ, ◌+◌, ◌<◌, List, [], ◌∷◌, ◌++◌, length, take, get_or, true, false, not}
+use Rattle.std.proofs.Common.{cond, eqb, ◌⊎◌, inl, inr, arith, ap, sym, subst, ◌∙◌, refl}
 use Rattle.std.specs.List.{AllByRecursion as Each}
 use Rattle.std.proofs.lemmas.Bool.{cases_Bool}
 use Rattle.std.proofs.lemmas.List.{take_more, append-nil}
-use Rattle.graded_polynomials.specs.Polynomials.{Term, Polynomial, Multiple, multiple, total, IsSame, IsMultiple, IsOneOf, IsInIdeal}
+use Rattle.graded_polynomials.specs.Polynomials.{Term, Polynomial, Multiple, multiple, total, IsSame}
+use Rattle.graded_polynomials.specs.Polynomials.{IsMultiple, IsOneOf, IsInIdeal}
 use Rattle.graded_polynomials.proofs.Terms.{eqb-true, false≢true}
 use Rattle.graded_algebra.proofs.Ideals.{ideal-more}
 use Rattle.param_test.specs.Nonzero.{has_terms, nonzero}

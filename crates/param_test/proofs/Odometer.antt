@@ -1,9 +1,11 @@
-use Rattle.std.proofs.Common.{◌≡◌, ℕ, zero, suc, ◌+◌, ◌<◌, ◌≤◌, ◌⊎◌, inl, inr, List, [], ◌∷◌, ◌++◌, length, refl, ap, sym, ◌∙◌, subst, arith}
+use Rattle.std.proofs.Common.{◌≡◌, ℕ, zero, suc, ◌+◌, ◌<◌, ◌≤◌, ◌⊎◌, inl, inr, List, [], ◌∷◌, ◌++◌, length}
+use Rattle.std.proofs.Common.{refl, ap, sym, ◌∙◌, subst, arith}
 use Rattle.std.specs.List.{AllByRecursion as Each}
 use Rattle.std.proofs.lemmas.Bool.{cases_lt}
 use Rattle.param_test.specs.Firsts.{IsLess}
 use Rattle.param_test.specs.Tuples.{Ascends}
-use Rattle.param_test.specs.Odometers.{AreDigits, AreTop, AreOnes, IsTurned, run, IsLast, IsShifted, Precedes, IsSparse, IsSuccessor}
+use Rattle.param_test.specs.Odometers.{AreDigits, AreTop, AreOnes, IsTurned, run, IsLast, IsShifted, Precedes}
+use Rattle.param_test.specs.Odometers.{IsSparse, IsSuccessor}
 use Rattle.param_test.proofs.Places.{less-trans}
 use Rattle.param_test.proofs.Steps.{room-le}
 

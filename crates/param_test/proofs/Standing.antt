@@ -1,13 +1,16 @@
 -- Where the walk stands after each move of the loop.
-use Rattle.std.proofs.Common.{◌≡◌, ◌≢◌, ℕ, suc, ◌+◌, ◌-◌, ◌*◌, ◌<◌, ◌≤◌, inl, List, [], ◌∷◌, ◌++◌, length, refl, ap, sym, ◌∙◌, subst, arith}
+use Rattle.std.proofs.Common.{◌≡◌, ◌≢◌, ℕ, suc, ◌+◌, ◌-◌, ◌*◌, ◌<◌, ◌≤◌, inl, List, [], ◌∷◌, ◌++◌, length}
+use Rattle.std.proofs.Common.{refl, ap, sym, ◌∙◌, subst, arith}
 use Rattle.std.specs.Prelude.{slice_index, All}
 use Rattle.param_test.specs.Firsts.{IsFirstPassing, NonePasses}
 use Rattle.param_test.specs.Tuples.{Ascends, IsTuple, IsBefore, total, AreByDegree}
 use Rattle.param_test.specs.Walks.{least, Fits, IsAt, Stands}
 use Rattle.param_test.proofs.Lists.{length-snoc}
-use Rattle.param_test.proofs.Steps.{ascends-more, ascends-snoc, ascends-front, ascends-all, total-append, total-cons}
+use Rattle.param_test.proofs.Steps.{ascends-more, ascends-snoc, ascends-front, ascends-all, total-append}
+use Rattle.param_test.proofs.Steps.{total-cons}
 use Rattle.param_test.proofs.Heights.{remains, push-less, visit-less, pop-less}
-use Rattle.param_test.proofs.Positions.{at-push, at-skip, at-visit, at-found, at-pop, at-next, at-limit, at-end}
+use Rattle.param_test.proofs.Positions.{at-push, at-skip, at-visit, at-found, at-pop, at-next, at-limit}
+use Rattle.param_test.proofs.Positions.{at-end}
 
 module _ (ds : List ℕ) (r : ℕ) (Passes : List ℕ → Type 0) (sum : ℕ) where
   pub stands-all : (pre p : List ℕ) (next left : ℕ) → p ≡ pre → Stands ds r Passes sum pre next left

@@ -3,7 +3,8 @@ use Rattle.std.proofs.Common.{◌≡◌, ℕ, ◌+◌, ◌<◌, ◌≤◌, ◌�
 use Rattle.std.specs.List.{AllByRecursion as Each}
 use Rattle.param_test.specs.Firsts.{IsOneOf, AreFirst, IsFirstPassing, NonePasses}
 use Rattle.param_test.specs.Walks.{IsWalked}
-use Rattle.param_test.proofs.Lists.{each-map, each-snoc, ascending-snoc, one-of-left, one-of-last, length-snoc}
+use Rattle.param_test.proofs.Lists.{each-map, each-snoc, ascending-snoc, one-of-left, one-of-last}
+use Rattle.param_test.proofs.Lists.{length-snoc}
 
 module _ {X : Type 0} (In : X → Type 0) (B : X → X → Type 0) (Passes : X → Type 0) where
   -- nothing is past at first

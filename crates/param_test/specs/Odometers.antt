@@ -1,5 +1,6 @@
 -- The next list of coefficients, the next list of positions and the next combination.
-use Rattle.std.specs.Prelude.{◌≡◌, ℕ, zero, suc, ◌+◌, ◌<◌, ◌≤◌, ◌⊎◌, List, [], ◌∷◌, length, drop, take, map, Vec}
+use Rattle.std.specs.Prelude.{◌≡◌, ℕ, zero, suc, ◌+◌, ◌<◌, ◌≤◌, ◌⊎◌, List, [], ◌∷◌, length, drop, take, map}
+use Rattle.std.specs.Prelude.{Vec}
 use Rattle.std.specs.List.{AllByRecursion as Each}
 use Rattle.param_test.specs.Firsts.{IsLess}
 use Rattle.param_test.specs.Tuples.{Ascends}

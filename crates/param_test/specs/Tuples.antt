@@ -1,5 +1,6 @@
 -- Tuples of r different candidates, as ascending lists of their numbers.
-use Rattle.std.specs.Prelude.{◌≡◌, ℕ, suc, ◌<◌, ◌≤◌, ◌⊎◌, Option, List, [], ◌∷◌, length, sum_by, slice_index, MatchOption}
+use Rattle.std.specs.Prelude.{◌≡◌, ℕ, suc, ◌<◌, ◌≤◌, ◌⊎◌, Option, List, [], ◌∷◌, length, sum_by, slice_index}
+use Rattle.std.specs.Prelude.{MatchOption}
 use Rattle.param_test.specs.Firsts.{IsLess, IsFirstPassing, NonePasses}
 
 -- the numbers ascend, from low on and below n

@@ -1,6 +1,7 @@
 //! The monomials of a degree in the variables.
 
-ghost use Rattle.std.specs.Prelude.{◌≡◌, ◌+◌, ◌-◌, ◌*◌, ◌<◌, ◌≤◌, ◌++◌, map, drop, length, IfOk, OnOk, false, ℕ, slice_index};
+ghost use Rattle.std.specs.Prelude.{◌≡◌, ◌+◌, ◌-◌, ◌*◌, ◌<◌, ◌≤◌, ◌++◌, map, drop, length, IfOk, OnOk, false};
+ghost use Rattle.std.specs.Prelude.{ℕ, slice_index};
 ghost use Rattle.graded_polynomials.specs.Monomials.{is_exterior, IsTrimmed, IsMonomials};
 ghost use Rattle.graded_polynomials.specs.AllMonomials.{all_monomials};
 ghost use Rattle.gc_poly.specs.Generators.{greatest, AreOrdered};

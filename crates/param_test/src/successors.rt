@@ -2,7 +2,8 @@
 
 ghost use Rattle.std.specs.Prelude.{◌≡◌, true, false, ◌+◌, ◌<◌, ◌^◌, length, IfOk, OnOk};
 ghost use Rattle.std.specs.List.{AllByRecursion as Each};
-ghost use Rattle.param_test.specs.Odometers.{AreDigits, AreTop, AreOnes, IsTurned, run, IsLast, IsShifted, IsSparse, IsSuccessor, IsEnd};
+ghost use Rattle.param_test.specs.Odometers.{AreDigits, AreTop, AreOnes, IsTurned, run, IsLast, IsShifted};
+ghost use Rattle.param_test.specs.Odometers.{IsSparse, IsSuccessor, IsEnd};
 
 use group_table::Memory;
 

@@ -1,6 +1,7 @@
 //! The walk through the tuples of candidates, by total degree and then place by place.
 
-ghost use Rattle.std.specs.Prelude.{◌≡◌, ℕ, true, false, ◌+◌, ◌-◌, ◌*◌, ◌<◌, ◌≤◌, [], ◌∷◌, ◌++◌, length, slice_index, All, IfOk, MatchOption};
+ghost use Rattle.std.specs.Prelude.{◌≡◌, ℕ, true, false, ◌+◌, ◌-◌, ◌*◌, ◌<◌, ◌≤◌, [], ◌∷◌, ◌++◌, length};
+ghost use Rattle.std.specs.Prelude.{slice_index, All, IfOk, MatchOption};
 ghost use Rattle.param_test.specs.Firsts.{IsFirstPassing, NonePasses};
 ghost use Rattle.param_test.specs.Tables.{degrees_of};
 ghost use Rattle.param_test.specs.Parameters.{Passes};

@@ -1,5 +1,8 @@
 -- Collection keeps the product.
-use Rattle.std.proofs.Common.{◌≡◌, ℕ, zero, suc, ◌+◌, ◌-◌, ◌^◌, ◌<◌, ◌≤◌, ◌⊎◌, inl, inr, true, false, leb, refl, sym, ◌∙◌, ap, ap₂, subst, arith, List, [], ◌∷◌, ◌++◌, length, get_or, take, drop, append_assoc, length-take, length-drop, length-append, replicate, drop-cons}
+use Rattle.std.proofs.Common.{◌≡◌, ℕ, zero, suc, ◌+◌, ◌-◌, ◌^◌, ◌<◌, ◌≤◌, ◌⊎◌, inl, inr, true, false, leb}
+use Rattle.std.proofs.Common.{refl, sym, ◌∙◌, ap, ap₂, subst, arith, List, [], ◌∷◌, ◌++◌, length, get_or}
+use Rattle.std.proofs.Common.{take, drop, append_assoc, length-take, length-drop, length-append, replicate}
+use Rattle.std.proofs.Common.{drop-cons}
 use Rattle.std.specs.List.{All, refill}
 use Rattle.std.proofs.Math.Nat.{pow-le-pow_left}
 use Rattle.std.proofs.lemmas.Nat.{pow_below}
@@ -7,11 +10,14 @@ use Rattle.std.proofs.lemmas.Bool.Decides.{leb_tells}
 use Rattle.std.proofs.Math.Seq.{take-suc, take-suc-set, take-append_seam}
 use Rattle.std.proofs.Math.ListN.{set, drop_of_length-le}
 use Rattle.std.proofs.lemmas.List.{take-append-drop, length-replicate, length-set, get_or-take}
-use Rattle.std.proofs.lemmas.List.Elements.{All-nil, All-cons, All-head, All-tail, All-append, All-take, All-drop, All-get_or, All-replicate, All-weaker}
-use Rattle.power_commutator.specs.Presentations.{Presentation as Presented, IsWord, IsPresentation, multiply, generator, power_word, commutator_word}
+use Rattle.std.proofs.lemmas.List.Elements.{All-nil, All-cons, All-head, All-tail, All-append, All-take}
+use Rattle.std.proofs.lemmas.List.Elements.{All-drop, All-get_or, All-replicate, All-weaker}
+use Rattle.power_commutator.specs.Presentations.{Presentation as Presented, IsWord, IsPresentation, multiply}
+use Rattle.power_commutator.specs.Presentations.{generator, power_word, commutator_word}
 use Rattle.power_commutator.specs.Claims.{GroupClaims}
 use Rattle.power_commutator.specs.Collect.{product_of, copies, spell}
-use Rattle.power_commutator.proofs.Collecting.{product-append, product-spell, product-last, product-word, generator-word, power-step, swap-step}
+use Rattle.power_commutator.proofs.Collecting.{product-append, product-spell, product-last, product-word}
+use Rattle.power_commutator.proofs.Collecting.{generator-word, power-step, swap-step}
 use Rattle.pc_group.specs.Collection.{passed}
 
 -- a consistent presentation has few generators

@@ -1,7 +1,8 @@
 -- The tests of the layers from the last one down.
 use Rattle.std.proofs.Common.{◌≡◌, ℕ, suc, ◌∙◌, subst, subst₂, ◌+◌, ◌-◌, ◌<◌, arith, Option, Some, None}
 use Rattle.power_commutator.specs.declared.TestName.{TestName}
-use Rattle.power_commutator.specs.Presentations.{Presentation as Presented, product, tests, equations, first_false, first_fault}
+use Rattle.power_commutator.specs.Presentations.{Presentation as Presented, product, tests, equations}
+use Rattle.power_commutator.specs.Presentations.{first_false, first_fault}
 use Rattle.power_commutator.proofs.Steps.{first-skip, layer-fault}
 use Rattle.pc_group.specs.declared.square.Square.{Square}
 use Rattle.pc_group.specs.Squares.{IsTableOf}

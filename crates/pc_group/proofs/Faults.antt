@@ -1,11 +1,16 @@
 -- What the numbers of a layer tell of its tests.
-use Rattle.std.proofs.Common.{◌≡◌, ℕ, suc, sym, ◌∙◌, ap, ap₂, subst, ◌+◌, ◌-◌, ◌*◌, ◌^◌, ◌<◌, ◌≤◌, arith, true, false, eqb, List, get_or, drop, map, Some, None, eq-eqb, ne_eqb, ◌⊎◌, inl, inr}
-use Rattle.power_commutator.specs.Presentations.{Presentation as Presented, Equation, pow, iterate, product, power_test, swap_test, fixed_test, twist_test, number, power_word, commutator_word, range, first_false}
+use Rattle.std.proofs.Common.{◌≡◌, ℕ, suc, sym, ◌∙◌, ap, ap₂, subst, ◌+◌, ◌-◌, ◌*◌, ◌^◌, ◌<◌, ◌≤◌, arith}
+use Rattle.std.proofs.Common.{true, false, eqb, List, get_or, drop, map, Some, None, eq-eqb, ne_eqb, ◌⊎◌, inl}
+use Rattle.std.proofs.Common.{inr}
+use Rattle.power_commutator.specs.Presentations.{Presentation as Presented, Equation, pow, iterate, product}
+use Rattle.power_commutator.specs.Presentations.{power_test, swap_test, fixed_test, twist_test, number}
+use Rattle.power_commutator.specs.Presentations.{power_word, commutator_word, range, first_false}
 use Rattle.power_commutator.specs.Steps.{step_alpha}
 use Rattle.power_commutator.proofs.Cyclic.{less-or}
 use Rattle.power_commutator.proofs.Tuples.{Among}
 use Rattle.power_commutator.proofs.Order.{Passes, none-range, some-range}
-use Rattle.power_commutator.proofs.Program.{power-passes, swap-passes, fixed-passes, twist-passes, iterate-agree}
+use Rattle.power_commutator.proofs.Program.{power-passes, swap-passes, fixed-passes, twist-passes}
+use Rattle.power_commutator.proofs.Program.{iterate-agree}
 use Rattle.pc_group.specs.declared.layer.Layer.{Layer}
 use Rattle.pc_group.specs.Tables.{at}
 use Rattle.pc_group.specs.Squares.{times}

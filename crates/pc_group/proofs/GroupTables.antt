@@ -1,9 +1,12 @@
 -- The table of layer 1 is that of the group of the presentation, in which the relations hold.
-use Rattle.std.proofs.Common.{◌≡◌, ℕ, zero, suc, refl, sym, ◌∙◌, ap, ap₂, subst, subst₂, ◌*◌, ◌^◌, ◌<◌, ◌≤◌, arith, List}
+use Rattle.std.proofs.Common.{◌≡◌, ℕ, zero, suc, refl, sym, ◌∙◌, ap, ap₂, subst, subst₂, ◌*◌, ◌^◌, ◌<◌, ◌≤◌}
+use Rattle.std.proofs.Common.{arith, List}
 use Rattle.group_table.specs.Groups.{IsGroup}
-use Rattle.group_table.specs.Tables.{GroupTable, IsTable, IsGroupTable, order, order_is, product, product_is, power}
+use Rattle.group_table.specs.Tables.{GroupTable, IsTable, IsGroupTable, order, order_is, product, product_is}
+use Rattle.group_table.specs.Tables.{power}
 use Rattle.group_table.proofs.Laws.{commutes-power}
-use Rattle.power_commutator.specs.Presentations.{Presentation as Presented, IsWord, pow, identity, generator, multiply, number, commutator_word}
+use Rattle.power_commutator.specs.Presentations.{Presentation as Presented, IsWord, pow, identity, generator}
+use Rattle.power_commutator.specs.Presentations.{multiply, number, commutator_word}
 use Rattle.power_commutator.specs.Claims.{GroupClaims, table}
 use Rattle.power_commutator.proofs.Program.{first-table}
 use Rattle.power_commutator.proofs.Result.{claims}

@@ -1,8 +1,10 @@
 -- The lists of a layer are those of a presentation's.
-use Rattle.std.proofs.Common.{◌≡◌, ℕ, suc, sym, ◌∙◌, ap, ap₂, subst, subst₂, ◌+◌, ◌-◌, ◌*◌, ◌/◌, ◌%◌, ◌^◌, ◌<◌, ◌≤◌, arith, List, get_or, drop, length, mod-eq_of_lt}
+use Rattle.std.proofs.Common.{◌≡◌, ℕ, suc, sym, ◌∙◌, ap, ap₂, subst, subst₂, ◌+◌, ◌-◌, ◌*◌, ◌/◌, ◌%◌, ◌^◌}
+use Rattle.std.proofs.Common.{◌<◌, ◌≤◌, arith, List, get_or, drop, length, mod-eq_of_lt}
 use Rattle.std.proofs.Math.Nat.{div-lt_iff_lt-mul, div-eq_of_lt, mul-add-mod_self_right, mul-add-div_right}
 use Rattle.std.proofs.lemmas.Nat.{pow-add}
-use Rattle.power_commutator.specs.Presentations.{Presentation as Presented, IsPresentation, ascending, number, word_of, power_word, commutator_word}
+use Rattle.power_commutator.specs.Presentations.{Presentation as Presented, IsPresentation, ascending, number}
+use Rattle.power_commutator.specs.Presentations.{word_of, power_word, commutator_word}
 use Rattle.power_commutator.specs.Steps.{step_alpha}
 use Rattle.pc_group.specs.declared.square.Square.{Square}
 use Rattle.pc_group.specs.declared.word_numbers.WordNumbers.{WordNumbers}

@@ -1,11 +1,15 @@
 -- What a loop over the layers needs: a word's number in a layer, the images from the elements, and the next
 -- layer's table.
-use Rattle.std.proofs.Common.{◌≡◌, ℕ, zero, suc, refl, sym, ◌∙◌, ap, ap₂, ◌+◌, ◌-◌, ◌*◌, ◌/◌, ◌^◌, ◌<◌, ◌≤◌, arith, ◌%◌, ◌⊎◌, inl, inr, subst, List, [], ◌∷◌, ◌++◌, get_or, drop, length, length-append, All, mod-eq_of_lt}
-use Rattle.std.proofs.Math.Nat.{pow-zero, pow-succ', mul-add-div, div-eq_of_lt, div-div-eq-div-mul, div-one, zero-div, mul-add-mod_self_right, mul-add-div_right}
+use Rattle.std.proofs.Common.{◌≡◌, ℕ, zero, suc, refl, sym, ◌∙◌, ap, ap₂, ◌+◌, ◌-◌, ◌*◌, ◌/◌, ◌^◌, ◌<◌, ◌≤◌}
+use Rattle.std.proofs.Common.{arith, ◌%◌, ◌⊎◌, inl, inr, subst, List, [], ◌∷◌, ◌++◌, get_or, drop, length}
+use Rattle.std.proofs.Common.{length-append, All, mod-eq_of_lt}
+use Rattle.std.proofs.Math.Nat.{pow-zero, pow-succ', mul-add-div, div-eq_of_lt, div-div-eq-div-mul, div-one}
+use Rattle.std.proofs.Math.Nat.{zero-div, mul-add-mod_self_right, mul-add-div_right}
 use Rattle.std.proofs.Math.ListN.{get_or-append}
 use Rattle.std.proofs.Math.Seq.{get_or-append_seam}
 use Rattle.std.proofs.lemmas.List.Elements.{All-head, All-tail}
-use Rattle.power_commutator.specs.Presentations.{Presentation, IsPresentation, pow, ascending, number, word_of, power_word, commutator_word}
+use Rattle.power_commutator.specs.Presentations.{Presentation, IsPresentation, pow, ascending, number}
+use Rattle.power_commutator.specs.Presentations.{word_of, power_word, commutator_word}
 use Rattle.power_commutator.specs.Steps.{step_table, step_alpha, IsLayerTable}
 use Rattle.power_commutator.proofs.Cyclic.{less-or}
 use Rattle.power_commutator.proofs.Program.{next-table, same-table, same-step, number-below}

@@ -1,8 +1,11 @@
 -- A presentation made a word at a time keeps the rules for words.
-use Rattle.std.proofs.Common.{◌≡◌, ◌≢◌, ℕ, zero, suc, refl, sym, ◌∙◌, ap, subst, ◌+◌, ◌-◌, ◌<◌, ◌≤◌, arith, List, [], ◌∷◌, ◌++◌, map, length, get_or, set, replicate, All, ◌⊎◌, inl, inr, length-set, get_or-set_same, get_or-set_other}
+use Rattle.std.proofs.Common.{◌≡◌, ◌≢◌, ℕ, zero, suc, refl, sym, ◌∙◌, ap, subst, ◌+◌, ◌-◌, ◌<◌, ◌≤◌, arith}
+use Rattle.std.proofs.Common.{List, [], ◌∷◌, ◌++◌, map, length, get_or, set, replicate, All, ◌⊎◌, inl, inr}
+use Rattle.std.proofs.Common.{length-set, get_or-set_same, get_or-set_other}
 use Rattle.std.proofs.lemmas.List.{length-replicate, get_or-replicate, get_or-map, length-map}
 use Rattle.std.proofs.lemmas.List.Elements.{All-nil, All-cons}
-use Rattle.power_commutator.specs.Presentations.{Presentation as Presented, IsWord, IsPresentation, identity, range}
+use Rattle.power_commutator.specs.Presentations.{Presentation as Presented, IsWord, IsPresentation, identity}
+use Rattle.power_commutator.specs.Presentations.{range}
 use Rattle.power_commutator.proofs.Cyclic.{less-or}
 use Rattle.pc_group.specs.Parts.{elementary_abelian, with_power, with_commutator}
 

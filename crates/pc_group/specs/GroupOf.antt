@@ -1,7 +1,8 @@
 -- The group of a consistent presentation, by the numbers of its elements.
 use Rattle.std.specs.Prelude.{◌≡◌, ℕ, ◌-◌, ◌^◌, ◌<◌, ◌≤◌}
 use Rattle.group_table.specs.Tables.{GroupTable, IsGroupTable, order, product, power}
-use Rattle.power_commutator.specs.Presentations.{Presentation as Presented, number, word_of, multiply, power_word, commutator_word}
+use Rattle.power_commutator.specs.Presentations.{Presentation as Presented, number, word_of, multiply}
+use Rattle.power_commutator.specs.Presentations.{power_word, commutator_word}
 
 -- the number of g_i
 abbrev pub generator_number : Presented → ℕ → ℕ

@@ -1,6 +1,8 @@
 -- What a layer of a presentation is by numbers, and the tests of a layer by kinds.
 use Rattle.std.specs.Prelude.{◌≡◌, ℕ, suc, ◌+◌, ◌-◌, ◌*◌, ◌^◌, ◌<◌, ◌≤◌, List, [], ◌∷◌, map, drop}
-use Rattle.power_commutator.specs.Presentations.{Presentation as Presented, IsPresentation, Equation, number, power_word, commutator_word, product, power_test, swap_test, fixed_test, twist_test, range, pairs}
+use Rattle.power_commutator.specs.Presentations.{Presentation as Presented, IsPresentation, Equation, number}
+use Rattle.power_commutator.specs.Presentations.{power_word, commutator_word, product, power_test, swap_test}
+use Rattle.power_commutator.specs.Presentations.{fixed_test, twist_test, range, pairs}
 use Rattle.power_commutator.specs.Steps.{step_alpha, step_table}
 use Rattle.pc_group.specs.Tables.{at}
 use Rattle.pc_group.specs.Squares.{times, IsTableOf}

@@ -1,6 +1,8 @@
 -- The numbers of a presentation's words, and the answers of its tests.
 use Rattle.std.specs.Prelude.{◌≡◌, ℕ, ◌+◌, ◌*◌, ◌/◌, ◌%◌, ◌^◌, ◌<◌, suc, Result, MatchResult, Some, None}
-use Rattle.power_commutator.specs.Presentations.{Presentation as Presented, number, power_word, commutator_word, product, equations, first_false, first_fault}
+use Rattle.power_commutator.specs.Presentations.{Presentation as Presented, number, power_word}
+use Rattle.power_commutator.specs.Presentations.{commutator_word, product, equations, first_false}
+use Rattle.power_commutator.specs.Presentations.{first_fault}
 use Rattle.power_commutator.specs.declared.TestName.{TestName}
 use Rattle.pc_group.specs.Tables.{Each}
 use Rattle.pc_group.specs.Squares.{IsTableOf}

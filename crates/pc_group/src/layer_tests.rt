@@ -1,7 +1,8 @@
 //! The consistency tests of a layer, each decided by numbers.
 
 ghost use Rattle.std.specs.Prelude.{◌≡◌, ◌<◌, ◌≤◌, ◌+◌, ℕ, suc};
-ghost use Rattle.power_commutator.specs.Presentations.{Presentation as Presented, equations, first_false, product, swap_test};
+ghost use Rattle.power_commutator.specs.Presentations.{Presentation as Presented, equations, first_false};
+ghost use Rattle.power_commutator.specs.Presentations.{product, swap_test};
 ghost use Rattle.power_commutator.specs.Order.{row};
 ghost use Rattle.pc_group.specs.Layers.{IsLayerOf, power_tests, swap_tests, fixed_tests, twist_tests};
 

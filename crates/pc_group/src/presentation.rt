@@ -2,7 +2,8 @@
 
 ghost use Rattle.std.specs.Prelude.{◌≡◌, ◌+◌, ◌<◌, ◌≤◌, IfOk, map, replicate};
 ghost use Rattle.group_table.specs.Prime.{prime_value};
-ghost use Rattle.power_commutator.specs.Presentations.{IsPresentation, IsWord, identity, power_word, commutator_word, range};
+ghost use Rattle.power_commutator.specs.Presentations.{IsPresentation, IsWord, identity, power_word};
+ghost use Rattle.power_commutator.specs.Presentations.{commutator_word, range};
 ghost use Rattle.pc_group.specs.Parts.{elementary_abelian, with_power, with_commutator, exponents};
 
 use group_table::{Memory, Prime};

@@ -1,9 +1,12 @@
 -- The canonical text of a presentation is read as that presentation.
-use Rattle.std.proofs.Common.{◌≡◌, ℕ, suc, ◌-◌, ◌<◌, ◌≤◌, ◌==◌, Bool, true, false, not, cond, List, [], ◌∷◌, map, filter, get_or, length, replicate, All, Some, Ok, refl, sym, ap, ◌∙◌, arith}
+use Rattle.std.proofs.Common.{◌≡◌, ℕ, suc, ◌-◌, ◌<◌, ◌≤◌, ◌==◌, Bool, true, false, not, cond, List, [], ◌∷◌}
+use Rattle.std.proofs.Common.{map, filter, get_or, length, replicate, All, Some, Ok, refl, sym, ap, ◌∙◌}
+use Rattle.std.proofs.Common.{arith}
 use Rattle.std.specs.List.{list_any}
 use Rattle.std.proofs.lemmas.List.Elements.{All-filter, All-map}
 use Rattle.limits.specs.declared.TheConstants.{MOST_GENERATORS}
-use Rattle.power_commutator.specs.Presentations.{Presentation, IsWord, IsPresentation, power_word, commutator_word, range}
+use Rattle.power_commutator.specs.Presentations.{Presentation, IsWord, IsPresentation, power_word}
+use Rattle.power_commutator.specs.Presentations.{commutator_word, range}
 use Rattle.pc_text.specs.declared.place.Place.{Place}
 use Rattle.pc_text.specs.declared.place.Place.TheVariants.{Power, Commutator}
 use Rattle.pc_text.specs.Faults.{◌>>=◌}
@@ -15,7 +18,8 @@ use Rattle.pc_text.specs.Canonical.{places, word_at, relation_at, written, conte
 use Rattle.pc_text.specs.Rules.{IsPlace, IsRelation, IsContent}
 use Rattle.pc_text.specs.Laws.{CanonicalIsRead}
 use Rattle.pc_text.proofs.Given.{map_same}
-use Rattle.pc_text.proofs.PlaceLemmas.{same_is, Ascend, ascend_from, place_number, places_ascend, AscendRelations, ascending_new, places_are, is_among}
+use Rattle.pc_text.proofs.PlaceLemmas.{same_is, Ascend, ascend_from, place_number, places_ascend}
+use Rattle.pc_text.proofs.PlaceLemmas.{AscendRelations, ascending_new, places_are, is_among}
 use Rattle.pc_text.proofs.SpelledWords.{zeros}
 use Rattle.pc_text.proofs.SpelledTexts.{content_read}
 

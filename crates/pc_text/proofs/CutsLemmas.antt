@@ -1,12 +1,14 @@
 -- The text that the program cuts line by line is read as the text of all lines.
-use Rattle.std.proofs.Common.{◌≡◌, ℕ, ◌+◌, List, [], ◌∷◌, drop, Option, Some, None, Result, Ok, Err, refl, ◌∙◌}
+use Rattle.std.proofs.Common.{◌≡◌, ℕ, ◌+◌, List, [], ◌∷◌, drop, Option, Some, None, Result, Ok, Err, refl}
+use Rattle.std.proofs.Common.{◌∙◌}
 use Rattle.std.specs.Prelude.{option_and_then}
 use Rattle.pc_text.specs.declared.fault.Kind.{Kind}
 use Rattle.pc_text.specs.declared.fault.Kind.TheVariants as kind
 use Rattle.pc_text.specs.Faults.{Fault, ◌>>=◌, expect, in_line}
 use Rattle.pc_text.specs.Lines.{Line, lines_from, lines, cut_at}
 use Rattle.pc_text.specs.Words.{by_number}
-use Rattle.pc_text.specs.Texts.{Content, relations, content, reads, first_bytes, header, prime_line, count_line}
+use Rattle.pc_text.specs.Texts.{Content, relations, content, reads, first_bytes, header, prime_line}
+use Rattle.pc_text.specs.Texts.{count_line}
 use Rattle.pc_text.specs.Cuts.{by_cuts, checked}
 use Rattle.pc_text.proofs.CutLemmas.{cut_some, cut_none}
 use Rattle.pc_text.proofs.LineLemmas.{line_ended}

@@ -1,5 +1,8 @@
 -- What is read keeps the rules of a presentation.
-use Rattle.std.proofs.Common.{◌≡◌, ℕ, ◌+◌, ◌-◌, ◌<◌, ◌≤◌, ◌==◌, ◌||◌, Bool, true, false, not, cond, eqb, ltb, List, [], ◌∷◌, ◌++◌, length, set, replicate, drop, All, Option, Some, None, Result, Ok, Err, refl, sym, subst, ap, ◌∙◌, arith, length-set, get_or-set_other, append_assoc, append-nil}
+use Rattle.std.proofs.Common.{◌≡◌, ℕ, ◌+◌, ◌-◌, ◌<◌, ◌≤◌, ◌==◌, ◌||◌, Bool, true, false, not, cond, eqb, ltb}
+use Rattle.std.proofs.Common.{List, [], ◌∷◌, ◌++◌, length, set, replicate, drop, All, Option, Some, None}
+use Rattle.std.proofs.Common.{Result, Ok, Err, refl, sym, subst, ap, ◌∙◌, arith, length-set, get_or-set_other}
+use Rattle.std.proofs.Common.{append_assoc, append-nil}
 use Rattle.std.specs.Prelude.{bytes_eq, codes, is_some, option_and_then, IfOk}
 use Rattle.std.specs.List.{slice_split}
 use Rattle.std.proofs.lemmas.Bool.Decides.{nat_tests}
@@ -16,12 +19,16 @@ use Rattle.pc_text.specs.declared.texts.Content as program
 use Rattle.pc_text.specs.Faults.{Fault, ◌>>=◌, expect, require, in_line}
 use Rattle.pc_text.specs.Lines.{Line, lines, cut_at, after_front}
 use Rattle.pc_text.specs.Numerals.{value, numeral}
-use Rattle.pc_text.specs.Words.{Naming, by_number, g_generator, Factor, both, factor_parts, factor, above, factors, word}
-use Rattle.pc_text.specs.Relations.{Left, PowerOf, CommutatorOf, Shape, Relation, shape, left_side, least, stands, relation}
-use Rattle.pc_text.specs.Texts.{Content, first_bytes, header, prime, prime_line, count_line, relations, content}
+use Rattle.pc_text.specs.Words.{Naming, by_number, g_generator, Factor, both, factor_parts, factor, above}
+use Rattle.pc_text.specs.Words.{factors, word}
+use Rattle.pc_text.specs.Relations.{Left, PowerOf, CommutatorOf, Shape, Relation, shape, left_side, least}
+use Rattle.pc_text.specs.Relations.{stands, relation}
+use Rattle.pc_text.specs.Texts.{Content, first_bytes, header, prime, prime_line, count_line, relations}
+use Rattle.pc_text.specs.Texts.{content}
 use Rattle.pc_text.specs.Views.{TextGives, shown_content}
 use Rattle.pc_text.specs.Rules.{IsPlace, IsRelation, AreNew, IsContent}
-use Rattle.pc_text.proofs.Steps.{bind_ok, expect_ok, require_ok, in_line_ok, and_then_some, if_some, some_same, err_ok, ok_same, and_parts, leb_le, ltb_lt}
+use Rattle.pc_text.proofs.Steps.{bind_ok, expect_ok, require_ok, in_line_ok, and_then_some, if_some}
+use Rattle.pc_text.proofs.Steps.{some_same, err_ok, ok_same, and_parts, leb_le, ltb_lt}
 
 -- numerals and factors
 

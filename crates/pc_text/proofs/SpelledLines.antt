@@ -1,5 +1,6 @@
 -- The canonical spelling of a relation is read as that relation.
-use Rattle.std.proofs.Common.{◌≡◌, ℕ, suc, ◌+◌, ◌<◌, ◌≤◌, ◌==◌, true, false, not, ltb, List, [], ◌∷◌, ◌++◌, length, Some, Ok, refl, arith}
+use Rattle.std.proofs.Common.{◌≡◌, ℕ, suc, ◌+◌, ◌<◌, ◌≤◌, ◌==◌, true, false, not, ltb, List, [], ◌∷◌, ◌++◌}
+use Rattle.std.proofs.Common.{length, Some, Ok, refl, arith}
 use Rattle.std.specs.Fmt.{decimal}
 use Rattle.std.proofs.lemmas.List.Folds.{list_all-append}
 use Rattle.std.proofs.lemmas.Bool.Decides.{nat_tests}
@@ -7,10 +8,13 @@ use Rattle.limits.specs.declared.TheConstants.{MOST_GENERATORS}
 use Rattle.pc_text.specs.declared.place.Place.{Place}
 use Rattle.pc_text.specs.declared.place.Place.TheVariants.{Power, Commutator}
 use Rattle.pc_text.specs.Words.{Naming, by_number, word}
-use Rattle.pc_text.specs.Relations.{Left, PowerOf, CommutatorOf, Shape, Relation, joined, left_shape, shape, left_side, least, stands, relation}
+use Rattle.pc_text.specs.Relations.{Left, PowerOf, CommutatorOf, Shape, Relation, joined, left_shape, shape}
+use Rattle.pc_text.specs.Relations.{left_side, least, stands, relation}
 use Rattle.pc_text.specs.Grammar.{name, word_text, left_text, relation_text}
 use Rattle.pc_text.specs.Rules.{IsPlace, IsRelation}
-use Rattle.pc_text.proofs.Spelled.{lacks, cut_spelled, spelled, generator_spelled, numeral_spelled, NoDigit, decimal_lacks, line_feed_no_digit, space_no_digit, comma_no_digit, bracket_no_digit, caret_no_digit}
+use Rattle.pc_text.proofs.Spelled.{lacks, cut_spelled, spelled, generator_spelled, numeral_spelled, NoDigit}
+use Rattle.pc_text.proofs.Spelled.{decimal_lacks, line_feed_no_digit, space_no_digit, comma_no_digit}
+use Rattle.pc_text.proofs.Spelled.{bracket_no_digit, caret_no_digit}
 use Rattle.pc_text.proofs.SpelledWords.{word_read, word_long, word_line}
 
 -- the parts of a left side

@@ -1,5 +1,7 @@
 -- The canonical spelling of a word is read as that word.
-use Rattle.std.proofs.Common.{◌≡◌, ℕ, suc, ◌+◌, ◌-◌, ◌<◌, ◌≤◌, ◌==◌, Bool, true, false, ◌||◌, not, cond, eqb, List, [], ◌∷◌, ◌++◌, length, set, replicate, get_or, All, ◌⊎◌, inl, inr, Some, Ok, refl, sym, ap, ◌∙◌, arith, append_assoc, length-append}
+use Rattle.std.proofs.Common.{◌≡◌, ℕ, suc, ◌+◌, ◌-◌, ◌<◌, ◌≤◌, ◌==◌, Bool, true, false, ◌||◌, not, cond, eqb}
+use Rattle.std.proofs.Common.{List, [], ◌∷◌, ◌++◌, length, set, replicate, get_or, All, ◌⊎◌, inl, inr, Some}
+use Rattle.std.proofs.Common.{Ok, refl, sym, ap, ◌∙◌, arith, append_assoc, length-append}
 use Rattle.std.specs.Prelude.{bytes_eq}
 use Rattle.std.specs.Fmt.{decimal}
 use Rattle.std.specs.List.{list_all, list_any, join_with_byte}
@@ -12,7 +14,8 @@ use Rattle.power_commutator.specs.Presentations.{IsWord}
 use Rattle.power_commutator.proofs.Cyclic.{less-or}
 use Rattle.pc_text.specs.Grammar.{name, factor_text, factor_texts, is_empty_word, word_text}
 use Rattle.pc_text.proofs.Steps.{and_parts}
-use Rattle.pc_text.proofs.Spelled.{lacks, IsOther, star_other, line_feed_other, factor_spelled, piece_lacks, split_join}
+use Rattle.pc_text.proofs.Spelled.{lacks, IsOther, star_other, line_feed_other, factor_spelled, piece_lacks}
+use Rattle.pc_text.proofs.Spelled.{split_join}
 
 -- exponents of the generators k, k + 1 and so on: below p, and 0 for those up to last
 abbrev pub Fit : ℕ → ℕ → ℕ → List ℕ → Type 0

@@ -1,5 +1,6 @@
 -- Reading a text line by line.
-use Rattle.std.proofs.Common.{◌≡◌, ℕ, ◌+◌, ◌<◌, ◌≤◌, true, List, [], ◌∷◌, ◌++◌, length, Some, None, Ok, Err, refl}
+use Rattle.std.proofs.Common.{◌≡◌, ℕ, ◌+◌, ◌<◌, ◌≤◌, true, List, [], ◌∷◌, ◌++◌, length, Some, None, Ok, Err}
+use Rattle.std.proofs.Common.{refl}
 use Rattle.pc_text.specs.declared.fault.Kind.TheVariants as kind
 use Rattle.pc_text.specs.declared.fault.LineStop.{LineStop}
 use Rattle.pc_text.specs.declared.fault.LineStop.TheVariants as stops

@@ -1,5 +1,6 @@
 -- Reading a word, piece by piece.
-use Rattle.std.proofs.Common.{◌≡◌, ℕ, ◌+◌, ◌-◌, ◌≤◌, ◌^◌, ◌==◌, List, ◌∷◌, length, set, replicate, Some, None, Err, refl}
+use Rattle.std.proofs.Common.{◌≡◌, ℕ, ◌+◌, ◌-◌, ◌≤◌, ◌^◌, ◌==◌, List, ◌∷◌, length, set, replicate, Some, None}
+use Rattle.std.proofs.Common.{Err, refl}
 use Rattle.std.specs.List.{slice_split}
 use Rattle.pc_text.specs.declared.fault.Kind.TheVariants as kind
 use Rattle.pc_text.specs.Words.{Naming, factor, above, factors}

@@ -1,5 +1,7 @@
 -- What the writer has written so far.
-use Rattle.std.proofs.Common.{◌≡◌, ◌≢◌, ℕ, suc, ◌+◌, ◌<◌, ◌≤◌, not, map, filter, Some, Ok, subst, Bool, true, false, cond, eqb, List, [], ◌∷◌, ◌++◌, length, take, get_or, refl, sym, ap, ◌∙◌, arith, append_assoc, append-nil, length-take}
+use Rattle.std.proofs.Common.{◌≡◌, ◌≢◌, ℕ, suc, ◌+◌, ◌<◌, ◌≤◌, not, map, filter, Some, Ok, subst, Bool, true}
+use Rattle.std.proofs.Common.{false, cond, eqb, List, [], ◌∷◌, ◌++◌, length, take, get_or, refl, sym, ap, ◌∙◌}
+use Rattle.std.proofs.Common.{arith, append_assoc, append-nil, length-take}
 use Rattle.std.specs.List.{join_with_byte}
 use Rattle.std.proofs.lemmas.Bool.Decides.{nat_tests}
 use Rattle.std.proofs.lemmas.List.{take_more}
@@ -15,8 +17,10 @@ use Rattle.pc_group.proofs.MadeParts.{range-next}
 use Rattle.pc_text.specs.declared.place.Place.{Place}
 use Rattle.pc_text.specs.Relations.{Relation}
 use Rattle.pc_text.specs.Texts.{prime, read}
-use Rattle.pc_text.specs.Grammar.{factor_text, factor_texts, is_empty_word, line_text, relation_text, header_text}
-use Rattle.pc_text.specs.Canonical.{power_places, row_places, commutator_places, places, word_at, relation_at, written, relation_line, place_lines, canonical}
+use Rattle.pc_text.specs.Grammar.{factor_text, factor_texts, is_empty_word, line_text, relation_text}
+use Rattle.pc_text.specs.Grammar.{header_text}
+use Rattle.pc_text.specs.Canonical.{power_places, row_places, commutator_places, places, word_at, relation_at}
+use Rattle.pc_text.specs.Canonical.{written, relation_line, place_lines, canonical}
 use Rattle.pc_text.proofs.PrimeLemmas.{prime_is}
 use Rattle.pc_text.proofs.CanonicalLemmas.{canonical_read}
 

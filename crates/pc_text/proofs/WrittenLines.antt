@@ -1,5 +1,6 @@
 -- What is read as a relation is the text of that relation.
-use Rattle.std.proofs.Common.{◌≡◌, ℕ, ◌+◌, ◌<◌, ◌≤◌, ◌&&◌, Bool, true, false, not, cond, eqb, ltb, List, [], ◌∷◌, ◌++◌, length, Option, Some, None, Ok, refl, ap, ◌∙◌, arith}
+use Rattle.std.proofs.Common.{◌≡◌, ℕ, ◌+◌, ◌<◌, ◌≤◌, ◌&&◌, Bool, true, false, not, cond, eqb, ltb, List, []}
+use Rattle.std.proofs.Common.{◌∷◌, ◌++◌, length, Option, Some, None, Ok, refl, ap, ◌∙◌, arith}
 use Rattle.std.specs.Prelude.{codes, is_some}
 use Rattle.std.specs.Fmt.{decimal}
 use Rattle.std.proofs.lemmas.Bool.Decides.{nat_tests}
@@ -11,11 +12,15 @@ use Rattle.pc_text.specs.Faults.{◌>>=◌, expect, require}
 use Rattle.pc_text.specs.Lines.{cut_at, after_front}
 use Rattle.pc_text.specs.Numerals.{numeral, is_digits}
 use Rattle.pc_text.specs.Words.{by_number, g_generator, is_g_name, word}
-use Rattle.pc_text.specs.Relations.{Left, PowerOf, CommutatorOf, power_parts, power_shape, second_parts, commutator_parts, commutator_shape, left_shape, Shape, joined, shape_parts, shape, left_side, least, stands, Relation, relation}
+use Rattle.pc_text.specs.Relations.{Left, PowerOf, CommutatorOf, power_parts, power_shape, second_parts}
+use Rattle.pc_text.specs.Relations.{commutator_parts, commutator_shape, left_shape, Shape, joined}
+use Rattle.pc_text.specs.Relations.{shape_parts, shape, left_side, least, stands, Relation, relation}
 use Rattle.pc_text.specs.Grammar.{name, left_text, relation_text}
-use Rattle.pc_text.proofs.Steps.{bind_ok, expect_ok, require_ok, err_ok, ok_same, and_then_some, if_some, some_same, and_parts}
+use Rattle.pc_text.proofs.Steps.{bind_ok, expect_ok, require_ok, err_ok, ok_same, and_then_some, if_some}
+use Rattle.pc_text.proofs.Steps.{some_same, and_parts}
 use Rattle.pc_text.proofs.Kept.{new_row, word_row, side_row, shape_row, word_kept, numeral_range}
-use Rattle.pc_text.proofs.WrittenWords.{cut_written, front_written, numeral_written, name_written, word_written}
+use Rattle.pc_text.proofs.WrittenWords.{cut_written, front_written, numeral_written, name_written}
+use Rattle.pc_text.proofs.WrittenWords.{word_written}
 
 -- left sides
 

@@ -1,5 +1,6 @@
 -- A text without fault is the text of what it says.
-use Rattle.std.proofs.Common.{◌≡◌, ℕ, ◌+◌, ◌<◌, ◌≤◌, ◌==◌, true, false, List, [], ◌∷◌, ◌++◌, drop, Some, None, Ok, refl, sym, ap, ◌∙◌, arith, append_assoc, append-nil}
+use Rattle.std.proofs.Common.{◌≡◌, ℕ, ◌+◌, ◌<◌, ◌≤◌, ◌==◌, true, false, List, [], ◌∷◌, ◌++◌, drop, Some, None}
+use Rattle.std.proofs.Common.{Ok, refl, sym, ap, ◌∙◌, arith, append_assoc, append-nil}
 use Rattle.std.specs.Prelude.{codes, flat_map, bytes_eq, option_and_then}
 use Rattle.std.specs.Fmt.{decimal}
 use Rattle.std.specs.List.{slice_split, join_with_byte}
@@ -12,7 +13,8 @@ use Rattle.pc_text.specs.Lines.{numbered, after_front}
 use Rattle.pc_text.specs.Numerals.{numeral}
 use Rattle.pc_text.specs.Words.{by_number}
 use Rattle.pc_text.specs.Relations.{Relation, relation}
-use Rattle.pc_text.specs.Texts.{Content, first_bytes, header, prime, prime_line, count_line, relations, reads, content}
+use Rattle.pc_text.specs.Texts.{Content, first_bytes, header, prime, prime_line, count_line, relations, reads}
+use Rattle.pc_text.specs.Texts.{content}
 use Rattle.pc_text.specs.Grammar.{line_text, relation_text, text_of}
 use Rattle.pc_text.proofs.Steps.{bind_ok, expect_ok, in_line_ok, ok_same, and_then_some, if_some, some_same}
 use Rattle.pc_text.proofs.Kept.{prime_step, count_step, relations_step, prime_line_same, count_line_range}

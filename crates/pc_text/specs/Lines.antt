@@ -1,5 +1,6 @@
 -- The lines of a text, and where a byte cuts.
-use Rattle.std.specs.Prelude.{ℕ, ◌+◌, ◌==◌, Bool, true, false, if◌then◌else◌, List, [], ◌∷◌, length, drop, Option, Some, None, nat_eq, nat_lt}
+use Rattle.std.specs.Prelude.{ℕ, ◌+◌, ◌==◌, Bool, true, false, if◌then◌else◌, List, [], ◌∷◌, length, drop}
+use Rattle.std.specs.Prelude.{Option, Some, None, nat_eq, nat_lt}
 use Rattle.std.specs.List.{slice_split, starts_with, position_or_len, before_first, after_first}
 use Rattle.pc_text.specs.Bytes.{line_feed}
 

@@ -1,5 +1,6 @@
 -- A line with a relation: its shape, and the rows of the table of faults from BadLine on.
-use Rattle.std.specs.Prelude.{ℕ, ◌+◌, ◌==◌, ◌&&◌, not, nat_lt, Bool, false, if◌then◌else◌, List, [], ◌∷◌, length, Option, Some, None, option_and_then, is_some, Result, Ok, codes}
+use Rattle.std.specs.Prelude.{ℕ, ◌+◌, ◌==◌, ◌&&◌, not, nat_lt, Bool, false, if◌then◌else◌, List, [], ◌∷◌}
+use Rattle.std.specs.Prelude.{length, Option, Some, None, option_and_then, is_some, Result, Ok, codes}
 use Rattle.std.specs.List.{list_any}
 use Rattle.pc_text.specs.declared.fault.Kind.TheVariants as kind
 use Rattle.pc_text.specs.declared.fault.LineFault.{LineFault}

@@ -1,5 +1,6 @@
 -- Words: `1`, or factors joined by `*` with ascending generators.
-use Rattle.std.specs.Prelude.{ℕ, ◌+◌, ◌-◌, ◌==◌, nat_lt, Bool, false, if◌then◌else◌, List, [], ◌∷◌, length, set, replicate, Option, Some, None, Result, Ok, bytes_eq, codes}
+use Rattle.std.specs.Prelude.{ℕ, ◌+◌, ◌-◌, ◌==◌, nat_lt, Bool, false, if◌then◌else◌, List, [], ◌∷◌, length}
+use Rattle.std.specs.Prelude.{set, replicate, Option, Some, None, Result, Ok, bytes_eq, codes}
 use Rattle.std.specs.List.{slice_split}
 use Rattle.pc_text.specs.declared.fault.Kind.TheVariants as kind
 use Rattle.pc_text.specs.declared.fault.LineFault.{LineFault}

@@ -1,6 +1,7 @@
 //! Where a byte cuts, and what stands after a front.
 
-ghost use Rattle.std.specs.Prelude.{◌≡◌, ◌==◌, ◌+◌, ◌∷◌, [], length, option_map, option_copied, MatchOption, IfSome};
+ghost use Rattle.std.specs.Prelude.{◌≡◌, ◌==◌, ◌+◌, ◌∷◌, [], length, option_map, option_copied, MatchOption};
+ghost use Rattle.std.specs.Prelude.{IfSome};
 ghost use Rattle.std.specs.List.{position_or_len, slice_split};
 ghost use Rattle.std.specs.Option.{option_map_or};
 ghost use Rattle.pc_text.specs.Lines.{cut_at, after_front};

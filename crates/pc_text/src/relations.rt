@@ -2,8 +2,10 @@
 
 ghost use Rattle.std.specs.Prelude.{◌≡◌, ◌≤◌, ◌<◌, ◌+◌, ◌^◌, length, map, option_map, IfSome, IfErr, true};
 ghost use Rattle.std.specs.List.{list_any};
-ghost use Rattle.pc_text.specs.Relations.{power_shape, commutator_shape, left_shape, shape, left_side, least, same_place, relation};
-ghost use Rattle.pc_text.specs.Views.{names_of, LineGives, shown_left, shown_shape, shown, name_len, HasSmallColumn};
+ghost use Rattle.pc_text.specs.Relations.{power_shape, commutator_shape, left_shape, shape, left_side, least};
+ghost use Rattle.pc_text.specs.Relations.{same_place, relation};
+ghost use Rattle.pc_text.specs.Views.{names_of, LineGives, shown_left, shown_shape, shown, name_len};
+ghost use Rattle.pc_text.specs.Views.{HasSmallColumn};
 
 use crate::cuts::{cut, strip};
 use crate::fault::{Kind, LineFault, LineStop};

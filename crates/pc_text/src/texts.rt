@@ -6,7 +6,8 @@ ghost use Rattle.pc_text.specs.Lines.{lines_from};
 ghost use Rattle.pc_text.specs.Texts.{prime, prime_line, count_line, relations, content};
 ghost use Rattle.pc_text.specs.Cuts.{by_cuts};
 ghost use Rattle.pc_text.specs.Rules.{IsContent};
-ghost use Rattle.pc_text.specs.Views.{names_of, TextGives, TextFails, shown, all_shown, GoesOn, HasSmallColumn, at_line, shown_content};
+ghost use Rattle.pc_text.specs.Views.{names_of, TextGives, TextFails, shown, all_shown, GoesOn};
+ghost use Rattle.pc_text.specs.Views.{HasSmallColumn, at_line, shown_content};
 
 use crate::cuts::{cut, strip};
 use crate::fault::{Kind, LineStop, TextFault};

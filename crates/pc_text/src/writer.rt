@@ -1,12 +1,14 @@
 //! The writer of the canonical text.
 
-ghost use Rattle.std.specs.Prelude.{◌≡◌, ◌≤◌, ◌<◌, ◌-◌, ◌∷◌, [], ◌++◌, Ok, codes, map, OnOk, IfOk, not, ◌==◌, if◌then◌else◌};
+ghost use Rattle.std.specs.Prelude.{◌≡◌, ◌≤◌, ◌<◌, ◌-◌, ◌∷◌, [], ◌++◌, Ok, codes, map, OnOk, IfOk, not, ◌==◌};
+ghost use Rattle.std.specs.Prelude.{if◌then◌else◌};
 ghost use Rattle.std.specs.List.{join_with_byte, list_any};
 ghost use Rattle.group_table.specs.Prime.{prime_value};
 ghost use Rattle.pc_text.specs.Bytes.{star};
 ghost use Rattle.pc_text.specs.Texts.{read};
 ghost use Rattle.pc_text.specs.Grammar.{header_text, factor_text, factor_texts, left_text};
-ghost use Rattle.pc_text.specs.Canonical.{power_places, row_places, commutator_places, relation_line, place_lines, canonical};
+ghost use Rattle.pc_text.specs.Canonical.{power_places, row_places, commutator_places, relation_line};
+ghost use Rattle.pc_text.specs.Canonical.{place_lines, canonical};
 
 use crate::place::Place;
 use group_table::{Memory, Prime};

@@ -1,5 +1,7 @@
 -- What the automaton accepts is a text of the grammar.
-use Rattle.std.proofs.Common.{◌≡◌, ℕ, ◌+◌, ◌-◌, ◌*◌, ◌<◌, ◌≤◌, ◌⊎◌, inl, inr, Bool, true, false, cond, ◌&&◌, leb, eqb, List, [], ◌∷◌, ◌++◌, map, Option, None, Some, append_assoc, arith, ap, ap₂, sym, subst, ◌∙◌, refl}
+use Rattle.std.proofs.Common.{◌≡◌, ℕ, ◌+◌, ◌-◌, ◌*◌, ◌<◌, ◌≤◌, ◌⊎◌, inl, inr, Bool, true, false, cond, ◌&&◌}
+use Rattle.std.proofs.Common.{leb, eqb, List, [], ◌∷◌, ◌++◌, map, Option, None, Some, append_assoc, arith, ap}
+use Rattle.std.proofs.Common.{ap₂, sym, subst, ◌∙◌, refl}
 use Rattle.std.specs.Prelude.{decimal, IfSome}
 use Rattle.std.specs.List.{AllByRecursion as Each}
 use Rattle.std.proofs.lemmas.Bool.{false≢true}
@@ -10,10 +12,15 @@ use Rattle.std.proofs.lemmas.Fmt.{decimal_digit}
 use Rattle.limits.specs.declared.TheConstants.{GREATEST_DEGREE}
 use Rattle.graded_polynomials.specs.Texts.{joined_by, star, plus_sign}
 use Rattle.graded_polynomials.proofs.Terms.{eqb-true}
-use Rattle.polynomial_texts.specs.Grammar.{NamedFactor, NamedTerm, Sum, zero_text, one_text, terms, is_letter, is_name_byte, IsFactor, IsTerm, IsTextOf, caret, exponent_text, factor_text, term_bytes}
+use Rattle.polynomial_texts.specs.Grammar.{NamedFactor, NamedTerm, Sum, zero_text, one_text, terms, is_letter}
+use Rattle.polynomial_texts.specs.Grammar.{is_name_byte, IsFactor, IsTerm, IsTextOf, caret, exponent_text}
+use Rattle.polynomial_texts.specs.Grammar.{factor_text, term_bytes}
 use Rattle.polynomial_reader.specs.declared.syntax.State.{State}
-use Rattle.polynomial_reader.specs.declared.syntax.State.TheVariants.{Start, Zero, One, Coefficient, TermStart, FactorStart, Name, Caret, ExponentDigit, Exponent}
-use Rattle.polynomial_reader.specs.Automaton.{separator, term_start, exponent_start, goes_on, after, run, is_end}
+use Rattle.polynomial_reader.specs.declared.syntax.State.TheVariants.{Start, Zero, One, Coefficient}
+use Rattle.polynomial_reader.specs.declared.syntax.State.TheVariants.{TermStart, FactorStart, Name, Caret}
+use Rattle.polynomial_reader.specs.declared.syntax.State.TheVariants.{ExponentDigit, Exponent}
+use Rattle.polynomial_reader.specs.Automaton.{separator, term_start, exponent_start, goes_on, after, run}
+use Rattle.polynomial_reader.specs.Automaton.{is_end}
 use Rattle.polynomial_reader.proofs.Running.{IsAccepted, decimal-two}
 
 -- factors and terms that go on, each behind its separator

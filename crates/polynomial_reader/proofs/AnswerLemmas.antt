@@ -1,5 +1,6 @@
 -- From the sum that a text stands for to its answer.
-use Rattle.std.proofs.Common.{◌≡◌, ◌≢◌, ℕ, ◌≤◌, eqb, List, [], ◌∷◌, ◌++◌, map, length, get_or, All, Option, None, Some, Ok, Err, arith, ap, sym, subst, ◌∙◌, refl, length-append}
+use Rattle.std.proofs.Common.{◌≡◌, ◌≢◌, ℕ, ◌≤◌, eqb, List, [], ◌∷◌, ◌++◌, map, length, get_or, All, Option}
+use Rattle.std.proofs.Common.{None, Some, Ok, Err, arith, ap, sym, subst, ◌∙◌, refl, length-append}
 use Rattle.std.specs.Prelude.{IfSome, decimal}
 use Rattle.std.specs.List.{slice_split, AllByRecursion as Each}
 use Rattle.std.proofs.lemmas.List.{get_or-map, length-map}
@@ -8,15 +9,20 @@ use Rattle.std.proofs.lemmas.Slice.Zip.{AllZip-long}
 use Rattle.limits.specs.declared.TheConstants.{GREATEST_DEGREE, LONGEST_TEXT}
 use Rattle.graded_polynomials.specs.Polynomials.{Polynomial}
 use Rattle.graded_polynomials.specs.Texts.{Factor, ReadTerm, joined_by, star, plus_sign, read_value}
-use Rattle.polynomial_texts.specs.Grammar.{NamedFactor, NamedTerm, Sum, zero_text, one_text, terms, IsName, IsFactor, IsTerm, IsSum, IsTextOf, exponent_text, factor_text, numeral_pieces, term_bytes, sum_bytes, placed_names}
-use Rattle.polynomial_texts.specs.Readings.{number, Names, NamesEach, NamesTerm, NamesTerms, NamesSum, term_degree}
+use Rattle.polynomial_texts.specs.Grammar.{NamedFactor, NamedTerm, Sum, zero_text, one_text, terms, IsName}
+use Rattle.polynomial_texts.specs.Grammar.{IsFactor, IsTerm, IsSum, IsTextOf, exponent_text, factor_text}
+use Rattle.polynomial_texts.specs.Grammar.{numeral_pieces, term_bytes, sum_bytes, placed_names}
+use Rattle.polynomial_texts.specs.Readings.{number, Names, NamesEach, NamesTerm, NamesTerms, NamesSum}
+use Rattle.polynomial_texts.specs.Readings.{term_degree}
 use Rattle.polynomial_texts.proofs.Bytes.{Without, each-mapped, term-without}
 use Rattle.polynomial_texts.proofs.Unique.{sum-unique}
 use Rattle.polynomial_reader.specs.declared.fault.PolyFault.{PolyFault}
-use Rattle.polynomial_reader.specs.declared.fault.PolyFault.TheVariants.{Syntax, UnknownName, Mixed, TooHigh, Memory}
+use Rattle.polynomial_reader.specs.declared.fault.PolyFault.TheVariants.{Syntax, UnknownName, Mixed, TooHigh}
+use Rattle.polynomial_reader.specs.declared.fault.PolyFault.TheVariants.{Memory}
 use Rattle.gc_poly.specs.Generators.{Generators, greatest}
 use Rattle.gc_poly.specs.Polynomials.{IsSumOf}
-use Rattle.polynomial_reader.specs.Reading.{IsFactorOf, AreFactorsOf, IsTermOf, AreTermsOf, IsDegreeOf, IsDegreeFault, IsUnknownAt, IsAnswerOf}
+use Rattle.polynomial_reader.specs.Reading.{IsFactorOf, AreFactorsOf, IsTermOf, AreTermsOf, IsDegreeOf}
+use Rattle.polynomial_reader.specs.Reading.{IsDegreeFault, IsUnknownAt, IsAnswerOf}
 use Rattle.polynomial_reader.proofs.Cutting.{joined-split}
 
 pub zero-named : (q : ℕ) (ds : List ℕ) (s : Sum) (text : List ℕ) (rs : List ReadTerm) → q ≤ 6 → text ≡ 48 ∷ []

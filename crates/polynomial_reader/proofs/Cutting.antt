@@ -1,18 +1,23 @@
 -- Terms and factors are cut into their numerals, names and exponents.
-use Rattle.std.proofs.Common.{◌≡◌, ◌≢◌, ℕ, suc, ◌+◌, ◌-◌, ◌*◌, ◌/◌, ◌%◌, ◌<◌, ◌≤◌, ◌⊎◌, inl, inr, true, false, eqb, List, [], ◌∷◌, ◌++◌, map, length, take, drop, get_or, All, Option, None, Some, arith, ap, sym, ◌∙◌, refl, length-drop}
+use Rattle.std.proofs.Common.{◌≡◌, ◌≢◌, ℕ, suc, ◌+◌, ◌-◌, ◌*◌, ◌/◌, ◌%◌, ◌<◌, ◌≤◌, ◌⊎◌, inl, inr, true, false}
+use Rattle.std.proofs.Common.{eqb, List, [], ◌∷◌, ◌++◌, map, length, take, drop, get_or, All, Option, None}
+use Rattle.std.proofs.Common.{Some, arith, ap, sym, ◌∙◌, refl, length-drop}
 use Rattle.std.specs.Prelude.{decimal, IfSome}
 use Rattle.std.specs.List.{slice_split, AllByRecursion as Each, join_with_byte}
 use Rattle.std.proofs.lemmas.Bool.{cases_lt}
 use Rattle.std.proofs.lemmas.List.{take_all}
 use Rattle.std.proofs.lemmas.List.Elements.{All-from_recursion}
-use Rattle.std.proofs.lemmas.List.Splits.{slice_split_at, slice_split_none, length-slice_split, join_with_byte-slice_split}
+use Rattle.std.proofs.lemmas.List.Splits.{slice_split_at, slice_split_none, length-slice_split}
+use Rattle.std.proofs.lemmas.List.Splits.{join_with_byte-slice_split}
 use Rattle.std.proofs.lemmas.Fmt.{decimal_digit}
 use Rattle.limits.specs.declared.TheConstants.{GREATEST_DEGREE}
 use Rattle.graded_polynomials.specs.Texts.{joined_by, star}
 use Rattle.graded_polynomials.proofs.Terms.{eqb-self, eqb-false}
-use Rattle.polynomial_texts.specs.Grammar.{NamedFactor, NamedTerm, IsName, IsFactor, IsTerm, is_letter, is_digit, exponent_text, factor_text, term_bytes}
+use Rattle.polynomial_texts.specs.Grammar.{NamedFactor, NamedTerm, IsName, IsFactor, IsTerm, is_letter}
+use Rattle.polynomial_texts.specs.Grammar.{is_digit, exponent_text, factor_text, term_bytes}
 use Rattle.polynomial_texts.specs.Readings.{number}
-use Rattle.polynomial_texts.proofs.Bytes.{Without, digit-byte, each-map, letter-no-digit, name-bytes, name-bytes-without}
+use Rattle.polynomial_texts.proofs.Bytes.{Without, digit-byte, each-map, letter-no-digit, name-bytes}
+use Rattle.polynomial_texts.proofs.Bytes.{name-bytes-without}
 use Rattle.polynomial_texts.proofs.Unique.{exponent_pieces, factor-joined, exponent-without, IsExponent}
 use Rattle.polynomial_reader.proofs.Running.{decimal-two}
 

@@ -1,15 +1,20 @@
 -- Pieces of a text are read one after another.
-use Rattle.std.proofs.Common.{◌≡◌, ◌≢◌, ℕ, zero, suc, ◌+◌, ◌-◌, ◌<◌, ◌≤◌, inl, inr, Bool, true, false, cond, eqb, List, [], ◌∷◌, ◌++◌, map, length, take, get_or, Bor, Option, None, Some, arith, ap, sym, subst, ◌∙◌, refl, length-append}
+use Rattle.std.proofs.Common.{◌≡◌, ◌≢◌, ℕ, zero, suc, ◌+◌, ◌-◌, ◌<◌, ◌≤◌, inl, inr, Bool, true, false, cond}
+use Rattle.std.proofs.Common.{eqb, List, [], ◌∷◌, ◌++◌, map, length, take, get_or, Bor, Option, None, Some}
+use Rattle.std.proofs.Common.{arith, ap, sym, subst, ◌∙◌, refl, length-append}
 use Rattle.std.specs.Prelude.{decimal}
 use Rattle.std.specs.List.{slice_split, onto_first, AllByRecursion as Each, AllZip}
 use Rattle.std.proofs.lemmas.List.{get_or-map, length-map, take_more}
 use Rattle.graded_polynomials.specs.Texts.{Factor, ReadTerm, joined_by, star}
-use Rattle.polynomial_texts.specs.Grammar.{NamedFactor, NamedTerm, IsFactor, IsTerm, factor_text, numeral_pieces, term_bytes, PlacedName, numeral_length, factor_names, term_names}
+use Rattle.polynomial_texts.specs.Grammar.{NamedFactor, NamedTerm, IsFactor, IsTerm, factor_text}
+use Rattle.polynomial_texts.specs.Grammar.{numeral_pieces, term_bytes, PlacedName, numeral_length}
+use Rattle.polynomial_texts.specs.Grammar.{factor_names, term_names}
 use Rattle.polynomial_texts.specs.Readings.{IsUnknown, Names, NamesEach, NamesTerm, NamesTerms, IsFirst}
 use Rattle.polynomial_texts.proofs.Bytes.{Without, each-mapped, factor-without}
 use Rattle.polynomial_texts.proofs.Answers.{factors-known}
 use Rattle.polynomial_reader.specs.declared.fault.PolyFault.{PolyFault}
-use Rattle.polynomial_reader.specs.declared.fault.PolyFault.TheVariants.{Syntax, UnknownName, Mixed, TooHigh, Memory}
+use Rattle.polynomial_reader.specs.declared.fault.PolyFault.TheVariants.{Syntax, UnknownName, Mixed, TooHigh}
+use Rattle.polynomial_reader.specs.declared.fault.PolyFault.TheVariants.{Memory}
 use Rattle.polynomial_reader.specs.Reading.{spans, IsUnknownAt}
 use Rattle.polynomial_reader.proofs.Cutting.{joined-split}
 

@@ -1,5 +1,7 @@
 -- The automaton runs through every text of the grammar to an end.
-use Rattle.std.proofs.Common.{◌≡◌, ◌≢◌, ℕ, ◌+◌, ◌-◌, ◌*◌, ◌/◌, ◌%◌, ◌<◌, ◌≤◌, ◌⊎◌, inl, inr, true, false, cond, ◌&&◌, leb, eqb, List, [], ◌∷◌, ◌++◌, map, Option, None, Some, arith, ap, sym, subst, ◌∙◌, refl}
+use Rattle.std.proofs.Common.{◌≡◌, ◌≢◌, ℕ, ◌+◌, ◌-◌, ◌*◌, ◌/◌, ◌%◌, ◌<◌, ◌≤◌, ◌⊎◌, inl, inr, true, false}
+use Rattle.std.proofs.Common.{cond, ◌&&◌, leb, eqb, List, [], ◌∷◌, ◌++◌, map, Option, None, Some, arith, ap}
+use Rattle.std.proofs.Common.{sym, subst, ◌∙◌, refl}
 use Rattle.std.specs.Prelude.{decimal, IfSome}
 use Rattle.std.specs.Option.{option_and_then}
 use Rattle.std.specs.List.{AllByRecursion as Each}
@@ -9,11 +11,17 @@ use Rattle.std.proofs.lemmas.Fmt.{decimal_digit, decimal_step}
 use Rattle.limits.specs.declared.TheConstants.{GREATEST_DEGREE}
 use Rattle.graded_polynomials.specs.Texts.{joined_by, star, plus_sign}
 use Rattle.graded_polynomials.proofs.Terms.{eqb-false}
-use Rattle.polynomial_texts.specs.Grammar.{NamedFactor, NamedTerm, Sum, zero_text, one_text, terms, is_letter, is_name_byte, IsName, IsFactor, IsTerm, IsSum, IsTextOf, GoesOn, caret, exponent_text, factor_text, numeral_pieces, term_bytes, sum_bytes}
+use Rattle.polynomial_texts.specs.Grammar.{NamedFactor, NamedTerm, Sum, zero_text, one_text, terms, is_letter}
+use Rattle.polynomial_texts.specs.Grammar.{is_name_byte, IsName, IsFactor, IsTerm, IsSum, IsTextOf, GoesOn}
+use Rattle.polynomial_texts.specs.Grammar.{caret, exponent_text, factor_text, numeral_pieces, term_bytes}
+use Rattle.polynomial_texts.specs.Grammar.{sum_bytes}
 use Rattle.polynomial_texts.proofs.Bytes.{digit-byte}
 use Rattle.polynomial_reader.specs.declared.syntax.State.{State}
-use Rattle.polynomial_reader.specs.declared.syntax.State.TheVariants.{Start, Zero, One, Coefficient, TermStart, FactorStart, Name, Caret, ExponentDigit, Exponent}
-use Rattle.polynomial_reader.specs.Automaton.{separator, term_start, exponent_start, goes_on, after, run, is_end}
+use Rattle.polynomial_reader.specs.declared.syntax.State.TheVariants.{Start, Zero, One, Coefficient}
+use Rattle.polynomial_reader.specs.declared.syntax.State.TheVariants.{TermStart, FactorStart, Name, Caret}
+use Rattle.polynomial_reader.specs.declared.syntax.State.TheVariants.{ExponentDigit, Exponent}
+use Rattle.polynomial_reader.specs.Automaton.{separator, term_start, exponent_start, goes_on, after, run}
+use Rattle.polynomial_reader.specs.Automaton.{is_end}
 
 pub run-append : (q : ℕ) (s : State) (xs ys : List ℕ)
     → run q s (xs ++ ys) ≡ option_and_then (λ t. run q t ys) (run q s xs)

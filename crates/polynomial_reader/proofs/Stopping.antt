@@ -1,11 +1,14 @@
 -- Where a text stops to go on.
-use Rattle.std.proofs.Common.{◌≡◌, ℕ, ◌+◌, ◌<◌, ◌≤◌, true, false, List, [], ◌∷◌, ◌++◌, length, take, get_or, Option, None, Some, arith, ap, sym, subst, ◌∙◌, refl}
+use Rattle.std.proofs.Common.{◌≡◌, ℕ, ◌+◌, ◌<◌, ◌≤◌, true, false, List, [], ◌∷◌, ◌++◌, length, take, get_or}
+use Rattle.std.proofs.Common.{Option, None, Some, arith, ap, sym, subst, ◌∙◌, refl}
 use Rattle.std.specs.Option.{option_and_then}
 use Rattle.std.proofs.lemmas.Bool.{false≢true}
 use Rattle.std.proofs.lemmas.List.{take_more, take_all}
 use Rattle.polynomial_texts.specs.Grammar.{Sum, IsTextOf, GoesOn, Stops}
 use Rattle.polynomial_reader.specs.declared.syntax.State.{State}
-use Rattle.polynomial_reader.specs.declared.syntax.State.TheVariants.{Start, Zero, One, Coefficient, TermStart, FactorStart, Name, Caret, ExponentDigit, Exponent}
+use Rattle.polynomial_reader.specs.declared.syntax.State.TheVariants.{Start, Zero, One, Coefficient}
+use Rattle.polynomial_reader.specs.declared.syntax.State.TheVariants.{TermStart, FactorStart, Name, Caret}
+use Rattle.polynomial_reader.specs.declared.syntax.State.TheVariants.{ExponentDigit, Exponent}
 use Rattle.polynomial_reader.specs.Automaton.{after, run, is_end}
 use Rattle.polynomial_reader.proofs.Running.{run-append, run-on, IsAccepted, text-accepted, goes-on-runs}
 use Rattle.polynomial_reader.proofs.Accepting.{accepted-text}

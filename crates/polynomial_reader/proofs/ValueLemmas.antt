@@ -1,12 +1,15 @@
 -- The value of terms that are read: powers of generators, multiplied from left to right.
-use Rattle.std.proofs.Common.{◌≡◌, ◌≢◌, ℕ, zero, suc, ◌+◌, ◌*◌, ◌<◌, ◌≤◌, ◌⊎◌, inl, inr, Bool, true, false, not, ◌&&◌, ◌||◌, leb, cond, List, [], ◌∷◌, ◌++◌, length, take, get_or, append_assoc, arith, ap, ap₂, sym, subst, ◌∙◌, refl}
+use Rattle.std.proofs.Common.{◌≡◌, ◌≢◌, ℕ, zero, suc, ◌+◌, ◌*◌, ◌<◌, ◌≤◌, ◌⊎◌, inl, inr, Bool, true, false}
+use Rattle.std.proofs.Common.{not, ◌&&◌, ◌||◌, leb, cond, List, [], ◌∷◌, ◌++◌, length, take, get_or}
+use Rattle.std.proofs.Common.{append_assoc, arith, ap, ap₂, sym, subst, ◌∙◌, refl}
 use Rattle.std.specs.Prelude.{replicate, Result, Ok, Err, IfOk}
 use Rattle.std.proofs.lemmas.Bool.{false≢true}
 use Rattle.std.proofs.lemmas.Bool.Decides.{nat_tests}
 use Rattle.std.proofs.lemmas.List.{take_more, append-nil}
 use Rattle.limits.specs.declared.TheConstants.{GREATEST_DEGREE}
 use Rattle.linear_algebra.proofs.Congruences.{congruent_eq}
-use Rattle.graded_polynomials.specs.Monomials.{exponent, degree, is_exterior, fits, joined, IsTrimmed, IsWithin, IsMonomial}
+use Rattle.graded_polynomials.specs.Monomials.{exponent, degree, is_exterior, fits, joined, IsTrimmed}
+use Rattle.graded_polynomials.specs.Monomials.{IsWithin, IsMonomial}
 use Rattle.graded_polynomials.specs.Polynomials.{Term, Polynomial, IsPolynomial, IsSame, coefficient, product}
 use Rattle.graded_polynomials.specs.Texts.{Factor, ReadTerm, power, read_from, read_value}
 use Rattle.graded_polynomials.proofs.Exponents.{same-exponents}

@@ -1,12 +1,15 @@
 -- What the reader of texts keeps, step by step, and what it answers.
-use Rattle.std.specs.Prelude.{◌≡◌, ◌≢◌, ℕ, ◌+◌, ◌≤◌, ◌<◌, List, [], ◌∷◌, length, All, slice_index, slice_index_or, ◌*◌, Result, Ok, Err}
+use Rattle.std.specs.Prelude.{◌≡◌, ◌≢◌, ℕ, ◌+◌, ◌≤◌, ◌<◌, List, [], ◌∷◌, length, All, slice_index}
+use Rattle.std.specs.Prelude.{slice_index_or, ◌*◌, Result, Ok, Err}
 use Rattle.limits.specs.declared.TheConstants.{GREATEST_DEGREE, LONGEST_TEXT}
 use Rattle.graded_polynomials.specs.Polynomials.{Term, Polynomial, IsSame, product}
 use Rattle.graded_polynomials.specs.Texts.{Factor, ReadTerm, name, power}
 use Rattle.polynomial_texts.specs.Grammar.{PlacedName}
-use Rattle.polynomial_texts.specs.Readings.{IsUnknown, IsFirst, IsAnswer, reads, syntax_fault, unknown_name, too_high, mixed}
+use Rattle.polynomial_texts.specs.Readings.{IsUnknown, IsFirst, IsAnswer, reads, syntax_fault, unknown_name}
+use Rattle.polynomial_texts.specs.Readings.{too_high, mixed}
 use Rattle.polynomial_reader.specs.declared.fault.PolyFault.{PolyFault}
-use Rattle.polynomial_reader.specs.declared.fault.PolyFault.TheVariants.{Syntax, UnknownName, Mixed, TooHigh, Memory}
+use Rattle.polynomial_reader.specs.declared.fault.PolyFault.TheVariants.{Syntax, UnknownName, Mixed, TooHigh}
+use Rattle.polynomial_reader.specs.declared.fault.PolyFault.TheVariants.{Memory}
 use Rattle.gc_poly.specs.Generators.{Generators, greatest}
 use Rattle.gc_poly.specs.Polynomials.{IsOverGenerators}
 

@@ -1,10 +1,12 @@
 //! The pieces of a text: terms, factors, numerals and names.
 
-ghost use Rattle.std.specs.Prelude.{◌≡◌, ◌≢◌, ℕ, ◌+◌, ◌≤◌, ◌<◌, ◌==◌, ◌++◌, ◌∷◌, true, map, length, All, IfOk, MatchOption, decimal};
+ghost use Rattle.std.specs.Prelude.{◌≡◌, ◌≢◌, ℕ, ◌+◌, ◌≤◌, ◌<◌, ◌==◌, ◌++◌, ◌∷◌, true, map, length, All};
+ghost use Rattle.std.specs.Prelude.{IfOk, MatchOption, decimal};
 ghost use Rattle.std.specs.List.{slice_split};
 ghost use Rattle.limits.specs.declared.TheConstants.{GREATEST_DEGREE};
 ghost use Rattle.graded_polynomials.specs.Texts.{joined_by, star};
-ghost use Rattle.polynomial_texts.specs.Grammar.{NamedFactor, NamedTerm, IsFactor, IsTerm, is_digit, factor_text, term_bytes};
+ghost use Rattle.polynomial_texts.specs.Grammar.{NamedFactor, NamedTerm, IsFactor, IsTerm, is_digit};
+ghost use Rattle.polynomial_texts.specs.Grammar.{factor_text, term_bytes};
 ghost use Rattle.polynomial_texts.specs.Readings.{number};
 
 use crate::syntax::is_digit;

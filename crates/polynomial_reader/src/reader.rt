@@ -1,12 +1,15 @@
 //! The polynomial of a text.
 
-ghost use Rattle.std.specs.Prelude.{◌≡◌, ◌≢◌, ℕ, ◌+◌, ◌^◌, ◌≤◌, ◌<◌, List, [], map, length, IfOk, IfSome, IsNone, MatchOption, MatchResult, slice_index_or};
+ghost use Rattle.std.specs.Prelude.{◌≡◌, ◌≢◌, ℕ, ◌+◌, ◌^◌, ◌≤◌, ◌<◌, List, [], map, length, IfOk, IfSome};
+ghost use Rattle.std.specs.Prelude.{IsNone, MatchOption, MatchResult, slice_index_or};
 ghost use Rattle.std.specs.List.{AllByRecursion as Each};
 ghost use Rattle.limits.specs.declared.TheConstants.{LONGEST_TEXT};
 ghost use Rattle.graded_polynomials.specs.Texts as texts;
-ghost use Rattle.polynomial_texts.specs.Grammar.{NamedFactor, NamedTerm, Sum, IsFactor, IsTerm, IsTextOf, factor_text, term_bytes};
+ghost use Rattle.polynomial_texts.specs.Grammar.{NamedFactor, NamedTerm, Sum, IsFactor, IsTerm, IsTextOf};
+ghost use Rattle.polynomial_texts.specs.Grammar.{factor_text, term_bytes};
 ghost use Rattle.polynomial_texts.specs.Grammar.{numeral_length, factor_names, term_names, placed_names};
-ghost use Rattle.polynomial_texts.specs.Readings.{IsUnknown, Names, NamesEach, NamesTerm, NamesTerms, NamesSum};
+ghost use Rattle.polynomial_texts.specs.Readings.{IsUnknown, Names, NamesEach, NamesTerm, NamesTerms};
+ghost use Rattle.polynomial_texts.specs.Readings.{NamesSum};
 ghost use Rattle.gc_poly.specs.Generators.{greatest};
 ghost use Rattle.polynomial_reader.specs.Reading.{AreNames, spans, IsUnknownAt, IsAnswerOf};
 

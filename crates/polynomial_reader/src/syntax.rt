@@ -2,7 +2,8 @@
 
 ghost use Rattle.std.specs.Prelude.{◌≡◌, ◌+◌, ◌-◌, ◌≤◌, Some, IsNone, IfSome, true, ◌↔◌};
 ghost use Rattle.polynomial_texts.specs.Grammar.{Sum, IsTextOf, Stops, is_letter, is_digit, is_name_byte};
-ghost use Rattle.polynomial_reader.specs.Automaton.{separator, term_start, exponent_start, goes_on, after, is_end};
+ghost use Rattle.polynomial_reader.specs.Automaton.{separator, term_start, exponent_start, goes_on, after};
+ghost use Rattle.polynomial_reader.specs.Automaton.{is_end};
 
 use limits::GREATEST_DEGREE;
 

@@ -1,5 +1,6 @@
 -- A text has one answer.
-use Rattle.std.proofs.Common.{◌≡◌, ◌≢◌, ℕ, ◌+◌, ◌<◌, ◌≤◌, ◌⊎◌, inl, inr, List, [], ◌∷◌, ◌++◌, map, length, take, drop, append_assoc, arith, ap, ap₂, sym, subst, ◌∙◌, refl}
+use Rattle.std.proofs.Common.{◌≡◌, ◌≢◌, ℕ, ◌+◌, ◌<◌, ◌≤◌, ◌⊎◌, inl, inr, List, [], ◌∷◌, ◌++◌, map, length}
+use Rattle.std.proofs.Common.{take, drop, append_assoc, arith, ap, ap₂, sym, subst, ◌∙◌, refl}
 use Rattle.std.specs.List.{AllByRecursion as Each}
 use Rattle.std.proofs.lemmas.Bool.{cases_order}
 use Rattle.std.proofs.lemmas.List.{take-append-drop, take-take}
@@ -8,8 +9,13 @@ use Rattle.linear_algebra.proofs.Congruences.{congruent_trans, congruent_sym, co
 use Rattle.graded_polynomials.specs.Polynomials.{Term, Polynomial, coefficient}
 use Rattle.graded_polynomials.specs.Texts.{Factor, ReadTerm, read_value}
 use Rattle.graded_polynomials.proofs.Stored.{polynomial-unique}
-use Rattle.polynomial_texts.specs.Grammar.{NamedFactor, NamedTerm, Sum, zero_text, one_text, terms, IsTextOf, GoesOn, Stops, PlacedName, factor_text, numeral_length, term_bytes, factor_names, term_names, placed_names}
-use Rattle.polynomial_texts.specs.Readings.{AreDegrees, IsUnknown, NamesEach, NamesTerms, NamesSum, term_degree, IsFirst, StandsFor, IsReading, HasUnknownName, IsTooHigh, IsMixed, Answer, reads, syntax_fault, unknown_name, too_high, mixed, IsAnswer}
+use Rattle.polynomial_texts.specs.Grammar.{NamedFactor, NamedTerm, Sum, zero_text, one_text, terms, IsTextOf}
+use Rattle.polynomial_texts.specs.Grammar.{GoesOn, Stops, PlacedName, factor_text, numeral_length, term_bytes}
+use Rattle.polynomial_texts.specs.Grammar.{factor_names, term_names, placed_names}
+use Rattle.polynomial_texts.specs.Readings.{AreDegrees, IsUnknown, NamesEach, NamesTerms, NamesSum}
+use Rattle.polynomial_texts.specs.Readings.{term_degree, IsFirst, StandsFor, IsReading, HasUnknownName}
+use Rattle.polynomial_texts.specs.Readings.{IsTooHigh, IsMixed, Answer, reads, syntax_fault, unknown_name}
+use Rattle.polynomial_texts.specs.Readings.{too_high, mixed, IsAnswer}
 use Rattle.polynomial_texts.proofs.Bytes.{each-append, each-mapped}
 use Rattle.polynomial_texts.proofs.Unique.{sum-unique}
 use Rattle.polynomial_texts.proofs.Names.{sum-named}

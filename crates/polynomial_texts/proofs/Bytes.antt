@@ -1,5 +1,6 @@
 -- The bytes of names and numerals: no separator is among them.
-use Rattle.std.proofs.Common.{◌≡◌, ◌≢◌, ℕ, ◌+◌, ◌%◌, ◌^◌, ◌<◌, ◌≤◌, Bool, true, false, ◌||◌, eqb, List, [], ◌∷◌, ◌++◌, map, Option, None, Some, arith, ap, sym, ◌∙◌, refl}
+use Rattle.std.proofs.Common.{◌≡◌, ◌≢◌, ℕ, ◌+◌, ◌%◌, ◌^◌, ◌<◌, ◌≤◌, Bool, true, false, ◌||◌, eqb, List, []}
+use Rattle.std.proofs.Common.{◌∷◌, ◌++◌, map, Option, None, Some, arith, ap, sym, ◌∙◌, refl}
 use Rattle.std.specs.Prelude.{decimal}
 use Rattle.std.specs.List.{AllByRecursion as Each}
 use Rattle.std.proofs.lemmas.Bool.{false≢true}
@@ -7,7 +8,9 @@ use Rattle.std.proofs.lemmas.Bool.Decides.{nat_tests}
 use Rattle.std.proofs.lemmas.Fmt.{decimal_by_steps}
 use Rattle.limits.specs.declared.TheConstants.{GREATEST_DEGREE}
 use Rattle.graded_polynomials.specs.Texts.{joined_by, star, plus_sign}
-use Rattle.polynomial_texts.specs.Grammar.{NamedFactor, NamedTerm, IsName, IsFactor, IsTerm, is_letter, is_digit, is_name_byte, caret, exponent_text, factor_text, numeral_pieces, term_bytes}
+use Rattle.polynomial_texts.specs.Grammar.{NamedFactor, NamedTerm, IsName, IsFactor, IsTerm, is_letter}
+use Rattle.polynomial_texts.specs.Grammar.{is_digit, is_name_byte, caret, exponent_text, factor_text}
+use Rattle.polynomial_texts.specs.Grammar.{numeral_pieces, term_bytes}
 
 pub each-append : {X : Type 0} (P : X → Type 0) (xs ys : List X) → Each P xs → Each P ys → Each P (xs ++ ys)
 each-append P [] ys h k = k

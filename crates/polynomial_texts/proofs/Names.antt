@@ -1,5 +1,7 @@
 -- The names of generators are names, and differ.
-use Rattle.std.proofs.Common.{◌≡◌, ℕ, zero, suc, ◌+◌, ◌^◌, ◌<◌, ◌≤◌, ◌⊎◌, inl, inr, Bool, true, false, cond, eqb, List, [], ◌∷◌, ◌++◌, length, take, get_or, append_assoc, arith, ap, ap₂, sym, ◌∙◌, refl}
+use Rattle.std.proofs.Common.{◌≡◌, ℕ, zero, suc, ◌+◌, ◌^◌, ◌<◌, ◌≤◌, ◌⊎◌, inl, inr, Bool, true, false, cond}
+use Rattle.std.proofs.Common.{eqb, List, [], ◌∷◌, ◌++◌, length, take, get_or, append_assoc, arith, ap, ap₂}
+use Rattle.std.proofs.Common.{sym, ◌∙◌, refl}
 use Rattle.std.specs.Prelude.{decimal, count_by, codes}
 use Rattle.std.specs.List.{AllByRecursion as Each}
 use Rattle.std.proofs.lemmas.Bool.{cases_order, false≢true}
@@ -11,9 +13,11 @@ use Rattle.limits.specs.declared.TheConstants.{GREATEST_DEGREE}
 use Rattle.graded_polynomials.specs.Texts.{Factor, ReadTerm, joined_by, name, ordinal}
 use Rattle.graded_polynomials.proofs.Terms.{eqb-self}
 use Rattle.graded_polynomials.proofs.TextLemmas.{joined-unique}
-use Rattle.polynomial_texts.specs.Grammar.{NamedFactor, NamedTerm, Sum, zero_text, one_text, terms, IsName, is_name_byte}
+use Rattle.polynomial_texts.specs.Grammar.{NamedFactor, NamedTerm, Sum, zero_text, one_text, terms, IsName}
+use Rattle.polynomial_texts.specs.Grammar.{is_name_byte}
 use Rattle.polynomial_texts.specs.Readings.{AreDegrees, NamesEach, NamesTerms, NamesSum}
-use Rattle.polynomial_texts.proofs.Bytes.{Without, each-append, digits-name-bytes, decimal-digits, digits-without}
+use Rattle.polynomial_texts.proofs.Bytes.{Without, each-append, digits-name-bytes, decimal-digits}
+use Rattle.polynomial_texts.proofs.Bytes.{digits-without}
 
 degree-small : (ds : List ℕ) (i : ℕ) → Each (λ d. (1 ≤ d) × (d ≤ GREATEST_DEGREE)) ds → get_or ds i 0 < 2 ^ 64
 degree-small [] i h = omega arith

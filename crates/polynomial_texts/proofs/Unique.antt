@@ -1,5 +1,6 @@
 -- A text stands for one sum.
-use Rattle.std.proofs.Common.{◌≡◌, ◌≢◌, ℕ, ◌^◌, ◌<◌, ◌≤◌, true, List, [], ◌∷◌, ◌++◌, map, get_or, Option, None, Some, arith, ap, ap₂, sym, ◌∙◌, refl}
+use Rattle.std.proofs.Common.{◌≡◌, ◌≢◌, ℕ, ◌^◌, ◌<◌, ◌≤◌, true, List, [], ◌∷◌, ◌++◌, map, get_or, Option}
+use Rattle.std.proofs.Common.{None, Some, arith, ap, ap₂, sym, ◌∙◌, refl}
 use Rattle.std.specs.Prelude.{decimal, IfSome}
 use Rattle.std.specs.List.{AllByRecursion as Each}
 use Rattle.std.proofs.lemmas.List.{append-nil}
@@ -7,8 +8,12 @@ use Rattle.std.proofs.lemmas.Fmt.{decimal_injective}
 use Rattle.limits.specs.declared.TheConstants.{GREATEST_DEGREE}
 use Rattle.graded_polynomials.specs.Texts.{joined_by, star, plus_sign}
 use Rattle.graded_polynomials.proofs.TextLemmas.{joined-unique}
-use Rattle.polynomial_texts.specs.Grammar.{NamedFactor, NamedTerm, Sum, zero_text, one_text, terms, IsName, IsFactor, IsTerm, IsSum, IsTextOf, is_digit, caret, exponent_text, factor_text, numeral_pieces, term_bytes, sum_bytes}
-use Rattle.polynomial_texts.proofs.Bytes.{each-mapped, AreDigits, Without, decimal-digits, digits-without, name-bytes-without, name-bytes, letter-no-digit, exponent-small, term_pieces, pieces-without, term-without}
+use Rattle.polynomial_texts.specs.Grammar.{NamedFactor, NamedTerm, Sum, zero_text, one_text, terms, IsName}
+use Rattle.polynomial_texts.specs.Grammar.{IsFactor, IsTerm, IsSum, IsTextOf, is_digit, caret, exponent_text}
+use Rattle.polynomial_texts.specs.Grammar.{factor_text, numeral_pieces, term_bytes, sum_bytes}
+use Rattle.polynomial_texts.proofs.Bytes.{each-mapped, AreDigits, Without, decimal-digits, digits-without}
+use Rattle.polynomial_texts.proofs.Bytes.{name-bytes-without, name-bytes, letter-no-digit, exponent-small}
+use Rattle.polynomial_texts.proofs.Bytes.{term_pieces, pieces-without, term-without}
 
 abbrev pub IsExponent : Option ℕ → Type 0
 IsExponent e = IfSome e (λ e. (1 ≤ e) × (e ≤ GREATEST_DEGREE))

@@ -1,5 +1,7 @@
 -- The text of a stored polynomial is read as that polynomial.
-use Rattle.std.proofs.Common.{◌≡◌, ◌≢◌, ℕ, zero, suc, ◌+◌, ◌*◌, ◌<◌, ◌≤◌, Bool, true, false, cond, eqb, List, [], ◌∷◌, ◌++◌, map, length, get_or, drop, append_assoc, ◌⊎◌, inl, inr, Option, None, Some, arith, ap, ap₂, sym, ◌∙◌, refl}
+use Rattle.std.proofs.Common.{◌≡◌, ◌≢◌, ℕ, zero, suc, ◌+◌, ◌*◌, ◌<◌, ◌≤◌, Bool, true, false, cond, eqb, List}
+use Rattle.std.proofs.Common.{[], ◌∷◌, ◌++◌, map, length, get_or, drop, append_assoc, ◌⊎◌, inl, inr, Option}
+use Rattle.std.proofs.Common.{None, Some, arith, ap, ap₂, sym, ◌∙◌, refl}
 use Rattle.std.specs.Prelude.{decimal, IfSome}
 use Rattle.std.specs.List.{AllByRecursion as Each}
 use Rattle.std.proofs.lemmas.List.{append-nil}
@@ -10,10 +12,13 @@ use Rattle.graded_polynomials.proofs.Terms.{eqb-true}
 use Rattle.linear_algebra.proofs.Congruences.{congruent_eq}
 use Rattle.graded_polynomials.specs.Monomials.{degree, IsTrimmed, IsWithin, IsMonomial}
 use Rattle.graded_polynomials.specs.Polynomials.{Term, Polynomial, IsPolynomial, IsOver, coefficient}
-use Rattle.graded_polynomials.specs.Texts.{joined_by, star, plus_sign, name, power_text, factor_texts, pieces_text, term_text, polynomial_text, factors_of, written}
+use Rattle.graded_polynomials.specs.Texts.{joined_by, star, plus_sign, name, power_text, factor_texts}
+use Rattle.graded_polynomials.specs.Texts.{pieces_text, term_text, polynomial_text, factors_of, written}
 use Rattle.graded_polynomials.proofs.ReadLemmas.{read-written}
-use Rattle.polynomial_texts.specs.Grammar.{NamedFactor, NamedTerm, terms, IsFactor, IsTerm, exponent_text, factor_text, numeral_pieces, term_bytes}
-use Rattle.polynomial_texts.specs.Readings.{AreDegrees, number, NamesEach, NamesTerms, term_degree, factors_degree, IsReading}
+use Rattle.polynomial_texts.specs.Grammar.{NamedFactor, NamedTerm, terms, IsFactor, IsTerm, exponent_text}
+use Rattle.polynomial_texts.specs.Grammar.{factor_text, numeral_pieces, term_bytes}
+use Rattle.polynomial_texts.specs.Readings.{AreDegrees, number, NamesEach, NamesTerms, term_degree}
+use Rattle.polynomial_texts.specs.Readings.{factors_degree, IsReading}
 use Rattle.polynomial_texts.proofs.Names.{name-formed, degrees-each}
 
 -- a number as it is written: 1 is left out

@@ -1,11 +1,13 @@
 -- What a text is read as, for the prime p = q + 1 and generators with the degrees ds: a polynomial, or its
 -- first fault.
-use Rattle.std.specs.Prelude.{◌≡◌, ◌≢◌, ℕ, ◌+◌, ◌*◌, ◌≤◌, ◌<◌, ◌⊎◌, List, [], ◌∷◌, map, length, get_or, All, Option, None, Some}
+use Rattle.std.specs.Prelude.{◌≡◌, ◌≢◌, ℕ, ◌+◌, ◌*◌, ◌≤◌, ◌<◌, ◌⊎◌, List, [], ◌∷◌, map, length, get_or, All}
+use Rattle.std.specs.Prelude.{Option, None, Some}
 use Rattle.std.specs.List.{AllByRecursion as Each, AllZip}
 use Rattle.limits.specs.declared.TheConstants.{GREATEST_DEGREE}
 use Rattle.graded_polynomials.specs.Polynomials.{Polynomial, IsPolynomial, IsSame}
 use Rattle.graded_polynomials.specs.Texts.{Factor, ReadTerm, name, read_value}
-use Rattle.polynomial_texts.specs.Grammar.{NamedFactor, NamedTerm, Sum, zero_text, one_text, terms, IsTextOf, Stops, placed_names}
+use Rattle.polynomial_texts.specs.Grammar.{NamedFactor, NamedTerm, Sum, zero_text, one_text, terms, IsTextOf}
+use Rattle.polynomial_texts.specs.Grammar.{Stops, placed_names}
 
 -- degrees of generators, from 1 to the greatest
 pub record AreDegrees (ds : List ℕ) : Type 0 where

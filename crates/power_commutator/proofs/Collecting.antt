@@ -1,6 +1,8 @@
 -- The steps of a collection keep the product.
-use Rattle.std.proofs.Common.{◌≡◌, ℕ, zero, suc, pred, refl, sym, ◌∙◌, ap, ap₂, subst, ◌<◌, ◌≤◌, arith, List, [], ◌∷◌, ◌++◌}
-use Rattle.power_commutator.specs.Presentations.{Presentation, IsWord, IsPresentation, pow, ascending, identity, generator, multiply, power_word, commutator_word}
+use Rattle.std.proofs.Common.{◌≡◌, ℕ, zero, suc, pred, refl, sym, ◌∙◌, ap, ap₂, subst, ◌<◌, ◌≤◌, arith, List}
+use Rattle.std.proofs.Common.{[], ◌∷◌, ◌++◌}
+use Rattle.power_commutator.specs.Presentations.{Presentation, IsWord, IsPresentation, pow, ascending}
+use Rattle.power_commutator.specs.Presentations.{identity, generator, multiply, power_word, commutator_word}
 use Rattle.power_commutator.specs.Claims.{GroupClaims}
 use Rattle.power_commutator.specs.Collect.{product_of, copies, spell}
 use Rattle.power_commutator.proofs.Tuples.{generator-tuple}

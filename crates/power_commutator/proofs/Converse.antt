@@ -1,11 +1,19 @@
 -- Where a group of p^n elements with generators satisfies the relations, no test is false.
-use Rattle.std.proofs.Common.{◌≡◌, ℕ, zero, suc, pred, refl, sym, ◌∙◌, ap, ap₂, ◌+◌, ◌-◌, ◌^◌, ◌%◌, ◌<◌, ◌≤◌, arith, List, None, mod-lt, mod-eq_of_lt}
-use Rattle.power_commutator.specs.Presentations.{Presentation, IsWord, IsPresentation, pow, iterate, ascending, tests, first_fault, number, word_of, power_word, commutator_word}
-use Rattle.power_commutator.specs.Claims.{Realisation, Generated, has_one, has_generator, has_product, has_inverse}
+use Rattle.std.proofs.Common.{◌≡◌, ℕ, zero, suc, pred, refl, sym, ◌∙◌, ap, ap₂, ◌+◌, ◌-◌, ◌^◌, ◌%◌, ◌<◌, ◌≤◌}
+use Rattle.std.proofs.Common.{arith, List, None, mod-lt, mod-eq_of_lt}
+use Rattle.power_commutator.specs.Presentations.{Presentation, IsWord, IsPresentation, pow, iterate}
+use Rattle.power_commutator.specs.Presentations.{ascending, tests, first_fault, number, word_of, power_word}
+use Rattle.power_commutator.specs.Presentations.{commutator_word}
+use Rattle.power_commutator.specs.Claims.{Realisation, Generated, has_one, has_generator, has_product}
+use Rattle.power_commutator.specs.Claims.{has_inverse}
 use Rattle.group_table.specs.Groups.{IsGroup as IsTableGroup}
-use Rattle.power_commutator.proofs.Group.{IsGroup, IsHom, one-mul, cancel, conj-pow, pow-last, pow-add, map-pow}
-use Rattle.power_commutator.proofs.Tuples.{Below, below-path, none, residue, residue-small, Tuple, list-of, tuple-of, tuple-list, identity-tuple, generator-tuple, Among, ascending-same, map-ascending}
-use Rattle.power_commutator.proofs.Dyck.{word, twisted, times, value, Respects, value-identity, value-generator, value-hom, value-twisted, value-iterate}
+use Rattle.power_commutator.proofs.Group.{IsGroup, IsHom, one-mul, cancel, conj-pow, pow-last, pow-add}
+use Rattle.power_commutator.proofs.Group.{map-pow}
+use Rattle.power_commutator.proofs.Tuples.{Below, below-path, none, residue, residue-small, Tuple, list-of}
+use Rattle.power_commutator.proofs.Tuples.{tuple-of, tuple-list, identity-tuple, generator-tuple, Among}
+use Rattle.power_commutator.proofs.Tuples.{ascending-same, map-ascending}
+use Rattle.power_commutator.proofs.Dyck.{word, twisted, times, value, Respects, value-identity}
+use Rattle.power_commutator.proofs.Dyck.{value-generator, value-hom, value-twisted, value-iterate}
 use Rattle.power_commutator.proofs.Layers.{Holds, AllHold, word-step}
 use Rattle.power_commutator.proofs.Tests.{each-none, hold-all}
 use Rattle.power_commutator.proofs.Lists.{list-word, list-inj}

@@ -1,5 +1,6 @@
 -- The cyclic extension of a group by a map f and an element w.
-use Rattle.std.proofs.Common.{◌≡◌, ℕ, zero, suc, refl, sym, ◌∙◌, ap, ap₂, ◌+◌, ◌-◌, ◌<◌, ◌≤◌, arith, ltb, if◌then◌else◌, lt-ltb, le-ltb, ◌⊎◌, inl, inr}
+use Rattle.std.proofs.Common.{◌≡◌, ℕ, zero, suc, refl, sym, ◌∙◌, ap, ap₂, ◌+◌, ◌-◌, ◌<◌, ◌≤◌, arith, ltb}
+use Rattle.std.proofs.Common.{if◌then◌else◌, lt-ltb, le-ltb, ◌⊎◌, inl, inr}
 use Rattle.power_commutator.specs.Presentations.{iterate}
 use Rattle.power_commutator.proofs.Group.{IsGroup, IsHom, iterate-hom, iterate-fixed, iterate-add}
 use Rattle.power_commutator.proofs.Tuples.{Below, residue, none, residue-small, residue-is}

@@ -1,8 +1,12 @@
 -- The product of a layer on tuples, and the homomorphisms from it that are given on generators.
-use Rattle.std.proofs.Common.{◌≡◌, ℕ, zero, suc, refl, sym, ◌∙◌, ap, ap₂, ◌+◌, ◌-◌, ◌<◌, ◌≤◌, arith, Bool, true, false, eqb, if◌then◌else◌, ◌⊎◌, inl, inr, List, drop, eq-eqb, ne_eqb}
-use Rattle.power_commutator.specs.Presentations.{Presentation, pow, iterate, ascending, power_word, commutator_word}
+use Rattle.std.proofs.Common.{◌≡◌, ℕ, zero, suc, refl, sym, ◌∙◌, ap, ap₂, ◌+◌, ◌-◌, ◌<◌, ◌≤◌, arith, Bool}
+use Rattle.std.proofs.Common.{true, false, eqb, if◌then◌else◌, ◌⊎◌, inl, inr, List, drop, eq-eqb, ne_eqb}
+use Rattle.power_commutator.specs.Presentations.{Presentation, pow, iterate, ascending, power_word}
+use Rattle.power_commutator.specs.Presentations.{commutator_word}
 use Rattle.power_commutator.proofs.Group.{IsGroup, IsHom, one-mul, pow-add, pow-last}
-use Rattle.power_commutator.proofs.Tuples.{residue, none, residue-small, Tuple, list-of, tuple-of, identity-tuple, generator-tuple, Among, conj-ascending, ascending-identity, map-ascending}
+use Rattle.power_commutator.proofs.Tuples.{residue, none, residue-small, Tuple, list-of, tuple-of}
+use Rattle.power_commutator.proofs.Tuples.{identity-tuple, generator-tuple, Among, conj-ascending}
+use Rattle.power_commutator.proofs.Tuples.{ascending-identity, map-ascending}
 use Rattle.power_commutator.proofs.Cyclic.{less-or, put, put-less, put-more, ext}
 
 -- a word in the layer after g_i, which has m generators

@@ -1,11 +1,16 @@
 -- Where the tests hold, each layer is a group in which the relations hold.
-use Rattle.std.proofs.Common.{◌≡◌, ℕ, zero, suc, refl, sym, ◌∙◌, ap, ap₂, ◌+◌, ◌-◌, ◌%◌, ◌<◌, ◌≤◌, arith, if◌then◌else◌, ◌⊎◌, inl, inr, List, ◌∷◌, drop, length, eq-eqb, ne_eqb}
+use Rattle.std.proofs.Common.{◌≡◌, ℕ, zero, suc, refl, sym, ◌∙◌, ap, ap₂, ◌+◌, ◌-◌, ◌%◌, ◌<◌, ◌≤◌, arith}
+use Rattle.std.proofs.Common.{if◌then◌else◌, ◌⊎◌, inl, inr, List, ◌∷◌, drop, length, eq-eqb, ne_eqb}
 use Rattle.std.proofs.Math.Seq.{drop-cons}
-use Rattle.power_commutator.specs.Presentations.{Presentation, IsWord, IsPresentation, pow, iterate, ascending, power_word, commutator_word}
+use Rattle.power_commutator.specs.Presentations.{Presentation, IsWord, IsPresentation, pow, iterate}
+use Rattle.power_commutator.specs.Presentations.{ascending, power_word, commutator_word}
 use Rattle.power_commutator.proofs.Group.{IsGroup, IsHom, one-mul, iterate-hom, iterate-fixed, map-pow}
-use Rattle.power_commutator.proofs.Tuples.{Below, residue, none, residue-small, residue-is, Tuple, list-of, tuple-of, identity-tuple, generator-tuple, Among, conj-ascending, ascending-same, map-ascending}
+use Rattle.power_commutator.proofs.Tuples.{Below, residue, none, residue-small, residue-is, Tuple, list-of}
+use Rattle.power_commutator.proofs.Tuples.{tuple-of, identity-tuple, generator-tuple, Among, conj-ascending}
+use Rattle.power_commutator.proofs.Tuples.{ascending-same, map-ascending}
 use Rattle.power_commutator.proofs.Cyclic.{less-or, put, put-less, put-more, ext-group}
-use Rattle.power_commutator.proofs.Dyck.{word, image, twisted, times, value, Respects, value-identity, value-generator, value-hom}
+use Rattle.power_commutator.proofs.Dyck.{word, image, twisted, times, value, Respects, value-identity}
+use Rattle.power_commutator.proofs.Dyck.{value-generator, value-hom}
 
 -- the tests of layer i hold
 pub record Holds (q : ℕ) (P : Presentation) (i m : ℕ) : Type 0 where

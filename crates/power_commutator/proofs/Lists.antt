@@ -1,9 +1,15 @@
 -- The product of a layer on lists is that on tuples, and the tests on lists are those on tuples.
-use Rattle.std.proofs.Common.{◌≡◌, ℕ, zero, suc, refl, sym, ◌∙◌, ap, ap₂, ◌+◌, ◌-◌, ◌<◌, ◌≤◌, arith, Bool, true, false, eqb, if◌then◌else◌, ◌⊎◌, inl, inr, List, ◌∷◌, drop, length, get_or, lt-ltb, le-ltb, drop_of_length-le}
+use Rattle.std.proofs.Common.{◌≡◌, ℕ, zero, suc, refl, sym, ◌∙◌, ap, ap₂, ◌+◌, ◌-◌, ◌<◌, ◌≤◌, arith, Bool}
+use Rattle.std.proofs.Common.{true, false, eqb, if◌then◌else◌, ◌⊎◌, inl, inr, List, ◌∷◌, drop, length, get_or}
+use Rattle.std.proofs.Common.{lt-ltb, le-ltb, drop_of_length-le}
 use Rattle.std.proofs.Math.Seq.{drop-cons}
-use Rattle.power_commutator.specs.Presentations.{Presentation, IsWord, IsPresentation, iterate, identity, generator, alpha, carry, product, power_word, commutator_word}
+use Rattle.power_commutator.specs.Presentations.{Presentation, IsWord, IsPresentation, iterate, identity}
+use Rattle.power_commutator.specs.Presentations.{generator, alpha, carry, product, power_word}
+use Rattle.power_commutator.specs.Presentations.{commutator_word}
 use Rattle.power_commutator.proofs.Group.{IsHom}
-use Rattle.power_commutator.proofs.Tuples.{residue, none, residue-small, Tuple, list-of, tuple-of, tuple-list, identity-tuple, generator-tuple, Among, ascending-same, map-ascending}
+use Rattle.power_commutator.proofs.Tuples.{residue, none, residue-small, Tuple, list-of, tuple-of, tuple-list}
+use Rattle.power_commutator.proofs.Tuples.{identity-tuple, generator-tuple, Among, ascending-same}
+use Rattle.power_commutator.proofs.Tuples.{map-ascending}
 use Rattle.power_commutator.proofs.Cyclic.{less-or, put, put-less, put-more}
 use Rattle.power_commutator.proofs.Dyck.{word, image, twisted, times}
 

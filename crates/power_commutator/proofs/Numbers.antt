@@ -1,6 +1,9 @@
 -- Elements and their numbers.
-use Rattle.std.proofs.Common.{◌≡◌, ℕ, zero, suc, refl, sym, ◌∙◌, ap, ap₂, subst, ◌+◌, ◌-◌, ◌*◌, ◌/◌, ◌%◌, ◌^◌, ◌<◌, ◌≤◌, arith, if◌then◌else◌, ◌⊎◌, inl, inr, List, ◌∷◌, length, All, eq-eqb, ne_eqb, mul-le-mul_left, mod-lt, zero-lt-suc}
-use Rattle.std.proofs.Math.Nat.{pow-zero, pow-succ', add-mul-mod_self_left, mul-add-div, div-eq_of_lt, div-add-mod, mod-eq_of_lt, div-lt_iff_lt-mul}
+use Rattle.std.proofs.Common.{◌≡◌, ℕ, zero, suc, refl, sym, ◌∙◌, ap, ap₂, subst, ◌+◌, ◌-◌, ◌*◌, ◌/◌, ◌%◌, ◌^◌}
+use Rattle.std.proofs.Common.{◌<◌, ◌≤◌, arith, if◌then◌else◌, ◌⊎◌, inl, inr, List, ◌∷◌, length, All, eq-eqb}
+use Rattle.std.proofs.Common.{ne_eqb, mul-le-mul_left, mod-lt, zero-lt-suc}
+use Rattle.std.proofs.Math.Nat.{pow-zero, pow-succ', add-mul-mod_self_left, mul-add-div, div-eq_of_lt}
+use Rattle.std.proofs.Math.Nat.{div-add-mod, mod-eq_of_lt, div-lt_iff_lt-mul}
 use Rattle.std.proofs.lemmas.List.Elements.{All-nil, All-cons}
 use Rattle.power_commutator.specs.Presentations.{IsWord, identity, generator, number, word_of}
 use Rattle.power_commutator.specs.Claims.{IsNumbering}

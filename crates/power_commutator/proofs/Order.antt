@@ -1,7 +1,10 @@
 -- The order of the tests, and which is the first false one.
-use Rattle.std.proofs.Common.{◌≡◌, ℕ, zero, suc, refl, sym, ◌∙◌, ap, ap₂, subst, ◌+◌, ◌-◌, ◌<◌, ◌≤◌, arith, Bool, true, false, if◌then◌else◌, List, [], ◌∷◌, ◌++◌, map, Some, None, ◌⊎◌, inl, inr}
+use Rattle.std.proofs.Common.{◌≡◌, ℕ, zero, suc, refl, sym, ◌∙◌, ap, ap₂, subst, ◌+◌, ◌-◌, ◌<◌, ◌≤◌, arith}
+use Rattle.std.proofs.Common.{Bool, true, false, if◌then◌else◌, List, [], ◌∷◌, ◌++◌, map, Some, None, ◌⊎◌}
+use Rattle.std.proofs.Common.{inl, inr}
 use Rattle.power_commutator.specs.declared.TestName.{TestName}
-use Rattle.power_commutator.specs.Presentations.{Presentation, Equation, power_test, swap_test, fixed_test, twist_test, equations, range, pairs, same, first_false}
+use Rattle.power_commutator.specs.Presentations.{Presentation, Equation, power_test, swap_test, fixed_test}
+use Rattle.power_commutator.specs.Presentations.{twist_test, equations, range, pairs, same, first_false}
 use Rattle.power_commutator.specs.Steps.{or_else}
 pub use Rattle.power_commutator.specs.Order.{row}
 use Rattle.power_commutator.proofs.Tuples.{Among}

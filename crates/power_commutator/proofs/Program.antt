@@ -1,15 +1,20 @@
 -- The laws of the steps in the form in which a program cites them: over words and numbers, with no tuples.
-use Rattle.std.proofs.Common.{◌≡◌, ℕ, zero, suc, pred, refl, sym, ◌∙◌, ap, ap₂, subst, ◌+◌, ◌-◌, ◌*◌, ◌/◌, ◌%◌, ◌^◌, ◌<◌, arith, eqb, ltb, if◌then◌else◌, List, drop}
+use Rattle.std.proofs.Common.{◌≡◌, ℕ, zero, suc, pred, refl, sym, ◌∙◌, ap, ap₂, subst, ◌+◌, ◌-◌, ◌*◌, ◌/◌}
+use Rattle.std.proofs.Common.{◌%◌, ◌^◌, ◌<◌, arith, eqb, ltb, if◌then◌else◌, List, drop}
 use Rattle.std.proofs.Math.Nat.{div-lt_iff_lt-mul}
-use Rattle.power_commutator.specs.Presentations.{Presentation, IsWord, IsPresentation, pow, iterate, product, Equation, power_test, swap_test, fixed_test, twist_test, same, number, word_of, power_word, commutator_word}
+use Rattle.power_commutator.specs.Presentations.{Presentation, IsWord, IsPresentation, pow, iterate, product}
+use Rattle.power_commutator.specs.Presentations.{Equation, power_test, swap_test, fixed_test, twist_test}
+use Rattle.power_commutator.specs.Presentations.{same, number, word_of, power_word, commutator_word}
 use Rattle.power_commutator.specs.Claims.{table, IsNumbering}
 use Rattle.power_commutator.specs.Steps.{step_table, step_alpha, IsLayerTable}
 use Rattle.power_commutator.proofs.Tuples.{Tuple, list-of, Among}
 use Rattle.power_commutator.proofs.Dyck.{twisted, times}
 use Rattle.power_commutator.proofs.Lists.{list-times}
 use Rattle.power_commutator.proofs.Numbers.{list-is, for-words, list-below, numbering}
-use Rattle.power_commutator.proofs.Tests.{power-left, power-right, swap-left, swap-right, fixed-left, twist-left, twist-right, w-is}
-use Rattle.power_commutator.proofs.Steps.{num, IsTable, alpha-number, table-step, same-number, power-numbers, swap-numbers, fixed-number, twist-numbers, table-last, table-first}
+use Rattle.power_commutator.proofs.Tests.{power-left, power-right, swap-left, swap-right, fixed-left}
+use Rattle.power_commutator.proofs.Tests.{twist-left, twist-right, w-is}
+use Rattle.power_commutator.proofs.Steps.{num, IsTable, alpha-number, table-step, same-number, power-numbers}
+use Rattle.power_commutator.proofs.Steps.{swap-numbers, fixed-number, twist-numbers, table-last, table-first}
 use Rattle.power_commutator.proofs.Order.{Passes}
 
 module _ (P : Presentation) (s : 1 < P.prime) (v : IsPresentation P) where

@@ -1,9 +1,14 @@
 -- A presentation without a fault has a realisation: its group.
-use Rattle.std.proofs.Common.{◌≡◌, ℕ, zero, suc, pred, sym, ◌∙◌, ap, ap₂, subst, ◌+◌, ◌-◌, ◌^◌, ◌<◌, ◌≤◌, arith, List, None}
-use Rattle.power_commutator.specs.Presentations.{Presentation, IsWord, IsPresentation, pow, ascending, generator, multiply, number, word_of, tests, first_fault, power_word, commutator_word}
-use Rattle.power_commutator.specs.Claims.{table, GroupClaims, Generated, has_one, has_generator, has_product, Realisation}
+use Rattle.std.proofs.Common.{◌≡◌, ℕ, zero, suc, pred, sym, ◌∙◌, ap, ap₂, subst, ◌+◌, ◌-◌, ◌^◌, ◌<◌, ◌≤◌}
+use Rattle.std.proofs.Common.{arith, List, None}
+use Rattle.power_commutator.specs.Presentations.{Presentation, IsWord, IsPresentation, pow, ascending}
+use Rattle.power_commutator.specs.Presentations.{generator, multiply, number, word_of, tests, first_fault}
+use Rattle.power_commutator.specs.Presentations.{power_word, commutator_word}
+use Rattle.power_commutator.specs.Claims.{table, GroupClaims, Generated, has_one, has_generator, has_product}
+use Rattle.power_commutator.specs.Claims.{Realisation}
 use Rattle.power_commutator.proofs.Group.{IsHom, map-pow}
-use Rattle.power_commutator.proofs.Tuples.{Tuple, list-of, tuple-of, identity-tuple, generator-tuple, ascending-same, map-ascending}
+use Rattle.power_commutator.proofs.Tuples.{Tuple, list-of, tuple-of, identity-tuple, generator-tuple}
+use Rattle.power_commutator.proofs.Tuples.{ascending-same, map-ascending}
 use Rattle.power_commutator.proofs.Dyck.{word, times}
 use Rattle.power_commutator.proofs.Layers.{Layer, layers}
 use Rattle.power_commutator.proofs.Lists.{list-identity, list-generator, list-word, list-times}

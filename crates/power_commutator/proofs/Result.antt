@@ -1,10 +1,13 @@
 -- A presentation without a fault gives a group in which its relations hold.
 use Rattle.std.proofs.Common.{◌≡◌, ℕ, suc, pred, sym, ◌∙◌, ap, ap₂, subst, ◌^◌, ◌<◌, arith, List, None}
-use Rattle.power_commutator.specs.Presentations.{Presentation, IsWord, IsPresentation, pow, ascending, identity, generator, multiply, number, word_of, tests, first_fault, power_word, commutator_word}
+use Rattle.power_commutator.specs.Presentations.{Presentation, IsWord, IsPresentation, pow, ascending}
+use Rattle.power_commutator.specs.Presentations.{identity, generator, multiply, number, word_of, tests}
+use Rattle.power_commutator.specs.Presentations.{first_fault, power_word, commutator_word}
 use Rattle.power_commutator.specs.Claims.{IsWordGroup, IsNumbering, GroupClaims}
 use Rattle.group_table.specs.Groups.{IsGroup as IsTableGroup}
 use Rattle.power_commutator.proofs.Group.{IsGroup, IsHom, one-mul, inv-mul, map-pow}
-use Rattle.power_commutator.proofs.Tuples.{Tuple, list-of, identity-tuple, generator-tuple, ascending-same, map-ascending}
+use Rattle.power_commutator.proofs.Tuples.{Tuple, list-of, identity-tuple, generator-tuple, ascending-same}
+use Rattle.power_commutator.proofs.Tuples.{map-ascending}
 use Rattle.power_commutator.proofs.Dyck.{times}
 use Rattle.power_commutator.proofs.Layers.{Layer, layers}
 use Rattle.power_commutator.proofs.Lists.{list-identity, list-generator, list-word, list-times}

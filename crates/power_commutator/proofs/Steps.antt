@@ -1,20 +1,28 @@
 -- What a program needs that computes by numbers and tables: a layer's table from the next one's, the tests by
 -- numbers, and the
 -- order of the tests.
-use Rattle.std.proofs.Common.{◌≡◌, ℕ, zero, suc, refl, sym, ◌∙◌, ap, ap₂, subst, subst₂, ◌+◌, ◌-◌, ◌*◌, ◌/◌, ◌%◌, ◌^◌, ◌<◌, ◌≤◌, arith, Bool, true, false, eqb, ltb, if◌then◌else◌, List, [], ◌∷◌, ◌++◌, drop, Some, None, lt-ltb, le-ltb, ◌⊎◌, inl, inr, mod-eq_of_lt, zero-lt-suc}
+use Rattle.std.proofs.Common.{◌≡◌, ℕ, zero, suc, refl, sym, ◌∙◌, ap, ap₂, subst, subst₂, ◌+◌, ◌-◌, ◌*◌, ◌/◌}
+use Rattle.std.proofs.Common.{◌%◌, ◌^◌, ◌<◌, ◌≤◌, arith, Bool, true, false, eqb, ltb, if◌then◌else◌, List, []}
+use Rattle.std.proofs.Common.{◌∷◌, ◌++◌, drop, Some, None, lt-ltb, le-ltb, ◌⊎◌, inl, inr, mod-eq_of_lt}
+use Rattle.std.proofs.Common.{zero-lt-suc}
 use Rattle.std.proofs.Math.Nat.{add-mul-mod_self_left, mul-add-div, div-eq_of_lt}
 use Rattle.std.proofs.lemmas.Bool.Decides.{eqb_tells}
-use Rattle.power_commutator.specs.Presentations.{Presentation, IsWord, IsPresentation, pow, iterate, ascending, identity, product, multiply, Equation, power_test, swap_test, fixed_test, twist_test, tests, same, first_false, number, word_of, power_word, commutator_word}
+use Rattle.power_commutator.specs.Presentations.{Presentation, IsWord, IsPresentation, pow, iterate}
+use Rattle.power_commutator.specs.Presentations.{ascending, identity, product, multiply, Equation, power_test}
+use Rattle.power_commutator.specs.Presentations.{swap_test, fixed_test, twist_test, tests, same, first_false}
+use Rattle.power_commutator.specs.Presentations.{number, word_of, power_word, commutator_word}
 use Rattle.power_commutator.specs.Steps.{step_table, step_alpha}
 use Rattle.power_commutator.specs.Claims.{table}
 use Rattle.power_commutator.specs.declared.TestName.{TestName}
 use Rattle.power_commutator.proofs.Group.{IsHom, map-pow}
-use Rattle.power_commutator.proofs.Tuples.{residue-small, Tuple, list-of, tuple-of, identity-tuple, generator-tuple, Among, ascending-same, map-ascending}
+use Rattle.power_commutator.proofs.Tuples.{residue-small, Tuple, list-of, tuple-of, identity-tuple}
+use Rattle.power_commutator.proofs.Tuples.{generator-tuple, Among, ascending-same, map-ascending}
 use Rattle.power_commutator.proofs.Cyclic.{less-or, put, put-less, put-more}
 use Rattle.power_commutator.proofs.Dyck.{word, image, twisted, times}
 use Rattle.power_commutator.proofs.Lists.{list-identity, list-generator, list-word, list-power, list-times}
 use Rattle.power_commutator.proofs.Numbers.{list-tuple, word-number-list, numbering, number-generator}
-use Rattle.power_commutator.proofs.Tests.{power-left, power-right, swap-left, swap-right, fixed-left, twist-left, twist-right, w-is, same-eq, same-self}
+use Rattle.power_commutator.proofs.Tests.{power-left, power-right, swap-left, swap-right, fixed-left}
+use Rattle.power_commutator.proofs.Tests.{twist-left, twist-right, w-is, same-eq, same-self}
 
 -- the number of a tuple
 abbrev pub num : (p q m : ℕ) → Tuple q m → ℕ

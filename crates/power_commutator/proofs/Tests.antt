@@ -1,12 +1,18 @@
 -- No test is false exactly where all tests of all layers hold on tuples.
-use Rattle.std.proofs.Common.{◌≡◌, ℕ, zero, suc, refl, sym, ◌∙◌, ap, ap₂, ◌+◌, ◌<◌, ◌≤◌, arith, Bool, true, false, eqb, ◌&&◌, if◌then◌else◌, ◌⊎◌, inl, inr, List, [], ◌∷◌, ◌++◌, map, drop, Some, None, eqb-true, eq-eqb, subst}
-use Rattle.power_commutator.specs.Presentations.{Presentation, IsPresentation, pow, iterate, identity, generator, alpha, product, Equation, power_test, swap_test, fixed_test, twist_test, equations, range, pairs, tests, same, first_false, power_word, commutator_word}
+use Rattle.std.proofs.Common.{◌≡◌, ℕ, zero, suc, refl, sym, ◌∙◌, ap, ap₂, ◌+◌, ◌<◌, ◌≤◌, arith, Bool, true}
+use Rattle.std.proofs.Common.{false, eqb, ◌&&◌, if◌then◌else◌, ◌⊎◌, inl, inr, List, [], ◌∷◌, ◌++◌, map, drop}
+use Rattle.std.proofs.Common.{Some, None, eqb-true, eq-eqb, subst}
+use Rattle.power_commutator.specs.Presentations.{Presentation, IsPresentation, pow, iterate, identity}
+use Rattle.power_commutator.specs.Presentations.{generator, alpha, product, Equation, power_test, swap_test}
+use Rattle.power_commutator.specs.Presentations.{fixed_test, twist_test, equations, range, pairs, tests, same}
+use Rattle.power_commutator.specs.Presentations.{first_false, power_word, commutator_word}
 use Rattle.power_commutator.proofs.Group.{IsHom, map-pow}
 use Rattle.power_commutator.proofs.Tuples.{Tuple, list-of, identity-tuple, generator-tuple, Among}
 use Rattle.power_commutator.proofs.Cyclic.{less-or}
 use Rattle.power_commutator.proofs.Dyck.{word, twisted, times}
 use Rattle.power_commutator.proofs.Layers.{Holds, AllHold}
-use Rattle.power_commutator.proofs.Lists.{list-inj, list-identity, list-generator, list-word, list-power, list-twisted, list-times, list-iterate}
+use Rattle.power_commutator.proofs.Lists.{list-inj, list-identity, list-generator, list-word, list-power}
+use Rattle.power_commutator.proofs.Lists.{list-twisted, list-times, list-iterate}
 
 abbrev pub EachHolds : List Equation → Type 0
 EachHolds [] = Unit {0}

@@ -1,5 +1,6 @@
 -- Exponent lists as tuples of numbers below p.
-use Rattle.std.proofs.Common.{◌≡◌, ℕ, zero, suc, refl, sym, ◌∙◌, ap, ap₂, ◌+◌, ◌%◌, ◌<◌, ◌≤◌, arith, eqb, if◌then◌else◌, List, [], ◌∷◌}
+use Rattle.std.proofs.Common.{◌≡◌, ℕ, zero, suc, refl, sym, ◌∙◌, ap, ap₂, ◌+◌, ◌%◌, ◌<◌, ◌≤◌, arith, eqb}
+use Rattle.std.proofs.Common.{if◌then◌else◌, List, [], ◌∷◌}
 use Rattle.std.proofs.Math.Nat.{mod-lt, mod-eq_of_lt}
 use native.Mathlib.Nat.{zero-lt-suc}
 use mathlib.Core.HLevel.{Σ_prop_path}

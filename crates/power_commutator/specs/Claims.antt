@@ -1,7 +1,8 @@
 -- What holds for a consistent presentation.
 use Rattle.std.specs.Prelude.{◌≡◌, ℕ, ◌-◌, ◌^◌, ◌<◌, ◌≤◌, List}
 use Rattle.group_table.specs.Groups.{IsGroup}
-use Rattle.power_commutator.specs.Presentations.{Presentation, IsWord, pow, ascending, identity, generator, multiply, number, word_of, power_word, commutator_word}
+use Rattle.power_commutator.specs.Presentations.{Presentation, IsWord, pow, ascending, identity, generator}
+use Rattle.power_commutator.specs.Presentations.{multiply, number, word_of, power_word, commutator_word}
 
 -- the words with n exponents are a group
 pub record IsWordGroup (p n : ℕ) (mul : List ℕ → List ℕ → List ℕ) : Type 0 where

@@ -1,6 +1,8 @@
 -- Power-commutator presentations, the product of their layers, the consistency tests and the numbers of
 -- elements: definitions alone.
-use Rattle.std.specs.Prelude.{◌≡◌, ℕ, zero, suc, ◌+◌, ◌-◌, ◌*◌, ◌/◌, ◌%◌, Bool, true, false, eqb, ltb, ◌&&◌, if◌then◌else◌, List, [], ◌∷◌, ◌++◌, map, drop, Option, Some, None, ◌<◌, ◌≤◌, length, get_or, All}
+use Rattle.std.specs.Prelude.{◌≡◌, ℕ, zero, suc, ◌+◌, ◌-◌, ◌*◌, ◌/◌, ◌%◌, Bool, true, false, eqb, ltb, ◌&&◌}
+use Rattle.std.specs.Prelude.{if◌then◌else◌, List, [], ◌∷◌, ◌++◌, map, drop, Option, Some, None, ◌<◌, ◌≤◌}
+use Rattle.std.specs.Prelude.{length, get_or, All}
 use Rattle.power_commutator.specs.declared.TestName.{TestName}
 use Rattle.power_commutator.specs.declared.TestName.TheVariants.{Power, Swap, Fixed, Twist}
 

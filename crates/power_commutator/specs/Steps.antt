@@ -1,6 +1,8 @@
 -- The product of a layer and the maps α_i by numbers.
-use Rattle.std.specs.Prelude.{◌≡◌, List, Option, Some, None, ℕ, suc, ◌+◌, ◌-◌, ◌*◌, ◌/◌, ◌%◌, ◌^◌, ltb, if◌then◌else◌, drop}
-use Rattle.power_commutator.specs.Presentations.{Presentation, IsWord, iterate, ascending, product, number, word_of, commutator_word}
+use Rattle.std.specs.Prelude.{◌≡◌, List, Option, Some, None, ℕ, suc, ◌+◌, ◌-◌, ◌*◌, ◌/◌, ◌%◌, ◌^◌, ltb}
+use Rattle.std.specs.Prelude.{if◌then◌else◌, drop}
+use Rattle.power_commutator.specs.Presentations.{Presentation, IsWord, iterate, ascending, product, number}
+use Rattle.power_commutator.specs.Presentations.{word_of, commutator_word}
 
 -- the product of a layer by numbers, from the product t, the number w of w_i and the table f of α_i in the
 -- next layer

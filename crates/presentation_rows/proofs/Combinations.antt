@@ -1,10 +1,12 @@
 -- Combinations of vectors are combinations of rows, and spans of lists that are put together.
-use Rattle.std.proofs.Common.{ℕ, zero, suc, ◌+◌, ◌-◌, ◌*◌, ◌%◌, ◌<◌, ◌≤◌, ◌↔◌, List, [], ◌∷◌, ◌++◌, length, map, ◌⊎◌, inl, inr, arith, ap, sym, ◌∙◌, refl, length-append}
+use Rattle.std.proofs.Common.{ℕ, zero, suc, ◌+◌, ◌-◌, ◌*◌, ◌%◌, ◌<◌, ◌≤◌, ◌↔◌, List, [], ◌∷◌, ◌++◌, length}
+use Rattle.std.proofs.Common.{map, ◌⊎◌, inl, inr, arith, ap, sym, ◌∙◌, refl, length-append}
 use Rattle.std.proofs.Math.Path.{fun_ext}
 use Rattle.std.proofs.lemmas.Bool.{cases_lt}
 use Rattle.std.proofs.lemmas.List.{get_or_append_left, get_or-append_right, get_or-append-add}
 use Rattle.linear_algebra.specs.Rows.{entry, row, combination, IsInSpan, AreInSpan}
-use Rattle.linear_algebra.proofs.Congruences.{congruent_refl, congruent_add, congruent_eq, congruent_trans, congruent_sym, congruent_mod}
+use Rattle.linear_algebra.proofs.Congruences.{congruent_refl, congruent_add, congruent_eq, congruent_trans}
+use Rattle.linear_algebra.proofs.Congruences.{congruent_sym, congruent_mod}
 use Rattle.linear_algebra.proofs.Spans.{in_span_row, in_span_congruent, are_in_span_trans}
 use Rattle.graded_algebra.specs.Presentations.{IsCombination}
 use Rattle.graded_algebra.specs.Vectors.{Below, Vector, residue, vectors}

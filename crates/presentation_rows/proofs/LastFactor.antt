@@ -1,9 +1,11 @@
 -- The value of a monomial by its last factor.
-use Rattle.std.proofs.Common.{◌≡◌, ℕ, zero, suc, ◌+◌, ◌*◌, ◌<◌, ◌≤◌, List, [], ◌∷◌, Bool, true, false, not, ◌||◌, ◌&&◌, leb, ◌⊎◌, inl, inr, arith, ap, ap₂, sym, ◌∙◌, refl}
+use Rattle.std.proofs.Common.{◌≡◌, ℕ, zero, suc, ◌+◌, ◌*◌, ◌<◌, ◌≤◌, List, [], ◌∷◌, Bool, true, false, not}
+use Rattle.std.proofs.Common.{◌||◌, ◌&&◌, leb, ◌⊎◌, inl, inr, arith, ap, ap₂, sym, ◌∙◌, refl}
 use Rattle.std.specs.Prelude.{slice_index_or}
 use Rattle.std.proofs.lemmas.Bool.{cases_order}
 use Rattle.std.proofs.lemmas.Bool.Decides.{nat_tests}
-use Rattle.graded_polynomials.specs.Monomials.{exponent, degree, fits, is_exterior, IsWithin, IsTrimmed, IsMonomial}
+use Rattle.graded_polynomials.specs.Monomials.{exponent, degree, fits, is_exterior, IsWithin, IsTrimmed}
+use Rattle.graded_polynomials.specs.Monomials.{IsMonomial}
 use Rattle.graded_polynomials.proofs.Exponents.{same-exponents}
 use Rattle.graded_polynomials.proofs.Terms.{false≢true}
 use Rattle.graded_algebra.specs.Algebras.{Algebra, Generator, degrees, powers, evaluate, evaluate_from}

@@ -1,18 +1,21 @@
 -- The monomials of a degree and their values where generators are added.
-use Rattle.std.proofs.Common.{◌≡◌, ◌≢◌, ℕ, zero, suc, ◌+◌, ◌<◌, ◌≤◌, List, [], ◌∷◌, ◌++◌, length, ◌⊎◌, inl, inr, arith, ap, sym, ◌∙◌, refl, length-append}
+use Rattle.std.proofs.Common.{◌≡◌, ◌≢◌, ℕ, zero, suc, ◌+◌, ◌<◌, ◌≤◌, List, [], ◌∷◌, ◌++◌, length, ◌⊎◌, inl}
+use Rattle.std.proofs.Common.{inr, arith, ap, sym, ◌∙◌, refl, length-append}
 use Rattle.std.specs.Prelude.{slice_index_or}
 use Rattle.std.specs.List.{AllByRecursion as Each}
 use Rattle.std.proofs.lemmas.Bool.{cases_lt}
 use Rattle.std.proofs.lemmas.List.{get_or_append_left, get_or_push}
 use Rattle.linear_algebra.specs.Rows.{row}
 use Rattle.linear_algebra.proofs.Spans.{row_push, row_before_push}
-use Rattle.graded_polynomials.specs.Monomials.{IsMonomial, IsMonomials, IsWithin, IsTrimmed, IsGreater, degree, exponent}
+use Rattle.graded_polynomials.specs.Monomials.{IsMonomial, IsMonomials, IsWithin, IsTrimmed, IsGreater}
+use Rattle.graded_polynomials.specs.Monomials.{degree, exponent}
 use Rattle.graded_polynomials.specs.Texts.{power}
 use Rattle.graded_algebra.specs.Algebras.{Generator, degrees, evaluate}
 use Rattle.graded_algebra.specs.Vectors.{Vector, vectors, unit}
 use Rattle.graded_algebra.proofs.Ideals.{degree-nil}
 use Rattle.graded_polynomials.proofs.MoreGenerators.{monomial-more, fits-more, degree-more}
-use Rattle.graded_algebra.proofs.MoreGenerators.{single, monomial-single, last-case, degrees-append, from-more}
+use Rattle.graded_algebra.proofs.MoreGenerators.{single, monomial-single, last-case, degrees-append}
+use Rattle.graded_algebra.proofs.MoreGenerators.{from-more}
 use Rattle.presentation_rows.specs.Values.{vector, AreValues}
 use Rattle.presentation_rows.specs.Factors.{IsLastFactor}
 use Rattle.presentation_rows.proofs.LastFactor.{value-by-factor, from-nil}

@@ -1,5 +1,6 @@
 -- The consequences of relations lead at the pivots of the span of the rows of their multiples.
-use Rattle.std.proofs.Common.{◌≡◌, ℕ, zero, suc, ◌*◌, ◌<◌, ◌≤◌, ◌↔◌, List, [], ◌∷◌, ◌++◌, length, arith, ap, sym, ◌∙◌, refl}
+use Rattle.std.proofs.Common.{◌≡◌, ℕ, zero, suc, ◌*◌, ◌<◌, ◌≤◌, ◌↔◌, List, [], ◌∷◌, ◌++◌, length, arith, ap}
+use Rattle.std.proofs.Common.{sym, ◌∙◌, refl}
 use Rattle.std.specs.Prelude.{slice_index_or}
 use Rattle.std.specs.List.{AllByRecursion as Each}
 use Rattle.linear_algebra.specs.Modular.{IsCongruent, sum_below}
@@ -7,7 +8,8 @@ use Rattle.linear_algebra.specs.Rows.{entry, row, IsEchelonOf, IsInSpan, IsPivot
 use Rattle.linear_algebra.proofs.Congruences.{congruent_add, congruent_eq, congruent_trans, congruent_sym}
 use Rattle.linear_algebra.proofs.Spans.{in_span_congruent, in_span_zero, in_span_add}
 use Rattle.graded_polynomials.specs.Monomials.{IsMonomial, IsMonomials}
-use Rattle.graded_polynomials.specs.Polynomials.{Term, Polynomial, Multiple, coefficient, multiple, scaled, total, IsMultiple, IsOneOf, IsOver}
+use Rattle.graded_polynomials.specs.Polynomials.{Term, Polynomial, Multiple, coefficient, multiple, scaled}
+use Rattle.graded_polynomials.specs.Polynomials.{total, IsMultiple, IsOneOf, IsOver}
 use Rattle.graded_polynomials.proofs.Monomials.{over-multiple}
 use Rattle.graded_polynomials.proofs.Terms.{each-append, over-scaled, coefficient-append}
 use Rattle.graded_algebra.specs.Algebras.{Algebra, Generator, degrees}
@@ -16,7 +18,8 @@ use Rattle.graded_algebra.proofs.Ideals.{multiple-scaled, ideal-same, ideal-zero
 use Rattle.presentation_rows.specs.RowPolynomials.{polynomial_of, row_of}
 use Rattle.presentation_rows.specs.Multiples.{terms_of, AreMultiples}
 use Rattle.presentation_rows.proofs.RowTerms.{monomials-apart, coefficient-at, over-row, same-at-places}
-use Rattle.presentation_rows.proofs.RowSums.{row-of-same, entry-congruent, row-plus, row-append, row-empty, row-times}
+use Rattle.presentation_rows.proofs.RowSums.{row-of-same, entry-congruent, row-plus, row-append, row-empty}
+use Rattle.presentation_rows.proofs.RowSums.{row-times}
 use Rattle.presentation_rows.proofs.Leads.{pivot-of-leading, leading-of-pivot}
 
 module _ (q d : ℕ) (V : Type 0) (A : Algebra V) (gs : List (Generator V)) (rs : List Polynomial)

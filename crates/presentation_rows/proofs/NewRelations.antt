@@ -1,5 +1,6 @@
 -- The rows of the kernel whose pivots are none of the multiples' are the new relations.
-use Rattle.std.proofs.Common.{◌≡◌, ◌≢◌, ℕ, suc, ◌+◌, ◌<◌, ◌≤◌, ◌↔◌, List, [], ◌∷◌, length, true, false, ◌⊎◌, inl, inr, arith, ap, sym, ◌∙◌, refl}
+use Rattle.std.proofs.Common.{◌≡◌, ◌≢◌, ℕ, suc, ◌+◌, ◌<◌, ◌≤◌, ◌↔◌, List, [], ◌∷◌, length, true, false, ◌⊎◌}
+use Rattle.std.proofs.Common.{inl, inr, arith, ap, sym, ◌∙◌, refl}
 use Rattle.std.specs.Prelude.{slice_index_or}
 use Rattle.std.proofs.lemmas.Bool.{cases_Bool, cases_order, cases_lt}
 use Rattle.linear_algebra.specs.Modular.{IsCongruent}
@@ -10,7 +11,8 @@ use Rattle.graded_polynomials.specs.Monomials.{IsMonomial, IsMonomials}
 use Rattle.graded_polynomials.specs.Polynomials.{Polynomial, coefficient}
 use Rattle.graded_polynomials.proofs.Terms.{occurs}
 use Rattle.graded_algebra.specs.Algebras.{Generator, degrees}
-use Rattle.graded_algebra.specs.Presentations.{IsLeading, IsConsequence, IsStandard, IsRelationAt, IsRelationsFrom}
+use Rattle.graded_algebra.specs.Presentations.{IsLeading, IsConsequence, IsStandard, IsRelationAt}
+use Rattle.graded_algebra.specs.Presentations.{IsRelationsFrom}
 use Rattle.graded_algebra.specs.Vectors.{Vector, vectors}
 use Rattle.presentation_rows.specs.RowPolynomials.{polynomial_of}
 use Rattle.presentation_rows.specs.Values.{AreValues}

@@ -1,10 +1,12 @@
 -- The rows of sums of polynomials.
-use Rattle.std.proofs.Common.{◌≡◌, ℕ, suc, ◌+◌, ◌*◌, ◌<◌, ◌≤◌, List, [], ◌∷◌, ◌++◌, length, ◌⊎◌, inl, inr, arith, ap, ap₂, refl, ◌∙◌}
+use Rattle.std.proofs.Common.{◌≡◌, ℕ, suc, ◌+◌, ◌*◌, ◌<◌, ◌≤◌, List, [], ◌∷◌, ◌++◌, length, ◌⊎◌, inl, inr}
+use Rattle.std.proofs.Common.{arith, ap, ap₂, refl, ◌∙◌}
 use Rattle.std.specs.Prelude.{slice_index_or}
 use Rattle.std.proofs.lemmas.Bool.{cases_lt}
 use Rattle.linear_algebra.specs.Modular.{IsCongruent}
 use Rattle.linear_algebra.specs.Rows.{entry}
-use Rattle.linear_algebra.proofs.Congruences.{congruent_add, congruent_eq, congruent_trans, congruent_sym, congruent_mod, congruent_mul_left}
+use Rattle.linear_algebra.proofs.Congruences.{congruent_add, congruent_eq, congruent_trans, congruent_sym}
+use Rattle.linear_algebra.proofs.Congruences.{congruent_mod, congruent_mul_left}
 use Rattle.graded_polynomials.specs.Polynomials.{Term, coefficient, scaled, IsSame}
 use Rattle.graded_polynomials.proofs.Terms.{coefficient-append, coefficient-scaled}
 use Rattle.presentation_rows.specs.RowPolynomials.{row_of}

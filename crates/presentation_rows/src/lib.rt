@@ -4,7 +4,8 @@
 //! The laws hold for any product of vectors.
 #![tactic(auto)]
 
-ghost use Rattle.std.specs.Prelude.{◌≡◌, ℕ, suc, ◌+◌, ◌*◌, ◌<◌, ◌↔◌, List, [], ◌∷◌, ◌++◌, length, map, slice_index_or};
+ghost use Rattle.std.specs.Prelude.{◌≡◌, ℕ, suc, ◌+◌, ◌*◌, ◌<◌, ◌↔◌, List, [], ◌∷◌, ◌++◌, length, map};
+ghost use Rattle.std.specs.Prelude.{slice_index_or};
 ghost use Rattle.std.specs.List.{AllByRecursion as Each};
 ghost use Rattle.linear_algebra.specs.Modular.{IsFieldModulo};
 ghost use Rattle.linear_algebra.specs.Rows.{entry, IsRow, IsEchelonOf, IsCombination, IsPivot};
@@ -15,7 +16,8 @@ ghost use Rattle.graded_polynomials.specs.Texts.{power};
 ghost use Rattle.graded_polynomials.specs.Polynomials.{Term, Polynomial, IsOver, IsPolynomial, IsSame};
 ghost use Rattle.graded_algebra.specs.Algebras.{Generator, degrees, evaluate, value};
 ghost use Rattle.graded_algebra.specs.Presentations.{IsRelation, IsConsequence, IsLeading, IsStandard};
-ghost use Rattle.graded_algebra.specs.Presentations.{IsSpanGenerators, IsRelations, IsNormalForm, generators_of};
+ghost use Rattle.graded_algebra.specs.Presentations.{IsSpanGenerators, IsRelations, IsNormalForm};
+ghost use Rattle.graded_algebra.specs.Presentations.{generators_of};
 ghost use Rattle.graded_algebra.specs.Vectors.{Vector, vectors, unit, units};
 ghost use Rattle.presentation_rows.specs.RowPolynomials.{polynomial_of, row_of};
 ghost use Rattle.presentation_rows.specs.Ranks.{HasRanks};

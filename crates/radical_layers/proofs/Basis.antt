@@ -1,5 +1,6 @@
 -- The rows of a greedy choice are a basis modulo the span of all (g - 1) v.
-use Rattle.std.proofs.Common.{◌≡◌, ℕ, zero, suc, ◌+◌, ◌*◌, ◌-◌, ◌<◌, ◌≤◌, ◌⊎◌, List, [], ◌++◌, length, get_or, inl, inr, arith, ap, ap₂, sym, ◌∙◌, refl}
+use Rattle.std.proofs.Common.{◌≡◌, ℕ, zero, suc, ◌+◌, ◌*◌, ◌-◌, ◌<◌, ◌≤◌, ◌⊎◌, List, [], ◌++◌, length, get_or}
+use Rattle.std.proofs.Common.{inl, inr, arith, ap, ap₂, sym, ◌∙◌, refl}
 use Rattle.std.proofs.lemmas.Bool.{cases_lt}
 use Rattle.std.proofs.lemmas.List.{get_or_append_left, get_or-append-add, length-append, length-map}
 use Rattle.std.proofs.Math.Nat.{mod-eq_of_lt}
@@ -15,7 +16,9 @@ use Rattle.linear_algebra.specs.Rows.{entry, row, combination, IsRow, IsMatrix, 
 use Rattle.linear_algebra.specs.Choices.{rows_at, IsGreedy}
 use Rattle.linear_algebra.proofs.Sums.{sum_below-same}
 use Rattle.linear_algebra.proofs.Spans.{in_span_congruent, in_span_trans}
-use Rattle.linear_algebra.proofs.Congruences.{congruent_refl, congruent_add, congruent_trans, congruent_eq, congruent_sym, congruent_mod, congruent_mul_left, congruent_mul_right, congruent_minus}
+use Rattle.linear_algebra.proofs.Congruences.{congruent_refl, congruent_add, congruent_trans, congruent_eq}
+use Rattle.linear_algebra.proofs.Congruences.{congruent_sym, congruent_mod, congruent_mul_left}
+use Rattle.linear_algebra.proofs.Congruences.{congruent_mul_right, congruent_minus}
 use Rattle.radical_layers.specs.Coordinates.{RowForm}
 use Rattle.radical_layers.specs.Moves.{moves}
 use Rattle.linear_algebra.proofs.GreedyChoice.{greedy-spans, greedy-independent, greedy-below}

@@ -1,5 +1,6 @@
 -- The sums of the blocks of a table are linear, and a table with given sums.
-use Rattle.std.proofs.Common.{◌≡◌, ◌≢◌, ℕ, suc, ◌⊎◌, true, false, eqb, eq-eqb, inl, inr, ap, ap₂, sym, ◌∙◌, refl}
+use Rattle.std.proofs.Common.{◌≡◌, ◌≢◌, ℕ, suc, ◌⊎◌, true, false, eqb, eq-eqb, inl, inr, ap, ap₂, sym, ◌∙◌}
+use Rattle.std.proofs.Common.{refl}
 use Rattle.std.proofs.lemmas.Bool.Decides.{eqb_tells}
 use mathlib.Core.Path.{subst, fun_ext}
 use Rattle.group_modules.specs.Module.{Module, sub, times, lin, IsLinear}

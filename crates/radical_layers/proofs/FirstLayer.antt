@@ -1,6 +1,7 @@
 -- Layer 0 of the layer basis has one member, of sum 1, and the others have sum 0: the sum of a block is its
 -- entry in layer 0.
-use Rattle.std.proofs.Common.{◌≡◌, ◌≢◌, ℕ, zero, suc, ◌+◌, ◌*◌, ◌<◌, ◌≤◌, ◌⊎◌, List, [], ◌∷◌, ◌++◌, length, inl, inr, arith, ap, ap₂, sym, ◌∙◌, refl}
+use Rattle.std.proofs.Common.{◌≡◌, ◌≢◌, ℕ, zero, suc, ◌+◌, ◌*◌, ◌<◌, ◌≤◌, ◌⊎◌, List, [], ◌∷◌, ◌++◌, length}
+use Rattle.std.proofs.Common.{inl, inr, arith, ap, ap₂, sym, ◌∙◌, refl}
 use Rattle.std.proofs.lemmas.Bool.{cases_eq, cases_lt}
 use Rattle.std.proofs.Math.Nat.{zero-mod, mod-eq_of_lt}
 use Rattle.std.proofs.lemmas.List.{get_or_past}
@@ -25,12 +26,14 @@ use Rattle.linear_algebra.proofs.EchelonLists.{HasPivots-from_echelon, Combines-
 use Rattle.linear_algebra.proofs.GreedyLemmas.{greedy_is_one}
 use Rattle.radical_layers.specs.Coordinates.{RowForm}
 use Rattle.radical_layers.specs.Placing.{place_of}
-use Rattle.radical_layers.specs.LayerBasis.{Layers, AreLayers, joined, after, layer_basis, layer_sizes, sizes_from, LayerBasisClaims}
+use Rattle.radical_layers.specs.LayerBasis.{Layers, AreLayers, joined, after, layer_basis, layer_sizes}
+use Rattle.radical_layers.specs.LayerBasis.{sizes_from, LayerBasisClaims}
 use Rattle.linear_algebra.proofs.GreedyChoice.{in-left}
 use Rattle.radical_layers.proofs.Blocks.{block-is-linear, block-spread, spread}
 use Rattle.radical_layers.proofs.LayerLaws.{layer-spans, span-in-layer}
 use Rattle.radical_layers.proofs.LayerBasis.{joined-in}
-use Rattle.radical_layers.proofs.LayerForm.{size, layer-coordinates, layer-expand, smaller, joined-matrix, basis-size}
+use Rattle.radical_layers.proofs.LayerForm.{size, layer-coordinates, layer-expand, smaller, joined-matrix}
+use Rattle.radical_layers.proofs.LayerForm.{basis-size}
 
 module _ {n : ℕ} (q : ℕ) (Γ : Group n) where
   abbrev A1 : Module (suc q) (monoid Γ)

@@ -1,5 +1,6 @@
 -- The joined greedy lists of a descending chain of subspaces that ends at 0 are a basis of the first.
-use Rattle.std.proofs.Common.{◌≡◌, ℕ, zero, suc, ◌+◌, ◌*◌, ◌-◌, ◌<◌, ◌≤◌, ◌⊎◌, List, [], ◌++◌, length, get_or, inl, inr, arith, ap, sym}
+use Rattle.std.proofs.Common.{◌≡◌, ℕ, zero, suc, ◌+◌, ◌*◌, ◌-◌, ◌<◌, ◌≤◌, ◌⊎◌, List, [], ◌++◌, length, get_or}
+use Rattle.std.proofs.Common.{inl, inr, arith, ap, sym}
 use Rattle.std.proofs.lemmas.Bool.{cases_lt}
 use Rattle.std.proofs.lemmas.List.{length-append, length-map, get_or_append_left, get_or-append-add}
 use mathlib.Core.Path.{subst}
@@ -7,11 +8,14 @@ use Rattle.linear_algebra.specs.Modular.{IsCongruent, IsFieldModulo}
 use Rattle.linear_algebra.specs.Rows.{entry, row, combination, IsInSpan, AreInSpan}
 use Rattle.linear_algebra.specs.Choices.{rows_at, IsGreedy}
 use Rattle.linear_algebra.proofs.Sums.{sum_below-vanishes}
-use Rattle.linear_algebra.proofs.Spans.{in_span_congruent, in_span_zero, in_span_row, in_span_add, in_span_trans}
-use Rattle.linear_algebra.proofs.Congruences.{congruent_refl, congruent_add, congruent_trans, congruent_eq, congruent_sym, congruent_mul_right, congruent_minus}
+use Rattle.linear_algebra.proofs.Spans.{in_span_congruent, in_span_zero, in_span_row, in_span_add}
+use Rattle.linear_algebra.proofs.Spans.{in_span_trans}
+use Rattle.linear_algebra.proofs.Congruences.{congruent_refl, congruent_add, congruent_trans, congruent_eq}
+use Rattle.linear_algebra.proofs.Congruences.{congruent_sym, congruent_mul_right, congruent_minus}
 use Rattle.linear_algebra.proofs.Independence.{Independent}
 use Rattle.radical_layers.specs.LayerBasis.{joined, after}
-use Rattle.linear_algebra.proofs.GreedyChoice.{greedy-spans, greedy-independent, greedy-below, in-left, in-right, in-combination}
+use Rattle.linear_algebra.proofs.GreedyChoice.{greedy-spans, greedy-independent, greedy-below, in-left}
+use Rattle.linear_algebra.proofs.GreedyChoice.{in-right, in-combination}
 use Rattle.radical_layers.proofs.Basis.{combination-append}
 
 are-in-append : (p : ℕ) (X xs ys : List (List ℕ)) → AreInSpan p X xs → AreInSpan p X ys

@@ -1,5 +1,6 @@
 -- The stages of a group exist in every degree and are one; parts that follow each other are theirs.
-use Rattle.std.proofs.Common.{◌≡◌, ℕ, zero, suc, ◌+◌, ◌*◌, ◌<◌, ◌⊎◌, List, [], ◌∷◌, ◌++◌, length, map, get_or, inl, inr, arith, ap, ap₂, sym, ◌∙◌, refl}
+use Rattle.std.proofs.Common.{◌≡◌, ℕ, zero, suc, ◌+◌, ◌*◌, ◌<◌, ◌⊎◌, List, [], ◌∷◌, ◌++◌, length, map, get_or}
+use Rattle.std.proofs.Common.{inl, inr, arith, ap, ap₂, sym, ◌∙◌, refl}
 use Rattle.std.proofs.lemmas.Bool.{cases_eq}
 use Rattle.std.proofs.lemmas.List.{length-map, get_or-map}
 use mathlib.Core.Path.{subst, fun_ext}
@@ -15,7 +16,8 @@ use Rattle.radical_layers.specs.Coordinates.{Coordinates}
 use Rattle.resolution_stages.specs.Definitions.{StageRows, RowInKernel, IsSectionAt, AreStages}
 use Rattle.radical_layers.specs.Moves.{IsEchelonFor}
 use Rattle.resolution_stages.specs.Checks.{StageParts, IsSubmoduleList, IsNextStage}
-use Rattle.resolution_stages.specs.Chain.{section_row, parts_of, parts_from, end_rank, end_list, IsFirstList, IsChain, AreSameStages, StageClaims}
+use Rattle.resolution_stages.specs.Chain.{section_row, parts_of, parts_from, end_rank, end_list, IsFirstList}
+use Rattle.resolution_stages.specs.Chain.{IsChain, AreSameStages, StageClaims}
 use Rattle.radical_layers.proofs.Existence.{list-exists}
 use Rattle.resolution_stages.proofs.NextExists.{next-exists}
 use Rattle.resolution_stages.proofs.NextList.{next-list, first-list}

@@ -8,7 +8,8 @@ use Rattle.linear_algebra.proofs.Spans.{in_span_row}
 use Rattle.radical_layers.specs.Coordinates.{Coordinates}
 use Rattle.radical_layers.specs.Moves.{IsEchelonFor}
 use Rattle.radical_layers.specs.Layers.{RowIn}
-use Rattle.resolution_stages.specs.Checks.{StageParts, IsSubmoduleList, HasShape, HasCount, PassesChecks, IsNextStage}
+use Rattle.resolution_stages.specs.Checks.{StageParts, IsSubmoduleList, HasShape, HasCount, PassesChecks}
+use Rattle.resolution_stages.specs.Checks.{IsNextStage}
 use Rattle.resolution_stages.proofs.CheckLaws.{is-next}
 use Rattle.resolution_stages.proofs.NextChecks.{passes, next-count}
 

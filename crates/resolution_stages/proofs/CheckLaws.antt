@@ -1,7 +1,9 @@
 -- The six checks make the parts those of the next stage.
-use Rattle.std.proofs.Common.{◌≡◌, ◌≢◌, ℕ, zero, suc, ◌+◌, ◌*◌, ◌-◌, ◌%◌, ◌<◌, ◌≤◌, ◌⊎◌, List, [], ◌∷◌, ◌++◌, length, get_or, take, inl, inr, arith, ap, ap₂, sym, ◌∙◌, refl}
+use Rattle.std.proofs.Common.{◌≡◌, ◌≢◌, ℕ, zero, suc, ◌+◌, ◌*◌, ◌-◌, ◌%◌, ◌<◌, ◌≤◌, ◌⊎◌, List, [], ◌∷◌, ◌++◌}
+use Rattle.std.proofs.Common.{length, get_or, take, inl, inr, arith, ap, ap₂, sym, ◌∙◌, refl}
 use Rattle.std.proofs.lemmas.Bool.{cases_eq, cases_lt}
-use Rattle.std.proofs.lemmas.List.{length-append, length-map, get_or_append_left, get_or-append-add, get_or-map, get_or-take, length-take-le}
+use Rattle.std.proofs.lemmas.List.{length-append, length-map, get_or_append_left, get_or-append-add}
+use Rattle.std.proofs.lemmas.List.{get_or-map, get_or-take, length-take-le}
 use Rattle.std.proofs.Math.Seq.{take-suc, take-length}
 use Rattle.std.proofs.Math.Nat.{zero-mod, mod-eq_of_lt, le_refl}
 use mathlib.Core.Path.{subst, fun_ext}
@@ -17,20 +19,27 @@ use Rattle.augmentation_ideal.proofs.Generators.{split}
 use Rattle.linear_algebra.specs.Modular.{IsCongruent, IsFieldModulo, sum_below}
 use Rattle.linear_algebra.specs.Rows.{entry, row, combination, IsRow, IsMatrix, IsInSpan}
 use Rattle.linear_algebra.specs.Choices.{rows_at, IsGreedyBelow}
-use Rattle.linear_algebra.proofs.Sums.{sum_below-same, sum_below-vanishes, sum_below-mul, update, update_same, update_other}
+use Rattle.linear_algebra.proofs.Sums.{sum_below-same, sum_below-vanishes, sum_below-mul, update, update_same}
+use Rattle.linear_algebra.proofs.Sums.{update_other}
 use Rattle.linear_algebra.proofs.Spans.{in_span_congruent, in_span_add}
-use Rattle.linear_algebra.proofs.Congruences.{congruent_refl, congruent_add, congruent_trans, congruent_eq, congruent_sym, congruent_mod, congruent_mul_left, congruent_mul_right, congruent_minus}
+use Rattle.linear_algebra.proofs.Congruences.{congruent_refl, congruent_add, congruent_trans, congruent_eq}
+use Rattle.linear_algebra.proofs.Congruences.{congruent_sym, congruent_mod, congruent_mul_left}
+use Rattle.linear_algebra.proofs.Congruences.{congruent_mul_right, congruent_minus}
 use Rattle.linear_algebra.proofs.Independence.{Independent}
 use Rattle.radical_layers.specs.Coordinates.{Coordinates}
 use Rattle.radical_layers.specs.Moves.{moves, IsEchelonFor}
 use Rattle.radical_layers.specs.Layers.{RowIn}
-use Rattle.resolution_stages.specs.Checks.{StageParts, HasShape, HasCount, PassesChecks, IsNextStage, chosen_row, del}
+use Rattle.resolution_stages.specs.Checks.{StageParts, HasShape, HasCount, PassesChecks, IsNextStage}
+use Rattle.resolution_stages.specs.Checks.{chosen_row, del}
 use Rattle.linear_algebra.proofs.GreedyChoice.{in-left, in-right, in-combination}
-use Rattle.radical_layers.proofs.Bridge.{at, at-zero, at-times, at-sub, at-total, tabs, at-tabs, same-table, from-span, moved-from-span, span-from-moved}
+use Rattle.radical_layers.proofs.Bridge.{at, at-zero, at-times, at-sub, at-total, tabs, at-tabs, same-table}
+use Rattle.radical_layers.proofs.Bridge.{from-span, moved-from-span, span-from-moved}
 use Rattle.radical_layers.proofs.Basis.{in-span-append, combination-append}
 use Rattle.radical_layers.proofs.SameDimension.{echelon-independent, full}
-use Rattle.radical_layers.proofs.Blocks.{block-is-linear, spread, block-spread, f-linear, f-spread, moved-value}
-use Rattle.resolution_stages.proofs.Sequences.{sum_below-prefix, masked, masked-below, masked-from, sequence, sequence-at}
+use Rattle.radical_layers.proofs.Blocks.{block-is-linear, spread, block-spread, f-linear, f-spread}
+use Rattle.radical_layers.proofs.Blocks.{moved-value}
+use Rattle.resolution_stages.proofs.Sequences.{sum_below-prefix, masked, masked-below, masked-from, sequence}
+use Rattle.resolution_stages.proofs.Sequences.{sequence-at}
 
 module _ {n : ℕ} (q : ℕ) (F : IsFieldModulo (suc q)) (Γ : Group n) (K : Coordinates q Γ) (b : ℕ)
     (L : (Table q Γ b).of → Type 0) (U : IsSubmodule (Table q Γ b) L)

@@ -1,5 +1,6 @@
 -- The laws of a resolution, from the definitions of the stages.
-use Rattle.std.proofs.Common.{◌≡◌, ℕ, zero, suc, ◌*◌, ◌%◌, ◌<◌, ◌≤◌, ◌⊎◌, List, length, inl, inr, arith, ap, ap₂, sym, ◌∙◌}
+use Rattle.std.proofs.Common.{◌≡◌, ℕ, zero, suc, ◌*◌, ◌%◌, ◌<◌, ◌≤◌, ◌⊎◌, List, length, inl, inr, arith, ap}
+use Rattle.std.proofs.Common.{ap₂, sym, ◌∙◌}
 use Rattle.std.proofs.lemmas.Bool.{cases_eq}
 use Rattle.std.proofs.Math.Nat.{zero-mod}
 use mathlib.Core.Path.{subst, fun_ext}
@@ -22,7 +23,8 @@ use Rattle.linear_algebra.proofs.Congruences.{congruent_trans, congruent_eq, con
 use Rattle.linear_algebra.proofs.Pivots.{zero_at_pivots}
 use Rattle.linear_algebra.proofs.EchelonLists.{HasPivots-from_echelon, Combines-from_combination}
 use Rattle.radical_layers.specs.Coordinates.{Coordinates}
-use Rattle.resolution_stages.specs.Definitions.{StageRows, images, boundary, InKernel, RowInKernel, IsSectionAt, AreStages}
+use Rattle.resolution_stages.specs.Definitions.{StageRows, images, boundary, InKernel, RowInKernel}
+use Rattle.resolution_stages.specs.Definitions.{IsSectionAt, AreStages}
 use Rattle.resolution_stages.specs.Claims.{ResolutionClaims, MinimalityClaims}
 use Rattle.radical_layers.proofs.Bridge.{at, at-zero, same-table}
 use Rattle.radical_layers.proofs.Basis.{basis}

@@ -1,5 +1,6 @@
 -- The parts of the next stage pass the six checks.
-use Rattle.std.proofs.Common.{◌≡◌, ◌≢◌, ℕ, suc, ◌+◌, ◌*◌, ◌%◌, ◌<◌, ◌≤◌, ◌⊎◌, List, [], ◌∷◌, ◌++◌, length, get_or, take, inl, inr, arith, ap, sym, ◌∙◌, refl}
+use Rattle.std.proofs.Common.{◌≡◌, ◌≢◌, ℕ, suc, ◌+◌, ◌*◌, ◌%◌, ◌<◌, ◌≤◌, ◌⊎◌, List, [], ◌∷◌, ◌++◌, length}
+use Rattle.std.proofs.Common.{get_or, take, inl, inr, arith, ap, sym, ◌∙◌, refl}
 use Rattle.std.proofs.lemmas.Bool.{cases_lt}
 use Rattle.std.proofs.lemmas.List.{length-append}
 use mathlib.Core.Path.{subst}
@@ -16,18 +17,22 @@ use Rattle.linear_algebra.specs.Rows.{entry, row, combination, IsRow, IsInSpan}
 use Rattle.linear_algebra.specs.Choices.{rows_at}
 use Rattle.linear_algebra.proofs.Sums.{sum_below-same}
 use Rattle.linear_algebra.proofs.Spans.{in_span_congruent, in_span_add}
-use Rattle.linear_algebra.proofs.Congruences.{congruent_refl, congruent_add, congruent_trans, congruent_eq, congruent_sym, congruent_mod, congruent_mul_left}
+use Rattle.linear_algebra.proofs.Congruences.{congruent_refl, congruent_add, congruent_trans, congruent_eq}
+use Rattle.linear_algebra.proofs.Congruences.{congruent_sym, congruent_mod, congruent_mul_left}
 use Rattle.radical_layers.specs.Coordinates.{Coordinates}
 use Rattle.radical_layers.specs.Moves.{moves, IsEchelonFor}
 use Rattle.radical_layers.specs.Layers.{RowIn}
-use Rattle.resolution_stages.specs.Checks.{StageParts, HasShape, HasCount, PassesChecks, IsNextStage, chosen_row, del}
+use Rattle.resolution_stages.specs.Checks.{StageParts, HasShape, HasCount, PassesChecks, IsNextStage}
+use Rattle.resolution_stages.specs.Checks.{chosen_row, del}
 use Rattle.linear_algebra.proofs.GreedyChoice.{greedy-before, in-left, in-right}
 use Rattle.radical_layers.proofs.Bridge.{at, at-sub, at-tabs, from-span, moved-from-span}
 use Rattle.radical_layers.proofs.Basis.{in-span-append, basis}
 use Rattle.augmentation_ideal.proofs.Nakayama.{times-in}
 use Rattle.radical_layers.proofs.LayerForm.{size-at-most, size-at-least}
 use Rattle.resolution_stages.proofs.Sequences.{masked, masked-below, masked-from}
-use Rattle.resolution_stages.proofs.CheckLaws.{members, spans, rows-in, firsts-form, firsts-only, at-combine, at-row, minus-plus, row-moved, sections-of, f-sections, W-matrix-of, W-independent-of, l}
+use Rattle.resolution_stages.proofs.CheckLaws.{members, spans, rows-in, firsts-form, firsts-only, at-combine}
+use Rattle.resolution_stages.proofs.CheckLaws.{at-row, minus-plus, row-moved, sections-of, f-sections}
+use Rattle.resolution_stages.proofs.CheckLaws.{W-matrix-of, W-independent-of, l}
 
 module _ {n : ℕ} (q : ℕ) (F : IsFieldModulo (suc q)) (Γ : Group n) (K : Coordinates q Γ) (b : ℕ)
     (L : (Table q Γ b).of → Type 0) (U : IsSubmodule (Table q Γ b) L)

@@ -1,5 +1,6 @@
 -- The next stage exists: greedy positions, the list of the kernel and the table of the section.
-use Rattle.std.proofs.Common.{◌≡◌, ℕ, zero, suc, ◌+◌, ◌*◌, ◌-◌, ◌<◌, List, [], ◌∷◌, length, arith, ap, sym, ◌∙◌, refl}
+use Rattle.std.proofs.Common.{◌≡◌, ℕ, zero, suc, ◌+◌, ◌*◌, ◌-◌, ◌<◌, List, [], ◌∷◌, length, arith, ap, sym}
+use Rattle.std.proofs.Common.{◌∙◌, refl}
 use mathlib.Core.Path.{subst}
 use Rattle.group_modules.specs.Module.{Module, sub}
 use Rattle.group_modules.proofs.Laws.{map-sub, sub-eq}

@@ -13,7 +13,8 @@ use Rattle.radical_layers.proofs.Bridge.{at-zero, at-sub, same-table, tabs, at-t
 use Rattle.linear_algebra.specs.Modular.{IsCongruent, IsFieldModulo}
 use Rattle.linear_algebra.specs.Rows.{entry, row, pivot, combination, IsRow, IsMatrix, IsEchelon, IsInSpan}
 use Rattle.linear_algebra.proofs.Sums.{sum_below-congruent, sum_below-vanishes}
-use Rattle.linear_algebra.proofs.Congruences.{congruent_trans, congruent_eq, congruent_sym, congruent_mul_right, same_below}
+use Rattle.linear_algebra.proofs.Congruences.{congruent_trans, congruent_eq, congruent_sym}
+use Rattle.linear_algebra.proofs.Congruences.{congruent_mul_right, same_below}
 use Rattle.linear_algebra.proofs.CombinationRows.{combination_row-is_row, combination_row-each}
 use Rattle.linear_algebra.proofs.Pivots.{coefficient_at_pivot, zero_at_pivots}
 use Rattle.linear_algebra.proofs.EchelonLists.{HasPivots-from_echelon, Combines-from_combination}

@@ -9,7 +9,8 @@ use Rattle.linear_algebra.specs.Modular.{IsCongruent, IsFieldModulo}
 use Rattle.linear_algebra.specs.Rows.{entry, row, pivot, IsInSpan}
 use Rattle.linear_algebra.proofs.Congruences.{congruent_trans, congruent_eq, congruent_sym}
 use Rattle.linear_algebra.proofs.Pivots.{zero_at_pivots}
-use Rattle.linear_algebra.proofs.EchelonLists.{HasPivots-from_echelon, Combines-from_combination, same_echelon}
+use Rattle.linear_algebra.proofs.EchelonLists.{HasPivots-from_echelon, Combines-from_combination}
+use Rattle.linear_algebra.proofs.EchelonLists.{same_echelon}
 use Rattle.linear_algebra.proofs.GreedyLemmas.{greedy_is_one}
 use Rattle.radical_layers.specs.Coordinates.{Coordinates}
 use Rattle.radical_layers.specs.Moves.{moves}

@@ -11,9 +11,11 @@ ghost use Rattle.augmentation_ideal.specs.Claims.{IsPrimePower};
 ghost use Rattle.radical_layers.specs.Coordinates.{Coordinates};
 ghost use Rattle.resolution_stages.specs.Definitions.{StageRows, AreStages};
 ghost use Rattle.resolution_stages.specs.Claims.{ResolutionClaims, MinimalityClaims};
-ghost use Rattle.resolution_stages.specs.Chain.{StageClaims, FirstListClaims, ChainClaims, IsFirstList, IsChain};
+ghost use Rattle.resolution_stages.specs.Chain.{StageClaims, FirstListClaims, ChainClaims, IsFirstList};
+ghost use Rattle.resolution_stages.specs.Chain.{IsChain};
 ghost use Rattle.resolution_stages.specs.Computed.{ComputedClaims};
-ghost use Rattle.resolution_stages.specs.Checks.{StageParts, IsSubmoduleList, HasShape, HasCount, PassesChecks, IsNextStage};
+ghost use Rattle.resolution_stages.specs.Checks.{StageParts, IsSubmoduleList, HasShape, HasCount};
+ghost use Rattle.resolution_stages.specs.Checks.{PassesChecks, IsNextStage};
 
 /// The stages of a group are a minimal resolution with a section.
 pub fn resolution_law()

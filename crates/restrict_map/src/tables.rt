@@ -1,6 +1,7 @@
 //! Tables of restricted classes.
 
-ghost use Rattle.std.specs.Prelude.{◌≡◌, ◌<◌, ◌≤◌, ◌↔◌, ◌++◌, ◌∷◌, [], ℕ, IfOk, IsTrue, OnErr, OnOk, length, slice_index};
+ghost use Rattle.std.specs.Prelude.{◌≡◌, ◌<◌, ◌≤◌, ◌↔◌, ◌++◌, ◌∷◌, [], ℕ, IfOk, IsTrue, OnErr, OnOk, length};
+ghost use Rattle.std.specs.Prelude.{slice_index};
 ghost use Rattle.chain_lift.specs.Embeddings.{elementary};
 ghost use Rattle.elementary_subgroups.specs.Bases.{IsSubgroupOf};
 ghost use Rattle.fp_rows.specs.Refs.{entries_of, modulus_of};

@@ -1,6 +1,7 @@
 -- One more generator of the degree: what is left of the monomials stays, and its own monomial is added
 -- behind.
-use Rattle.std.proofs.Common.{◌≡◌, ℕ, zero, suc, ◌+◌, ◌*◌, ◌<◌, ◌≤◌, List, [], ◌∷◌, ◌++◌, length, Bool, cond, ◌⊎◌, inl, inr, arith, ap, ap₂, sym, ◌∙◌, refl, length-append}
+use Rattle.std.proofs.Common.{◌≡◌, ℕ, zero, suc, ◌+◌, ◌*◌, ◌<◌, ◌≤◌, List, [], ◌∷◌, ◌++◌, length, Bool, cond}
+use Rattle.std.proofs.Common.{◌⊎◌, inl, inr, arith, ap, ap₂, sym, ◌∙◌, refl, length-append}
 use Rattle.std.specs.Prelude.{slice_index_or}
 use Rattle.std.specs.List.{AllByRecursion as Each}
 use Rattle.std.proofs.lemmas.Bool.{cases_lt}
@@ -9,8 +10,10 @@ use Rattle.linear_algebra.specs.Modular.{IsCongruent}
 use Rattle.linear_algebra.specs.Rows.{row}
 use Rattle.linear_algebra.proofs.Congruences.{congruent_eq, congruent_trans, congruent_sym}
 use Rattle.linear_algebra.proofs.Spans.{row_push, row_before_push}
-use Rattle.graded_polynomials.specs.Monomials.{IsMonomial, IsMonomials, IsWithin, IsTrimmed, IsGreater, degree, exponent, fits, swaps, joined, sign}
-use Rattle.graded_polynomials.specs.Polynomials.{Term, Polynomial, Multiple, coefficient, multiple, total, IsOver, IsOneOf, IsMultiple, IsInIdeal}
+use Rattle.graded_polynomials.specs.Monomials.{IsMonomial, IsMonomials, IsWithin, IsTrimmed, IsGreater}
+use Rattle.graded_polynomials.specs.Monomials.{degree, exponent, fits, swaps, joined, sign}
+use Rattle.graded_polynomials.specs.Polynomials.{Term, Polynomial, Multiple, coefficient, multiple, total}
+use Rattle.graded_polynomials.specs.Polynomials.{IsOver, IsOneOf, IsMultiple, IsInIdeal}
 use Rattle.graded_polynomials.specs.Texts.{power}
 use Rattle.graded_polynomials.proofs.Monomials.{within-joined, over-total}
 use Rattle.graded_polynomials.proofs.Terms.{each-map, occurs, same-refl}
@@ -19,7 +22,8 @@ use Rattle.graded_algebra.specs.Presentations.{IsLeading, IsConsequence}
 use Rattle.graded_algebra.specs.Vectors.{Vector, vectors, unit}
 use Rattle.graded_algebra.proofs.Ideals.{degree-nil}
 use Rattle.graded_algebra.proofs.Leading.{not-zero}
-use Rattle.graded_algebra.proofs.MoreGenerators.{single, monomial-single, last-case, degrees-append, from-more}
+use Rattle.graded_algebra.proofs.MoreGenerators.{single, monomial-single, last-case, degrees-append}
+use Rattle.graded_algebra.proofs.MoreGenerators.{from-more}
 use Rattle.graded_polynomials.proofs.MoreGenerators.{monomial-more, fits-more, degree-more}
 use Rattle.presentation_rows.specs.Values.{vector, AreValues}
 use Rattle.presentation_rows.proofs.MoreMonomials.{values-with-last}

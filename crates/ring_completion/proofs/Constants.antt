@@ -1,10 +1,12 @@
 -- Polynomials of degree 0 are numbers.
-use Rattle.std.proofs.Common.{◌≡◌, ◌≢◌, ℕ, suc, ◌+◌, ◌<◌, List, [], ◌∷◌, true, false, cond, ◌⊎◌, inl, inr, arith, ap, ap₂, sym, ◌∙◌, refl}
+use Rattle.std.proofs.Common.{◌≡◌, ◌≢◌, ℕ, suc, ◌+◌, ◌<◌, List, [], ◌∷◌, true, false, cond, ◌⊎◌, inl, inr}
+use Rattle.std.proofs.Common.{arith, ap, ap₂, sym, ◌∙◌, refl}
 use Rattle.std.specs.List.{AllByRecursion as Each}
 use Rattle.linear_algebra.specs.Modular.{IsCongruent}
 use Rattle.graded_polynomials.specs.Monomials.{same}
 use Rattle.graded_polynomials.specs.Polynomials.{Term, Polynomial, coefficient, IsOver, IsInIdeal}
-use Rattle.graded_algebra.specs.Algebras.{Algebra, Generator, degrees, evaluate, value, times, IsGradedCommutative}
+use Rattle.graded_algebra.specs.Algebras.{Algebra, Generator, degrees, evaluate, value, times}
+use Rattle.graded_algebra.specs.Algebras.{IsGradedCommutative}
 use Rattle.linear_algebra.proofs.Congruences.{congruent_eq}
 use Rattle.graded_polynomials.proofs.Terms.{cases-same}
 use Rattle.graded_polynomials.proofs.Monomials.{only-one}

@@ -1,5 +1,6 @@
 -- The list of all critical rows of a degree.
-use Rattle.std.proofs.Common.{◌≡◌, ℕ, zero, suc, ◌+◌, ◌*◌, ◌<◌, ◌≤◌, List, [], ◌∷◌, ◌++◌, length, true, false, ◌⊎◌, inl, inr, arith, ap, ap₂, sym, ◌∙◌, refl}
+use Rattle.std.proofs.Common.{◌≡◌, ℕ, zero, suc, ◌+◌, ◌*◌, ◌<◌, ◌≤◌, List, [], ◌∷◌, ◌++◌, length, true, false}
+use Rattle.std.proofs.Common.{◌⊎◌, inl, inr, arith, ap, ap₂, sym, ◌∙◌, refl}
 use Rattle.std.specs.List.{AllByRecursion as Each}
 use Rattle.std.proofs.lemmas.Bool.{cases_Bool, cases_lt, cases_eq}
 use Rattle.std.proofs.lemmas.List.{get_or_past}
@@ -23,7 +24,8 @@ use Rattle.ring_completion.specs.Eliminations.{form_of, exchange, IsExchange, Is
 use Rattle.ring_completion.specs.Listings.{AreStandardLists, standard_of, is_listed, is_clear_before}
 use Rattle.ring_completion.proofs.DescendingLists.{each-at, listed-at}
 use Rattle.ring_completion.proofs.ListedCandidates.{standard-listed, generator-at}
-use Rattle.ring_completion.proofs.Listings.{within-length, listed-if-found, found-if-listed, clear-if-found, found-if-clear, one-of-listed}
+use Rattle.ring_completion.proofs.Listings.{within-length, listed-if-found, found-if-listed, clear-if-found}
+use Rattle.ring_completion.proofs.Listings.{found-if-clear, one-of-listed}
 use Rattle.ring_completion.proofs.Quotients.{degree-positive}
 use Rattle.ring_completion.proofs.SpanRows.{row_of_vector, vector-of-tabulated}
 

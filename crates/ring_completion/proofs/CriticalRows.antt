@@ -1,14 +1,19 @@
 -- The critical rows stand for consequences, and so a pivot of their echelon list leads in the consequences.
-use Rattle.std.proofs.Common.{◌≡◌, ℕ, suc, ◌+◌, ◌-◌, ◌*◌, ◌<◌, List, [], ◌∷◌, ◌++◌, length, true, false, ◌⊎◌, inl, inr, arith, ap, ap₂, sym, ◌∙◌, refl}
+use Rattle.std.proofs.Common.{◌≡◌, ℕ, suc, ◌+◌, ◌-◌, ◌*◌, ◌<◌, List, [], ◌∷◌, ◌++◌, length, true, false, ◌⊎◌}
+use Rattle.std.proofs.Common.{inl, inr, arith, ap, ap₂, sym, ◌∙◌, refl}
 use Rattle.std.specs.Prelude.{slice_index_or}
 use Rattle.std.proofs.Math.Path.{fun_ext}
 use Rattle.std.proofs.lemmas.Bool.{cases_Bool}
 use Rattle.std.specs.List.{AllByRecursion as Each}
 use Rattle.linear_algebra.specs.Modular.{IsCongruent, IsFieldModulo}
-use Rattle.linear_algebra.specs.Rows.{combination, IsRow, IsReduced as IsRowReduced, entry, row, pivot, IsEchelonOf}
-use Rattle.linear_algebra.proofs.Congruences.{congruent_refl, congruent_eq, congruent_trans, congruent_sym, congruent_add, congruent_mul_left, congruent_mul_right, to_congruent}
+use Rattle.linear_algebra.specs.Rows.{combination, IsRow, IsReduced as IsRowReduced, entry, row, pivot}
+use Rattle.linear_algebra.specs.Rows.{IsEchelonOf}
+use Rattle.linear_algebra.proofs.Congruences.{congruent_refl, congruent_eq, congruent_trans, congruent_sym}
+use Rattle.linear_algebra.proofs.Congruences.{congruent_add, congruent_mul_left, congruent_mul_right}
+use Rattle.linear_algebra.proofs.Congruences.{to_congruent}
 use Rattle.graded_polynomials.specs.Monomials.{IsMonomial, fits, joined, swaps, sign, same}
-use Rattle.graded_polynomials.specs.Polynomials.{Term, Polynomial, coefficient, multiple, scaled, IsOver, IsSame}
+use Rattle.graded_polynomials.specs.Polynomials.{Term, Polynomial, coefficient, multiple, scaled, IsOver}
+use Rattle.graded_polynomials.specs.Polynomials.{IsSame}
 use Rattle.graded_polynomials.specs.Texts.{power}
 use Rattle.graded_polynomials.proofs.Monomials.{over-multiple}
 use Rattle.graded_polynomials.proofs.Terms.{each-append, over-scaled, coefficient-append}
@@ -22,7 +27,8 @@ use Rattle.graded_algebra.proofs.VectorLemmas.{vector-comm, plus-residue}
 use Rattle.presentation_rows.specs.RowPolynomials.{polynomial_of}
 use Rattle.presentation_rows.specs.Values.{vector}
 use Rattle.ring_completion.specs.Candidates.{AreSome, IsListed}
-use Rattle.ring_completion.specs.Completions.{alone, generator_times, degree_of, IsGenerator, IsStandardOf, IsReduced, AreProducts}
+use Rattle.ring_completion.specs.Completions.{alone, generator_times, degree_of, IsGenerator, IsStandardOf}
+use Rattle.ring_completion.specs.Completions.{IsReduced, AreProducts}
 use Rattle.ring_completion.specs.Eliminations.{AreForms, form_of, IsExchange, IsSquare, AreCritical}
 use Rattle.ring_completion.proofs.Joins.{joined-comm, multiple-assoc}
 use Rattle.ring_completion.proofs.Multiples.{multiple-append, multiple-unfit}
@@ -32,7 +38,9 @@ use Rattle.ring_completion.proofs.ListRows.{listed-apart, listed-or-zero, over-l
 use Rattle.ring_completion.proofs.ListVectors.{coefficients-of-row}
 use Rattle.ring_completion.proofs.LinearForms.{sign-square}
 use Rattle.ring_completion.proofs.Remainders.{residue-same}
-use Rattle.ring_completion.proofs.Rests.{T, plus, same-consequence, over-plus, at-plus, IsRest, rest-zero, rest-plus, rest-same, IsVector, vector-of-rest, vector-sum, row-consequence, rest-vector, rest-of-row, row-of-rest}
+use Rattle.ring_completion.proofs.Rests.{T, plus, same-consequence, over-plus, at-plus, IsRest, rest-zero}
+use Rattle.ring_completion.proofs.Rests.{rest-plus, rest-same, IsVector, vector-of-rest, vector-sum}
+use Rattle.ring_completion.proofs.Rests.{row-consequence, rest-vector, rest-of-row, row-of-rest}
 
 -- c times f, multiplied
 pub multiple-of-scaled : (q : ℕ) (ds : List ℕ) (c k : ℕ) (a : List ℕ) (f : List Term) (m : List ℕ)

@@ -1,6 +1,7 @@
 -- The definitions at the example C4 x C4 for p = 2: generators of degrees 1, 1, 2, 2 with the relations x1^2
 -- and x2^2.
-use Rattle.std.proofs.Common.{◌≡◌, ℕ, zero, suc, ◌-◌, List, [], ◌∷◌, length, Bool, ◌||◌, ◌&&◌, eqb, leb, cond, refl}
+use Rattle.std.proofs.Common.{◌≡◌, ℕ, zero, suc, ◌-◌, List, [], ◌∷◌, length, Bool, ◌||◌, ◌&&◌, eqb, leb, cond}
+use Rattle.std.proofs.Common.{refl}
 use Rattle.graded_polynomials.specs.Monomials.{exponent}
 use Rattle.ring_completion.specs.Completions.{generator_times}
 use Rattle.graded_polynomials.specs.AllMonomials.{all_monomials}

@@ -1,7 +1,8 @@
 -- A completion with an exchange that is not 0: the polynomials in x over F_2, in degree 4, with generators
 -- y, u and v of the classes x, x^2 and x^3. The relations are y^2 + u and y u + v, and their consequence
 -- y (y u + v) + u (y^2 + u), which is y v + u^2, leads at the candidate y v.
-use Rattle.std.proofs.Common.{◌≡◌, ◌≢◌, ℕ, zero, suc, ◌+◌, ◌*◌, ◌<◌, ◌≤◌, Bool, true, false, cond, eqb, ◌%◌, List, [], ◌∷◌, length, ◌⊎◌, inl, arith, ap, sym, subst, ◌∙◌, refl}
+use Rattle.std.proofs.Common.{◌≡◌, ◌≢◌, ℕ, zero, suc, ◌+◌, ◌*◌, ◌<◌, ◌≤◌, Bool, true, false, cond, eqb, ◌%◌}
+use Rattle.std.proofs.Common.{List, [], ◌∷◌, length, ◌⊎◌, inl, arith, ap, sym, subst, ◌∙◌, refl}
 use Rattle.std.specs.Prelude.{slice_index_or}
 use Rattle.std.proofs.Math.Path.{fun_ext}
 use Rattle.std.proofs.lemmas.List.{get_or_past}
@@ -22,7 +23,8 @@ use Rattle.presentation_rows.specs.RowPolynomials.{row_of}
 use Rattle.presentation_rows.specs.Values.{vector}
 use Rattle.presentation_rows.proofs.RowTerms.{row-of-is-row}
 use Rattle.ring_completion.specs.Candidates.{AreSome, IsListed, IsQuotient, AreCandidates, AreLeft}
-use Rattle.ring_completion.specs.Completions.{alone, generator_times, degree_of, IsGenerator, IsStandardOf, IsReduced, AreProducts}
+use Rattle.ring_completion.specs.Completions.{alone, generator_times, degree_of, IsGenerator, IsStandardOf}
+use Rattle.ring_completion.specs.Completions.{IsReduced, AreProducts}
 use Rattle.ring_completion.specs.Eliminations.{AreForms, AreCritical, IsExchange, IsSquare, exchange}
 use Rattle.ring_completion.specs.Left.{IsCompletion}
 use Rattle.ring_completion.proofs.Choosing.{are-candidates}
@@ -33,7 +35,8 @@ use Rattle.ring_completion.proofs.Listings.{within-length}
 use Rattle.ring_completion.proofs.OpenLine.{line}
 use Rattle.ring_completion.proofs.Quotients.{factor-of}
 use Rattle.ring_completion.proofs.Results.{free, candidate-pivots, left-candidates}
-use Rattle.ring_completion.proofs.ThreePowers.{field, gs, positive, one-value, least, is-least, single, alone-value, least-standard, standard-least, relations-exist}
+use Rattle.ring_completion.proofs.ThreePowers.{field, gs, positive, one-value, least, is-least, single}
+use Rattle.ring_completion.proofs.ThreePowers.{alone-value, least-standard, standard-least, relations-exist}
 
 -- the relations of degrees 1 to 3
 pub given : (rs : List Polynomial) × IsRelations 1 (algebra 1 line) gs 3 rs

@@ -1,9 +1,11 @@
 -- In each degree there is a completion: the premises of the laws can be met.
-use Rattle.std.proofs.Common.{◌≡◌, ℕ, suc, ◌+◌, ◌*◌, ◌<◌, ◌≤◌, List, [], ◌++◌, length, true, false, ◌⊎◌, inl, inr, arith, ap, sym, ◌∙◌, refl}
+use Rattle.std.proofs.Common.{◌≡◌, ℕ, suc, ◌+◌, ◌*◌, ◌<◌, ◌≤◌, List, [], ◌++◌, length, true, false, ◌⊎◌, inl}
+use Rattle.std.proofs.Common.{inr, arith, ap, sym, ◌∙◌, refl}
 use Rattle.std.specs.List.{AllByRecursion as Each}
 use Rattle.std.proofs.lemmas.Bool.{cases_Bool, cases_lt, cases_eq}
 use Rattle.linear_algebra.specs.Modular.{IsCongruent, IsFieldModulo}
-use Rattle.linear_algebra.proofs.Congruences.{congruent_refl, congruent_eq, congruent_trans, congruent_sym, congruent_add, congruent_mul_left, to_congruent}
+use Rattle.linear_algebra.proofs.Congruences.{congruent_refl, congruent_eq, congruent_trans, congruent_sym}
+use Rattle.linear_algebra.proofs.Congruences.{congruent_add, congruent_mul_left, to_congruent}
 use Rattle.graded_polynomials.specs.Monomials.{IsMonomial, IsMonomials, degree, joined}
 use Rattle.graded_polynomials.specs.Polynomials.{Term, Polynomial, coefficient, scaled, IsOver}
 use Rattle.graded_polynomials.specs.Texts.{power}
@@ -17,7 +19,8 @@ use Rattle.graded_algebra.proofs.Ideals.{ideal-zero}
 use Rattle.presentation_rows.specs.RowPolynomials.{polynomial_of, row_of}
 use Rattle.presentation_rows.proofs.RowTerms.{row-of-is-row}
 use Rattle.ring_completion.specs.Candidates.{IsListed, AreCandidates}
-use Rattle.ring_completion.specs.Completions.{alone, generator_times, degree_of, IsGenerator, IsStandardOf, IsReduced, AreProducts}
+use Rattle.ring_completion.specs.Completions.{alone, generator_times, degree_of, IsGenerator, IsStandardOf}
+use Rattle.ring_completion.specs.Completions.{IsReduced, AreProducts}
 use Rattle.ring_completion.specs.Eliminations.{AreForms}
 use Rattle.ring_completion.specs.Listings.{AreStandardLists, standard_of, is_listed}
 use Rattle.ring_completion.proofs.FormRows.{form-of-product}

@@ -1,7 +1,9 @@
 -- Factors of monomials: each monomial that is not 1 has one, and a factor of a monomial can be taken out.
-use Rattle.std.proofs.Common.{◌≡◌, ◌≢◌, ℕ, zero, suc, ◌+◌, ◌*◌, ◌<◌, ◌≤◌, List, [], ◌∷◌, length, Bool, true, false, not, ◌||◌, ◌&&◌, leb, ◌⊎◌, inl, inr, arith, ap, sym, ◌∙◌, refl}
+use Rattle.std.proofs.Common.{◌≡◌, ◌≢◌, ℕ, zero, suc, ◌+◌, ◌*◌, ◌<◌, ◌≤◌, List, [], ◌∷◌, length, Bool, true}
+use Rattle.std.proofs.Common.{false, not, ◌||◌, ◌&&◌, leb, ◌⊎◌, inl, inr, arith, ap, sym, ◌∙◌, refl}
 use Rattle.std.proofs.lemmas.Bool.{cases_Bool}
-use Rattle.graded_polynomials.specs.Monomials.{IsMonomial, IsTrimmed, IsWithin, exponent, degree, fits, is_exterior, joined, swaps}
+use Rattle.graded_polynomials.specs.Monomials.{IsMonomial, IsTrimmed, IsWithin, exponent, degree, fits}
+use Rattle.graded_polynomials.specs.Monomials.{is_exterior, joined, swaps}
 use Rattle.graded_polynomials.specs.Texts.{power}
 use Rattle.graded_polynomials.proofs.Exponents.{exponent-joined, joined-cancel}
 use Rattle.graded_polynomials.proofs.Monomials.{trimmed-joined}

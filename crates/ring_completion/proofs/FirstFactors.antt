@@ -7,7 +7,8 @@ use Rattle.graded_polynomials.proofs.Exponents.{exponent-joined}
 use Rattle.graded_algebra.proofs.Ideals.{degree-nil}
 use Rattle.ring_completion.specs.Candidates.{IsQuotient}
 use Rattle.ring_completion.specs.Completions.{IsClearBefore}
-use Rattle.ring_completion.proofs.Factors.{first-factor, quotient-exists, clear-quotient, power-here, power-elsewhere}
+use Rattle.ring_completion.proofs.Factors.{first-factor, quotient-exists, clear-quotient, power-here}
+use Rattle.ring_completion.proofs.Factors.{power-elsewhere}
 
 pub earlier-is-greater : (i j : ℕ) (s t : List ℕ) → i < j → IsClearBefore i s → IsClearBefore j t
     → IsGreater (joined (power i 1) s) (joined (power j 1) t)

@@ -1,30 +1,37 @@
 -- Consistent forms of products with generators extend to all polynomials of the degree, and the consequences
 -- of lower relations go to 0.
-use Rattle.std.proofs.Common.{◌≡◌, ℕ, suc, ◌+◌, ◌*◌, ◌<◌, ◌≤◌, List, [], length, true, false, ◌⊎◌, inl, inr, arith, ap, sym, ◌∙◌, refl}
+use Rattle.std.proofs.Common.{◌≡◌, ℕ, suc, ◌+◌, ◌*◌, ◌<◌, ◌≤◌, List, [], length, true, false, ◌⊎◌, inl, inr}
+use Rattle.std.proofs.Common.{arith, ap, sym, ◌∙◌, refl}
 use Rattle.std.specs.Prelude.{slice_index_or}
 use Rattle.std.proofs.lemmas.Bool.{cases_Bool, cases_lt, cases_order}
 use Rattle.std.specs.List.{AllByRecursion as Each}
 use Rattle.linear_algebra.specs.Modular.{IsCongruent, IsFieldModulo}
-use Rattle.linear_algebra.proofs.Congruences.{congruent_refl, congruent_eq, congruent_trans, congruent_sym, congruent_mul}
-use Rattle.graded_polynomials.specs.Monomials.{IsMonomial, IsMonomials, exponent, degree, fits, is_exterior, joined, swaps, sign}
+use Rattle.linear_algebra.proofs.Congruences.{congruent_refl, congruent_eq, congruent_trans, congruent_sym}
+use Rattle.linear_algebra.proofs.Congruences.{congruent_mul}
+use Rattle.graded_polynomials.specs.Monomials.{IsMonomial, IsMonomials, exponent, degree, fits, is_exterior}
+use Rattle.graded_polynomials.specs.Monomials.{joined, swaps, sign}
 use Rattle.graded_polynomials.specs.Polynomials.{Term, Polynomial}
 use Rattle.graded_polynomials.specs.Texts.{power}
 use Rattle.graded_polynomials.proofs.Exponents.{joined-cancel}
 use Rattle.graded_polynomials.proofs.Monomials.{monomial-joined}
-use Rattle.graded_algebra.specs.Algebras.{Algebra, Generator, degrees, evaluate, value, linear, times, IsSpace, IsGradedCommutative}
+use Rattle.graded_algebra.specs.Algebras.{Algebra, Generator, degrees, evaluate, value, linear, times}
+use Rattle.graded_algebra.specs.Algebras.{IsSpace, IsGradedCommutative}
 use Rattle.graded_algebra.specs.Presentations.{IsRelations}
 use Rattle.graded_algebra.proofs.Evaluation.{sign-sum}
 use Rattle.graded_algebra.proofs.Ideals.{degree-nil}
 use Rattle.graded_algebra.proofs.Vectors.{times-times, times-congruent}
 use Rattle.ring_completion.specs.Candidates.{IsQuotient}
-use Rattle.ring_completion.specs.Completions.{generator_times, degree_of, IsGenerator, IsReduced, AreProducts, AreConsistent, IsClearBefore}
+use Rattle.ring_completion.specs.Completions.{generator_times, degree_of, IsGenerator, IsReduced, AreProducts}
+use Rattle.ring_completion.specs.Completions.{AreConsistent, IsClearBefore}
 use Rattle.ring_completion.proofs.Joins.{swaps-joined-right}
 use Rattle.ring_completion.proofs.Quotients.{IsFactorOf, factor-of, degree-positive}
 use Rattle.ring_completion.proofs.LinearForms.{sign-twice, linear-times, at, at-has}
 use Rattle.ring_completion.proofs.Standing.{Standing, StandingClear, ClearStandard, standing, together}
 use Rattle.ring_completion.proofs.Vanishing.{by-first-factor}
 use Rattle.ring_completion.proofs.Through.{same-image, through}
-use Rattle.ring_completion.proofs.Factors.{quotient-divides, first-factor, clear-quotient, quotient-exists, two-factors, swaps-later, swaps-earlier, length-power, unfit-factor}
+use Rattle.ring_completion.proofs.Factors.{quotient-divides, first-factor, clear-quotient, quotient-exists}
+use Rattle.ring_completion.proofs.Factors.{two-factors, swaps-later, swaps-earlier, length-power}
+use Rattle.ring_completion.proofs.Factors.{unfit-factor}
 
 module _ (q : ℕ) (V : Type 0) (A : Algebra V) (In : ℕ → V → Type 0) (L : IsGradedCommutative q V A In)
     (gs : List (Generator V))

@@ -1,5 +1,6 @@
 -- The lists of standard monomials with one more degree, and maybe more generators.
-use Rattle.std.proofs.Common.{◌≡◌, ℕ, suc, ◌+◌, ◌<◌, ◌≤◌, ◌↔◌, List, [], ◌∷◌, ◌++◌, length, true, false, ◌⊎◌, inl, inr, arith, ap, sym, ◌∙◌, refl}
+use Rattle.std.proofs.Common.{◌≡◌, ℕ, suc, ◌+◌, ◌<◌, ◌≤◌, ◌↔◌, List, [], ◌∷◌, ◌++◌, length, true, false, ◌⊎◌}
+use Rattle.std.proofs.Common.{inl, inr, arith, ap, sym, ◌∙◌, refl}
 use Rattle.std.specs.Prelude.{slice_index_or}
 use mathlib.Core.Path.{subst}
 use Rattle.std.proofs.lemmas.Bool.{cases_Bool, cases_lt}

@@ -1,9 +1,11 @@
 -- Products of monomials and polynomials: associativity, and their signs.
-use Rattle.std.proofs.Common.{◌≡◌, ℕ, suc, ◌+◌, ◌*◌, List, [], ◌∷◌, Bool, true, false, not, ◌||◌, ◌&&◌, leb, cond, ◌⊎◌, inl, inr, arith, ap, ap₂, sym, ◌∙◌, refl}
+use Rattle.std.proofs.Common.{◌≡◌, ℕ, suc, ◌+◌, ◌*◌, List, [], ◌∷◌, Bool, true, false, not, ◌||◌, ◌&&◌, leb}
+use Rattle.std.proofs.Common.{cond, ◌⊎◌, inl, inr, arith, ap, ap₂, sym, ◌∙◌, refl}
 use Rattle.std.proofs.lemmas.Bool.{cases_Bool}
 use Rattle.std.proofs.lemmas.Bool.Decides.{nat_tests}
 use Rattle.linear_algebra.specs.Modular.{IsCongruent}
-use Rattle.linear_algebra.proofs.Congruences.{congruent_refl, congruent_add, congruent_trans, congruent_sym, congruent_eq, congruent_mul_left, congruent_mul_right}
+use Rattle.linear_algebra.proofs.Congruences.{congruent_refl, congruent_add, congruent_trans, congruent_sym}
+use Rattle.linear_algebra.proofs.Congruences.{congruent_eq, congruent_mul_left, congruent_mul_right}
 use Rattle.graded_polynomials.specs.Monomials.{degree, fits, is_exterior, joined, swaps, sign, same}
 use Rattle.graded_polynomials.specs.Polynomials.{Term, coefficient, multiple, IsSame}
 use Rattle.graded_polynomials.proofs.Terms.{false≢true}

@@ -1,14 +1,18 @@
 -- What extends the forms takes the consequences of lower relations to 0.
-use Rattle.std.proofs.Common.{◌≡◌, ℕ, suc, ◌+◌, ◌*◌, ◌<◌, ◌≤◌, List, [], ◌∷◌, ◌++◌, arith, ap, ap₂, sym, ◌∙◌, refl}
+use Rattle.std.proofs.Common.{◌≡◌, ℕ, suc, ◌+◌, ◌*◌, ◌<◌, ◌≤◌, List, [], ◌∷◌, ◌++◌, arith, ap, ap₂, sym, ◌∙◌}
+use Rattle.std.proofs.Common.{refl}
 use Rattle.std.specs.List.{AllByRecursion as Each}
 use Rattle.linear_algebra.specs.Modular.{IsCongruent, IsFieldModulo}
-use Rattle.linear_algebra.proofs.Congruences.{congruent_eq, congruent_trans, congruent_mul_left, congruent_mul_right}
+use Rattle.linear_algebra.proofs.Congruences.{congruent_eq, congruent_trans, congruent_mul_left}
+use Rattle.linear_algebra.proofs.Congruences.{congruent_mul_right}
 use Rattle.graded_polynomials.specs.Monomials.{IsMonomial, exponent, degree, joined, swaps, sign}
-use Rattle.graded_polynomials.specs.Polynomials.{Term, Polynomial, Multiple, coefficient, multiple, scaled, total, IsOver, IsSame, IsMultiple}
+use Rattle.graded_polynomials.specs.Polynomials.{Term, Polynomial, Multiple, coefficient, multiple, scaled}
+use Rattle.graded_polynomials.specs.Polynomials.{total, IsOver, IsSame, IsMultiple}
 use Rattle.graded_polynomials.specs.Texts.{power}
 use Rattle.graded_polynomials.proofs.Monomials.{over-multiple}
 use Rattle.graded_polynomials.proofs.Terms.{same-trans, same-sym}
-use Rattle.graded_algebra.specs.Algebras.{Algebra, Generator, degrees, evaluate, value, linear, times, IsSpace, IsGradedCommutative}
+use Rattle.graded_algebra.specs.Algebras.{Algebra, Generator, degrees, evaluate, value, linear, times}
+use Rattle.graded_algebra.specs.Algebras.{IsSpace, IsGradedCommutative}
 use Rattle.graded_algebra.specs.Presentations.{IsRelations, IsConsequence}
 use Rattle.graded_algebra.proofs.Ideals.{degree-nil, multiple-scaled}
 use Rattle.graded_algebra.proofs.Relations.{defining}

@@ -1,5 +1,6 @@
 -- A candidate that leads in the consequences is a pivot of the echelon list of the critical rows.
-use Rattle.std.proofs.Common.{◌≡◌, ℕ, suc, ◌+◌, ◌*◌, ◌<◌, ◌≤◌, List, [], ◌++◌, length, ◌⊎◌, inl, inr, arith, ap, ap₂, sym, ◌∙◌, refl}
+use Rattle.std.proofs.Common.{◌≡◌, ℕ, suc, ◌+◌, ◌*◌, ◌<◌, ◌≤◌, List, [], ◌++◌, length, ◌⊎◌, inl, inr, arith}
+use Rattle.std.proofs.Common.{ap, ap₂, sym, ◌∙◌, refl}
 use Rattle.std.specs.Prelude.{slice_index_or}
 use Rattle.std.specs.List.{AllByRecursion as Each}
 use Rattle.linear_algebra.specs.Modular.{IsCongruent, IsFieldModulo}
@@ -21,7 +22,8 @@ use Rattle.presentation_rows.specs.RowPolynomials.{polynomial_of, row_of}
 use Rattle.presentation_rows.specs.Values.{vector}
 use Rattle.presentation_rows.proofs.RowTerms.{each-term}
 use Rattle.ring_completion.specs.Candidates.{IsListed, IsQuotient, HasLeadingQuotient, AreCandidates}
-use Rattle.ring_completion.specs.Completions.{alone, generator_times, degree_of, IsGenerator, IsStandardOf, IsReduced, AreProducts, AreConsistent}
+use Rattle.ring_completion.specs.Completions.{alone, generator_times, degree_of, IsGenerator, IsStandardOf}
+use Rattle.ring_completion.specs.Completions.{IsReduced, AreProducts, AreConsistent}
 use Rattle.ring_completion.specs.Eliminations.{AreForms, form_of, exchange, AreCritical}
 use Rattle.ring_completion.proofs.Quotients.{IsFactorOf, factor-of, consequence-by-quotient}
 use Rattle.ring_completion.proofs.Factors.{has-factor, quotient-exists}
@@ -31,7 +33,8 @@ use Rattle.ring_completion.proofs.ListVectors.{coefficients, coefficients-same, 
 use Rattle.ring_completion.proofs.Forms.{forms-extend}
 use Rattle.ring_completion.proofs.LinearForms.{linear-alone, linear-times, sign-twice}
 use Rattle.ring_completion.proofs.Kills.{kills-consequence}
-use Rattle.ring_completion.proofs.Remainders.{remainder, remainder-zero, remainder-add, map-times, map-linear, remainder-of-member, member-of-remainder}
+use Rattle.ring_completion.proofs.Remainders.{remainder, remainder-zero, remainder-add, map-times, map-linear}
+use Rattle.ring_completion.proofs.Remainders.{remainder-of-member, member-of-remainder}
 
 module _ (q : ℕ) (field : IsFieldModulo (suc q)) (mul : ℕ → ℕ → Vector q → Vector q → Vector q)
     (In : ℕ → Vector q → Type 0)

@@ -1,5 +1,6 @@
 -- Combinations by signs, and functions that are given at the places of a list.
-use Rattle.std.proofs.Common.{◌≡◌, ◌≢◌, ℕ, zero, suc, ◌+◌, ◌*◌, ◌%◌, ◌<◌, List, [], ◌∷◌, length, true, false, cond, eqb, ◌⊎◌, inl, inr, arith, ap, ap₂, sym, ◌∙◌}
+use Rattle.std.proofs.Common.{◌≡◌, ◌≢◌, ℕ, zero, suc, ◌+◌, ◌*◌, ◌%◌, ◌<◌, List, [], ◌∷◌, length, true, false}
+use Rattle.std.proofs.Common.{cond, eqb, ◌⊎◌, inl, inr, arith, ap, ap₂, sym, ◌∙◌}
 use Rattle.std.specs.Prelude.{slice_index_or}
 use Rattle.std.proofs.lemmas.Bool.{cases_Bool}
 use Rattle.std.specs.List.{AllByRecursion as Each}
@@ -10,7 +11,8 @@ use Rattle.graded_polynomials.specs.Polynomials.{Term, multiple}
 use Rattle.graded_polynomials.proofs.Terms.{cases-same}
 use Rattle.graded_algebra.specs.Algebras.{Algebra, linear, times, IsSpace}
 use Rattle.graded_algebra.proofs.Evaluation.{sign-sum}
-use Rattle.graded_algebra.proofs.Vectors.{zero-add, times-one, times-add, times-zero, times-times, times-congruent}
+use Rattle.graded_algebra.proofs.Vectors.{zero-add, times-one, times-add, times-zero, times-times}
+use Rattle.graded_algebra.proofs.Vectors.{times-congruent}
 use Rattle.ring_completion.specs.Candidates.{IsListed}
 use Rattle.ring_completion.specs.Completions.{alone}
 

@@ -1,6 +1,7 @@
 -- The rows of the kernel over a list that has all standard monomials, whose pivots are none of the
 -- consequences', are the new relations.
-use Rattle.std.proofs.Common.{◌≡◌, ◌≢◌, ℕ, zero, suc, ◌+◌, ◌<◌, ◌≤◌, ◌↔◌, List, [], ◌∷◌, length, true, false, ◌⊎◌, inl, inr, arith, ap, sym, ◌∙◌, refl}
+use Rattle.std.proofs.Common.{◌≡◌, ◌≢◌, ℕ, zero, suc, ◌+◌, ◌<◌, ◌≤◌, ◌↔◌, List, [], ◌∷◌, length, true, false}
+use Rattle.std.proofs.Common.{◌⊎◌, inl, inr, arith, ap, sym, ◌∙◌, refl}
 use Rattle.std.specs.Prelude.{slice_index_or}
 use Rattle.std.proofs.lemmas.Bool.{cases_Bool, cases_order, cases_lt}
 use Rattle.linear_algebra.specs.Modular.{IsCongruent, IsFieldModulo}
@@ -11,7 +12,8 @@ use Rattle.graded_polynomials.specs.Monomials.{IsMonomial, IsMonomials, IsGreate
 use Rattle.graded_polynomials.specs.Polynomials.{Polynomial, coefficient}
 use Rattle.graded_polynomials.proofs.Order.{greater-self, greater-both}
 use Rattle.graded_algebra.specs.Algebras.{Algebra, Generator, degrees, IsGradedCommutative}
-use Rattle.graded_algebra.specs.Presentations.{IsLeading, IsConsequence, IsStandard, IsRelation, IsRelationAt, IsRelationsFrom, IsRelations}
+use Rattle.graded_algebra.specs.Presentations.{IsLeading, IsConsequence, IsStandard, IsRelation, IsRelationAt}
+use Rattle.graded_algebra.specs.Presentations.{IsRelationsFrom, IsRelations}
 use Rattle.graded_algebra.specs.Vectors.{Vector, vectors}
 use Rattle.presentation_rows.specs.RowPolynomials.{polynomial_of}
 use Rattle.presentation_rows.specs.Values.{AreValues}

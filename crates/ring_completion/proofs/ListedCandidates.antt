@@ -1,10 +1,12 @@
 -- The list by first factors, of the lists of standard monomials of the lower degrees, is that of the
 -- candidates.
-use Rattle.std.proofs.Common.{◌≡◌, ℕ, zero, suc, ◌+◌, ◌-◌, ◌<◌, ◌≤◌, ◌↔◌, List, [], ◌∷◌, length, Bool, true, false, not, ◌||◌, ◌&&◌, leb, arith, ap, sym, ◌∙◌, refl}
+use Rattle.std.proofs.Common.{◌≡◌, ℕ, zero, suc, ◌+◌, ◌-◌, ◌<◌, ◌≤◌, ◌↔◌, List, [], ◌∷◌, length, Bool, true}
+use Rattle.std.proofs.Common.{false, not, ◌||◌, ◌&&◌, leb, arith, ap, sym, ◌∙◌, refl}
 use Rattle.std.specs.Prelude.{slice_index_or}
 use Rattle.std.specs.List.{AllByRecursion as Each}
 use Rattle.linear_algebra.specs.Modular.{IsCongruent, IsFieldModulo}
-use Rattle.graded_polynomials.specs.Monomials.{IsMonomial, IsWithin, exponent, degree, fits, is_exterior, joined}
+use Rattle.graded_polynomials.specs.Monomials.{IsMonomial, IsWithin, exponent, degree, fits, is_exterior}
+use Rattle.graded_polynomials.specs.Monomials.{joined}
 use Rattle.graded_polynomials.specs.Polynomials.{Polynomial, IsOneOf}
 use Rattle.graded_polynomials.specs.Texts.{power}
 use Rattle.graded_polynomials.proofs.Exponents.{joined-cancel}
@@ -15,14 +17,17 @@ use Rattle.graded_algebra.proofs.Ideals.{degree-nil, fits-nil}
 use Rattle.graded_algebra.proofs.Leading.{not-zero}
 use Rattle.ring_completion.specs.Candidates.{AreSome, IsListed, IsQuotient, AreCandidates}
 use Rattle.ring_completion.specs.Completions.{IsGenerator, IsStandardOf, IsClearBefore, degree_of}
-use Rattle.ring_completion.specs.Listings.{AreStandardLists, candidates_of, standard_of, without_factor, is_clear_before, has_standard_quotients}
+use Rattle.ring_completion.specs.Listings.{AreStandardLists, candidates_of, standard_of, without_factor}
+use Rattle.ring_completion.specs.Listings.{is_clear_before, has_standard_quotients}
 use Rattle.graded_polynomials.proofs.Ordered.{Ordered}
 use Rattle.ring_completion.proofs.DescendingLists.{each-at, ordered-at, listed-at}
 use Rattle.ring_completion.proofs.Choosing.{are-candidates}
 use Rattle.ring_completion.proofs.Constants.{constant-zero}
 use Rattle.ring_completion.proofs.Factors.{quotient-exists, quotient-divides}
 use Rattle.ring_completion.proofs.FirstFactors.{by-first-factor}
-use Rattle.ring_completion.proofs.Listings.{each-from, falls-from, one-of-listed, degree-power, within-length, found-quotient, quotients-found, found-if-clear, without-trimmed, without-joined, IsMade, AreFrom, from-each, from-falls, from-all}
+use Rattle.ring_completion.proofs.Listings.{each-from, falls-from, one-of-listed, degree-power, within-length}
+use Rattle.ring_completion.proofs.Listings.{found-quotient, quotients-found, found-if-clear, without-trimmed}
+use Rattle.ring_completion.proofs.Listings.{without-joined, IsMade, AreFrom, from-each, from-falls, from-all}
 use Rattle.ring_completion.proofs.Quotients.{power-trimmed, factor-of}
 
 within-power : (ds : List ℕ) (i : ℕ) → i < length ds → IsWithin ds (power i 1)

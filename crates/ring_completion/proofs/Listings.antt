@@ -1,10 +1,13 @@
 -- The list of candidates that is made by first factors has all of them.
-use Rattle.std.proofs.Common.{◌≡◌, ◌≢◌, ℕ, zero, suc, ◌+◌, ◌-◌, ◌<◌, ◌≤◌, List, [], ◌∷◌, length, Bool, true, false, cond, ◌||◌, ◌&&◌, eqb, leb, ◌⊎◌, inl, inr, arith, ap, ap₂, sym, ◌∙◌, refl}
+use Rattle.std.proofs.Common.{◌≡◌, ◌≢◌, ℕ, zero, suc, ◌+◌, ◌-◌, ◌<◌, ◌≤◌, List, [], ◌∷◌, length, Bool, true}
+use Rattle.std.proofs.Common.{false, cond, ◌||◌, ◌&&◌, eqb, leb, ◌⊎◌, inl, inr, arith, ap, ap₂, sym, ◌∙◌}
+use Rattle.std.proofs.Common.{refl}
 use Rattle.std.specs.Prelude.{slice_index_or}
 use Rattle.std.proofs.lemmas.Bool.{cases_Bool, cases_eq}
 use Rattle.std.proofs.lemmas.Bool.Decides.{nat_tests}
 use Rattle.std.specs.List.{AllByRecursion as Each}
-use Rattle.graded_polynomials.specs.Monomials.{IsMonomial, IsGreater, IsTrimmed, IsWithin, exponent, degree, fits, joined, same}
+use Rattle.graded_polynomials.specs.Monomials.{IsMonomial, IsGreater, IsTrimmed, IsWithin, exponent, degree}
+use Rattle.graded_polynomials.specs.Monomials.{fits, joined, same}
 use Rattle.graded_polynomials.specs.Polynomials.{IsOneOf}
 use Rattle.graded_polynomials.specs.Texts.{power}
 use Rattle.graded_polynomials.proofs.Monomials.{monomial-joined}
@@ -12,7 +15,8 @@ use Rattle.graded_polynomials.proofs.Terms.{each-append, false≢true, cases-sam
 use Rattle.graded_algebra.proofs.Ideals.{degree-nil, is-one-of-left, is-one-of-right}
 use Rattle.ring_completion.specs.Candidates.{IsListed}
 use Rattle.ring_completion.specs.Completions.{IsClearBefore, IsGenerator, degree_of}
-use Rattle.ring_completion.specs.Listings.{without_factor, is_listed, is_clear_before, has_standard_quotients, products_with, candidates_from, standard_of}
+use Rattle.ring_completion.specs.Listings.{without_factor, is_listed, is_clear_before, has_standard_quotients}
+use Rattle.ring_completion.specs.Listings.{products_with, candidates_from, standard_of}
 use Rattle.graded_polynomials.proofs.Ordered.{Ordered, ordered-append}
 use Rattle.ring_completion.proofs.DescendingLists.{each-other}
 use Rattle.ring_completion.proofs.Factors.{put-trimmed, put-one, put-joined}

@@ -1,18 +1,22 @@
 -- Polynomials of lower degree: each is equal to a combination of standard monomials, and to one only.
-use Rattle.std.proofs.Common.{◌≡◌, ◌≢◌, ℕ, zero, suc, ◌+◌, ◌*◌, ◌%◌, ◌<◌, ◌≤◌, List, [], ◌∷◌, ◌++◌, length, true, false, ◌⊎◌, inl, inr, arith, ap, ap₂, sym, ◌∙◌, refl}
+use Rattle.std.proofs.Common.{◌≡◌, ◌≢◌, ℕ, zero, suc, ◌+◌, ◌*◌, ◌%◌, ◌<◌, ◌≤◌, List, [], ◌∷◌, ◌++◌, length}
+use Rattle.std.proofs.Common.{true, false, ◌⊎◌, inl, inr, arith, ap, ap₂, sym, ◌∙◌, refl}
 use Rattle.std.specs.Prelude.{slice_index_or}
 use Rattle.std.proofs.Math.Nat.{zero-mod}
 use Rattle.std.proofs.lemmas.Bool.{cases_lt, cases_order}
 use Rattle.std.specs.List.{AllByRecursion as Each}
 use Rattle.linear_algebra.specs.Modular.{IsCongruent, IsFieldModulo}
-use Rattle.linear_algebra.proofs.Congruences.{congruent_eq, congruent_trans, congruent_sym, congruent_add, congruent_mul_left, congruent_cancel, to_congruent}
+use Rattle.linear_algebra.proofs.Congruences.{congruent_eq, congruent_trans, congruent_sym, congruent_add}
+use Rattle.linear_algebra.proofs.Congruences.{congruent_mul_left, congruent_cancel, to_congruent}
 use Rattle.graded_polynomials.specs.Monomials.{IsMonomial, IsMonomials, IsGreater, same}
 use Rattle.graded_polynomials.specs.Polynomials.{Term, Polynomial, coefficient, scaled, IsOver, IsSame}
 use Rattle.graded_polynomials.proofs.Monomials.{only-one}
 use Rattle.graded_polynomials.proofs.Order.{greater-self}
 use Rattle.graded_polynomials.proofs.Stored.{among}
-use Rattle.graded_polynomials.proofs.Terms.{each-append, over-scaled, coefficient-append, coefficient-scaled, cases-same}
-use Rattle.graded_algebra.specs.Algebras.{Algebra, Generator, degrees, evaluate, value, times, IsGradedCommutative}
+use Rattle.graded_polynomials.proofs.Terms.{each-append, over-scaled, coefficient-append, coefficient-scaled}
+use Rattle.graded_polynomials.proofs.Terms.{cases-same}
+use Rattle.graded_algebra.specs.Algebras.{Algebra, Generator, degrees, evaluate, value, times}
+use Rattle.graded_algebra.specs.Algebras.{IsGradedCommutative}
 use Rattle.graded_algebra.specs.Presentations.{IsLeading, IsRelation, IsStandard, IsRelations}
 use Rattle.graded_algebra.proofs.Ideals.{fits-nil, degree-nil}
 use Rattle.graded_algebra.proofs.Leading.{not-zero, LeadsAt, vanishes-below}

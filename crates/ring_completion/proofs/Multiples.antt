@@ -1,12 +1,15 @@
 -- Multiples of polynomials by a monomial, and the ideal.
-use Rattle.std.proofs.Common.{◌≡◌, ℕ, suc, ◌+◌, ◌*◌, ◌%◌, List, [], ◌∷◌, ◌++◌, true, false, eqb, ◌⊎◌, inl, inr, arith, ap, sym, ◌∙◌, refl}
+use Rattle.std.proofs.Common.{◌≡◌, ℕ, suc, ◌+◌, ◌*◌, ◌%◌, List, [], ◌∷◌, ◌++◌, true, false, eqb, ◌⊎◌, inl}
+use Rattle.std.proofs.Common.{inr, arith, ap, sym, ◌∙◌, refl}
 use Rattle.std.proofs.lemmas.Bool.{cases_Bool}
 use Rattle.std.proofs.Math.Nat.{zero-mod}
 use Rattle.std.specs.List.{AllByRecursion as Each}
 use Rattle.linear_algebra.specs.Modular.{IsCongruent}
-use Rattle.linear_algebra.proofs.Congruences.{congruent_eq, congruent_trans, congruent_mul_left, congruent_sym, congruent_add, congruent_refl, to_congruent}
+use Rattle.linear_algebra.proofs.Congruences.{congruent_eq, congruent_trans, congruent_mul_left}
+use Rattle.linear_algebra.proofs.Congruences.{congruent_sym, congruent_add, congruent_refl, to_congruent}
 use Rattle.graded_polynomials.specs.Monomials.{IsMonomial, IsGreater, joined, fits, sign, swaps}
-use Rattle.graded_polynomials.specs.Polynomials.{Term, Polynomial, Multiple, coefficient, multiple, total, IsOver, IsSame, IsOneOf, IsMultiple, IsInIdeal}
+use Rattle.graded_polynomials.specs.Polynomials.{Term, Polynomial, Multiple, coefficient, multiple, total}
+use Rattle.graded_polynomials.specs.Polynomials.{IsOver, IsSame, IsOneOf, IsMultiple, IsInIdeal}
 use Rattle.graded_polynomials.proofs.Exponents.{joined-greater}
 use Rattle.graded_polynomials.proofs.Monomials.{monomial-joined, over-total}
 use Rattle.graded_polynomials.proofs.Terms.{false≢true, coefficient-append}

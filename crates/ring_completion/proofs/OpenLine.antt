@@ -1,14 +1,17 @@
 -- An example: the polynomials in one variable of degree 1 over F_2, with an open definition.
-use Rattle.std.proofs.Common.{◌≡◌, ℕ, ◌+◌, ◌*◌, ◌%◌, ◌≤◌, Bool, true, false, cond, eqb, ◌⊎◌, inl, inr, arith, ap, sym, ◌∙◌, refl}
+use Rattle.std.proofs.Common.{◌≡◌, ℕ, ◌+◌, ◌*◌, ◌%◌, ◌≤◌, Bool, true, false, cond, eqb, ◌⊎◌, inl, inr, arith}
+use Rattle.std.proofs.Common.{ap, sym, ◌∙◌, refl}
 use Rattle.std.proofs.Math.Path.{fun_ext}
 use Rattle.std.proofs.lemmas.Bool.{cases_eq}
 use Rattle.linear_algebra.specs.Modular.{IsCongruent}
 use Rattle.graded_polynomials.specs.Monomials.{sign}
 use Rattle.graded_algebra.specs.Algebras.{Algebra, times, IsGradedCommutative}
 use Rattle.graded_algebra.specs.Vectors.{Below, residue, Vector, unit, vectors, GradedAlgebra}
-use Rattle.linear_algebra.proofs.Congruences.{congruent_mul_left, congruent_mul_right, congruent_mod, congruent_trans, congruent_eq, congruent_sym, congruent_add}
+use Rattle.linear_algebra.proofs.Congruences.{congruent_mul_left, congruent_mul_right, congruent_mod}
+use Rattle.linear_algebra.proofs.Congruences.{congruent_trans, congruent_eq, congruent_sym, congruent_add}
 use Rattle.graded_polynomials.proofs.Terms.{eqb-false, false≢true}
-use Rattle.graded_algebra.proofs.VectorLemmas.{below-path, residue-self, vector-assoc, vector-comm, vector-zero, vector-times-p}
+use Rattle.graded_algebra.proofs.VectorLemmas.{below-path, residue-self, vector-assoc, vector-comm}
+use Rattle.graded_algebra.proofs.VectorLemmas.{vector-zero, vector-times-p}
 
 abbrev pub line-mul : ℕ → ℕ → Vector 1 → Vector 1 → Vector 1
 line-mul d e a b i = cond (eqb i 0) (residue 1 ((a 0).0 * (b 0).0)) (residue 1 0)

@@ -5,7 +5,8 @@ use Rattle.linear_algebra.specs.Modular.{IsCongruent}
 use Rattle.linear_algebra.specs.Rows.{entry, row, combination, IsInSpan, IsReduced}
 use Rattle.linear_algebra.specs.Kernels.{IsKernelOf}
 use Rattle.linear_algebra.proofs.Combinations.{same_coefficients}
-use Rattle.linear_algebra.proofs.Congruences.{congruent_eq, congruent_trans, congruent_sym, congruent_cancel, to_congruent}
+use Rattle.linear_algebra.proofs.Congruences.{congruent_eq, congruent_trans, congruent_sym, congruent_cancel}
+use Rattle.linear_algebra.proofs.Congruences.{to_congruent}
 use Rattle.linear_algebra.proofs.Independence.{combine_combinations}
 use Rattle.linear_algebra.proofs.Sums.{sum_below-add, sum_below-mul, sum_below-same, sum_below-vanishes}
 use Rattle.graded_algebra.specs.Algebras.{Generator, value}

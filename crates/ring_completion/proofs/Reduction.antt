@@ -1,9 +1,11 @@
 -- A polynomial is reduced: at each place where a space leads, a member is added that clears it.
-use Rattle.std.proofs.Common.{◌≡◌, ◌≢◌, ℕ, zero, suc, ◌+◌, ◌*◌, ◌%◌, ◌<◌, List, [], ◌++◌, length, ◌⊎◌, inl, inr, arith, ap, sym, ◌∙◌}
+use Rattle.std.proofs.Common.{◌≡◌, ◌≢◌, ℕ, zero, suc, ◌+◌, ◌*◌, ◌%◌, ◌<◌, List, [], ◌++◌, length, ◌⊎◌, inl}
+use Rattle.std.proofs.Common.{inr, arith, ap, sym, ◌∙◌}
 use Rattle.std.specs.Prelude.{slice_index_or}
 use Rattle.std.proofs.lemmas.Bool.{cases_eq, cases_order}
 use Rattle.linear_algebra.specs.Modular.{IsCongruent, IsFieldModulo}
-use Rattle.linear_algebra.proofs.Congruences.{congruent_eq, congruent_trans, congruent_add, congruent_mul_left, congruent_refl}
+use Rattle.linear_algebra.proofs.Congruences.{congruent_eq, congruent_trans, congruent_add}
+use Rattle.linear_algebra.proofs.Congruences.{congruent_mul_left, congruent_refl}
 use Rattle.graded_polynomials.specs.Monomials.{IsMonomial, IsMonomials, IsGreater}
 use Rattle.graded_polynomials.specs.Polynomials.{Term, coefficient, scaled, IsOver}
 use Rattle.graded_polynomials.proofs.Terms.{coefficient-append, coefficient-scaled}

@@ -4,7 +4,9 @@ use Rattle.std.proofs.Common.{◌≡◌, ℕ, zero, suc, ◌+◌, ◌*◌, List,
 use Rattle.std.proofs.Math.Path.{fun_ext}
 use Rattle.linear_algebra.specs.Modular.{IsCongruent, sum_below}
 use Rattle.linear_algebra.specs.Rows.{entry, row, pivot, IsEchelon, IsInSpan}
-use Rattle.linear_algebra.proofs.Congruences.{congruent_refl, congruent_eq, congruent_trans, congruent_sym, congruent_add, congruent_mul_left, congruent_mul_right, congruent_mod, to_congruent}
+use Rattle.linear_algebra.proofs.Congruences.{congruent_refl, congruent_eq, congruent_trans, congruent_sym}
+use Rattle.linear_algebra.proofs.Congruences.{congruent_add, congruent_mul_left, congruent_mul_right}
+use Rattle.linear_algebra.proofs.Congruences.{congruent_mod, to_congruent}
 use Rattle.linear_algebra.proofs.EchelonLists.{HasPivots-from_echelon, Combines-from_combination}
 use Rattle.linear_algebra.proofs.Pivots.{coefficient_at_pivot}
 use Rattle.linear_algebra.proofs.Sums.{sum_below-add, sum_below-congruent, sum_below-vanishes}

@@ -1,13 +1,16 @@
 -- Polynomials over a list that differ from others by consequences, and the vectors of their coefficients.
-use Rattle.std.proofs.Common.{◌≡◌, ℕ, zero, suc, ◌+◌, ◌*◌, ◌<◌, ◌≤◌, List, [], ◌++◌, length, ◌⊎◌, inl, inr, arith, ap, ap₂, sym, ◌∙◌, refl}
+use Rattle.std.proofs.Common.{◌≡◌, ℕ, zero, suc, ◌+◌, ◌*◌, ◌<◌, ◌≤◌, List, [], ◌++◌, length, ◌⊎◌, inl, inr}
+use Rattle.std.proofs.Common.{arith, ap, ap₂, sym, ◌∙◌, refl}
 use Rattle.std.specs.Prelude.{slice_index_or}
 use Rattle.std.proofs.Math.Path.{fun_ext}
 use Rattle.linear_algebra.specs.Modular.{IsCongruent, sum_below}
 use Rattle.linear_algebra.specs.Rows.{entry, row, IsRow}
-use Rattle.linear_algebra.proofs.Congruences.{congruent_refl, congruent_eq, congruent_trans, congruent_sym, congruent_add, congruent_mul_left, congruent_mod, to_congruent}
+use Rattle.linear_algebra.proofs.Congruences.{congruent_refl, congruent_eq, congruent_trans, congruent_sym}
+use Rattle.linear_algebra.proofs.Congruences.{congruent_add, congruent_mul_left, congruent_mod, to_congruent}
 use Rattle.graded_polynomials.specs.Monomials.{IsMonomial}
 use Rattle.graded_polynomials.specs.Polynomials.{Term, Polynomial, coefficient, scaled, IsOver, IsSame}
-use Rattle.graded_polynomials.proofs.Terms.{each-append, over-scaled, coefficient-append, coefficient-scaled, occurs}
+use Rattle.graded_polynomials.proofs.Terms.{each-append, over-scaled, coefficient-append, coefficient-scaled}
+use Rattle.graded_polynomials.proofs.Terms.{occurs}
 use Rattle.graded_algebra.specs.Algebras.{Generator, degrees, times}
 use Rattle.graded_algebra.specs.Presentations.{IsConsequence}
 use Rattle.graded_algebra.specs.Vectors.{Below, Vector, residue, vectors}
@@ -20,7 +23,8 @@ use Rattle.presentation_rows.proofs.RowTerms.{coefficient-at, entry-row-of}
 use Rattle.presentation_rows.proofs.RowValues.{times-residue}
 use Rattle.ring_completion.specs.Candidates.{AreSome, IsListed}
 use Rattle.ring_completion.proofs.ListRows.{listed-apart, listed-or-zero, over-list}
-use Rattle.ring_completion.proofs.ListVectors.{coefficients, coefficients-plus, coefficients-empty, coefficients-of-row}
+use Rattle.ring_completion.proofs.ListVectors.{coefficients, coefficients-plus, coefficients-empty}
+use Rattle.ring_completion.proofs.ListVectors.{coefficients-of-row}
 
 module _ (q : ℕ) (mul : ℕ → ℕ → Vector q → Vector q → Vector q) (gs : List (Generator (Vector q))) (d : ℕ)
     (rs : List Polynomial)

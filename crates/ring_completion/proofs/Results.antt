@@ -1,5 +1,6 @@
 -- The results, for graded commutative algebras of vectors.
-use Rattle.std.proofs.Common.{◌≡◌, ℕ, suc, ◌+◌, ◌<◌, ◌≤◌, ◌∷◌, ◌↔◌, List, [], ◌++◌, length, map, true, false, ◌⊎◌, inl, inr, arith, ap, sym, ◌∙◌, refl}
+use Rattle.std.proofs.Common.{◌≡◌, ℕ, suc, ◌+◌, ◌<◌, ◌≤◌, ◌∷◌, ◌↔◌, List, [], ◌++◌, length, map, true, false}
+use Rattle.std.proofs.Common.{◌⊎◌, inl, inr, arith, ap, sym, ◌∙◌, refl}
 use Rattle.std.specs.Prelude.{slice_index_or}
 use mathlib.Core.Path.{subst}
 use Rattle.std.proofs.lemmas.Bool.{cases_Bool}
@@ -11,7 +12,8 @@ use Rattle.linear_algebra.specs.Choices.{IsPreimage, IsGreedy}
 use Rattle.graded_polynomials.specs.Monomials.{IsMonomial, IsMonomials}
 use Rattle.graded_polynomials.specs.Polynomials.{Term, Polynomial, scaled, IsOver}
 use Rattle.graded_algebra.specs.Algebras.{Generator, degrees, evaluate, value, times}
-use Rattle.graded_algebra.specs.Presentations.{IsLeading, IsStandard, IsConsequence, IsRelations, IsNormalForm, IsSpanGenerators, generators_of}
+use Rattle.graded_algebra.specs.Presentations.{IsLeading, IsStandard, IsConsequence, IsRelations}
+use Rattle.graded_algebra.specs.Presentations.{IsNormalForm, IsSpanGenerators, generators_of}
 use Rattle.graded_algebra.specs.Vectors.{Vector, GradedAlgebra, IsOfDegree, algebra, basis, unit, residue}
 use Rattle.graded_algebra.proofs.Evaluation.{evaluate-in}
 use Rattle.presentation_rows.proofs.NewGenerators.{chosen-units}

@@ -1,12 +1,15 @@
 -- The form of a product by another factor, whose quotient is not standard.
-use Rattle.std.proofs.Common.{◌≡◌, ◌≢◌, ℕ, suc, ◌+◌, ◌*◌, ◌<◌, List, [], ◌∷◌, ◌++◌, length, true, ◌⊎◌, inl, inr, arith, ap, sym, ◌∙◌, refl}
+use Rattle.std.proofs.Common.{◌≡◌, ◌≢◌, ℕ, suc, ◌+◌, ◌*◌, ◌<◌, List, [], ◌∷◌, ◌++◌, length, true, ◌⊎◌, inl}
+use Rattle.std.proofs.Common.{inr, arith, ap, sym, ◌∙◌, refl}
 use Rattle.std.specs.List.{AllByRecursion as Each}
 use Rattle.std.proofs.lemmas.Bool.{cases_order}
 use Rattle.linear_algebra.specs.Modular.{IsCongruent, IsFieldModulo}
 use Rattle.linear_algebra.specs.Rows.{IsRow}
-use Rattle.linear_algebra.proofs.Congruences.{congruent_eq, congruent_trans, congruent_sym, congruent_mul_left, congruent_mul_right}
+use Rattle.linear_algebra.proofs.Congruences.{congruent_eq, congruent_trans, congruent_sym}
+use Rattle.linear_algebra.proofs.Congruences.{congruent_mul_left, congruent_mul_right}
 use Rattle.graded_polynomials.specs.Monomials.{IsMonomial, fits, joined, swaps, sign}
-use Rattle.graded_polynomials.specs.Polynomials.{Term, Polynomial, coefficient, multiple, scaled, IsOver, IsSame}
+use Rattle.graded_polynomials.specs.Polynomials.{Term, Polynomial, coefficient, multiple, scaled, IsOver}
+use Rattle.graded_polynomials.specs.Polynomials.{IsSame}
 use Rattle.graded_polynomials.specs.Texts.{power}
 use Rattle.graded_polynomials.proofs.Monomials.{over-multiple}
 use Rattle.graded_polynomials.proofs.Terms.{coefficient-scaled}
@@ -17,12 +20,15 @@ use Rattle.graded_algebra.proofs.VectorLemmas.{vector-comm}
 use Rattle.presentation_rows.specs.RowPolynomials.{polynomial_of}
 use Rattle.presentation_rows.specs.Values.{vector}
 use Rattle.ring_completion.specs.Candidates.{AreSome}
-use Rattle.ring_completion.specs.Completions.{alone, generator_times, degree_of, IsGenerator, IsStandardOf, AreProducts, IsReduced}
+use Rattle.ring_completion.specs.Completions.{alone, generator_times, degree_of, IsGenerator, IsStandardOf}
+use Rattle.ring_completion.specs.Completions.{AreProducts, IsReduced}
 use Rattle.ring_completion.specs.Eliminations.{form_of}
 use Rattle.ring_completion.proofs.Quotients.{degree-positive}
 use Rattle.ring_completion.proofs.LinearForms.{sign-square}
-use Rattle.ring_completion.proofs.Rests.{IsRest, rest-zero, rest-plus, rest-same, rest-scaled, rest-moved, rest-of-row, row-of-rest, same-consequence, over-plus, at-plus}
-use Rattle.ring_completion.proofs.CriticalRows.{multiple-front, multiple-of-scaled, difference, difference-consequence, at-difference, exchanged}
+use Rattle.ring_completion.proofs.Rests.{IsRest, rest-zero, rest-plus, rest-same, rest-scaled, rest-moved}
+use Rattle.ring_completion.proofs.Rests.{rest-of-row, row-of-rest, same-consequence, over-plus, at-plus}
+use Rattle.ring_completion.proofs.CriticalRows.{multiple-front, multiple-of-scaled, difference}
+use Rattle.ring_completion.proofs.CriticalRows.{difference-consequence, at-difference, exchanged}
 
 module _ (q : ℕ) (field : IsFieldModulo (suc q)) (mul : ℕ → ℕ → Vector q → Vector q → Vector q)
     (In : ℕ → Vector q → Type 0)

@@ -1,8 +1,10 @@
 -- Where the product of two generators with a standard monomial is a candidate, their exchange is 0.
-use Rattle.std.proofs.Common.{◌≡◌, ℕ, suc, ◌+◌, ◌*◌, ◌<◌, ◌≤◌, List, [], ◌++◌, true, arith, ap, ap₂, sym, ◌∙◌, refl}
+use Rattle.std.proofs.Common.{◌≡◌, ℕ, suc, ◌+◌, ◌*◌, ◌<◌, ◌≤◌, List, [], ◌++◌, true, arith, ap, ap₂, sym, ◌∙◌}
+use Rattle.std.proofs.Common.{refl}
 use Rattle.std.specs.List.{AllByRecursion as Each}
 use Rattle.linear_algebra.specs.Modular.{IsCongruent, IsFieldModulo}
-use Rattle.linear_algebra.proofs.Congruences.{congruent_refl, congruent_eq, congruent_trans, congruent_add, to_congruent}
+use Rattle.linear_algebra.proofs.Congruences.{congruent_refl, congruent_eq, congruent_trans, congruent_add}
+use Rattle.linear_algebra.proofs.Congruences.{to_congruent}
 use Rattle.graded_polynomials.specs.Monomials.{IsMonomial, fits, joined, swaps, sign}
 use Rattle.graded_polynomials.specs.Polynomials.{Term, Polynomial, coefficient, multiple, scaled, IsSame}
 use Rattle.graded_polynomials.specs.Texts.{power}
@@ -14,11 +16,13 @@ use Rattle.graded_algebra.proofs.Values.{linear-same}
 use Rattle.graded_algebra.proofs.VectorLemmas.{vector-space}
 use Rattle.presentation_rows.specs.Values.{vector}
 use Rattle.ring_completion.specs.Candidates.{IsListed, AreCandidates}
-use Rattle.ring_completion.specs.Completions.{generator_times, degree_of, IsGenerator, IsStandardOf, IsReduced, AreProducts}
+use Rattle.ring_completion.specs.Completions.{generator_times, degree_of, IsGenerator, IsStandardOf}
+use Rattle.ring_completion.specs.Completions.{IsReduced, AreProducts}
 use Rattle.ring_completion.specs.Eliminations.{AreForms, form_of, exchange}
 use Rattle.ring_completion.proofs.CriticalRows.{exchanged, multiple-front}
 use Rattle.ring_completion.proofs.Joins.{joined-assoc, joined-comm, fits-right}
-use Rattle.ring_completion.proofs.ListVectors.{coefficients, coefficients-same, coefficients-plus, coefficients-empty}
+use Rattle.ring_completion.proofs.ListVectors.{coefficients, coefficients-same, coefficients-plus}
+use Rattle.ring_completion.proofs.ListVectors.{coefficients-empty}
 use Rattle.ring_completion.proofs.Lower.{known, standard-same}
 use Rattle.ring_completion.proofs.Quotients.{degree-positive}
 use Rattle.graded_polynomials.proofs.Terms.{coefficient-append, coefficient-scaled}

@@ -1,5 +1,6 @@
 -- The normal form of a monomial that is not standard has smaller monomials only.
-use Rattle.std.proofs.Common.{◌≡◌, ◌≢◌, ℕ, suc, ◌+◌, ◌*◌, ◌%◌, ◌<◌, ◌≤◌, List, [], ◌∷◌, ◌++◌, length, true, false, ◌⊎◌, inl, inr, arith, ap, ap₂, sym, ◌∙◌, refl}
+use Rattle.std.proofs.Common.{◌≡◌, ◌≢◌, ℕ, suc, ◌+◌, ◌*◌, ◌%◌, ◌<◌, ◌≤◌, List, [], ◌∷◌, ◌++◌, length, true}
+use Rattle.std.proofs.Common.{false, ◌⊎◌, inl, inr, arith, ap, ap₂, sym, ◌∙◌, refl}
 use Rattle.std.specs.Prelude.{slice_index_or}
 use Rattle.std.proofs.Math.Nat.{mod-eq_of_lt, zero-mod}
 use Rattle.std.specs.List.{AllByRecursion as Each}
@@ -10,7 +11,8 @@ use Rattle.graded_polynomials.specs.Polynomials.{Term, coefficient, scaled, IsOv
 use Rattle.graded_polynomials.proofs.Exponents.{cases-greater, exponent-joined}
 use Rattle.graded_polynomials.proofs.Order.{greater-self}
 use Rattle.graded_polynomials.proofs.Stored.{among, Descending, descending-from}
-use Rattle.graded_polynomials.proofs.Terms.{each-append, over-scaled, coefficient-append, coefficient-scaled, cases-same, same-self}
+use Rattle.graded_polynomials.proofs.Terms.{each-append, over-scaled, coefficient-append, coefficient-scaled}
+use Rattle.graded_polynomials.proofs.Terms.{cases-same, same-self}
 use Rattle.graded_algebra.specs.Algebras.{Algebra, Generator, degrees, evaluate, times, IsSpace}
 use Rattle.graded_algebra.specs.Presentations.{IsRelation, IsStandard, IsNormalForm}
 use Rattle.graded_algebra.proofs.Leading.{LeadsAt, vanishes-below}

@@ -6,7 +6,8 @@ use Rattle.std.specs.List.{AllByRecursion as Each}
 use Rattle.linear_algebra.specs.Modular.{IsCongruent, IsFieldModulo}
 use Rattle.graded_polynomials.specs.Monomials.{IsMonomial, IsGreater, exponent}
 use Rattle.graded_polynomials.specs.Polynomials.{Term, Polynomial}
-use Rattle.graded_algebra.specs.Algebras.{Algebra, Generator, degrees, evaluate, value, times, IsGradedCommutative}
+use Rattle.graded_algebra.specs.Algebras.{Algebra, Generator, degrees, evaluate, value, times}
+use Rattle.graded_algebra.specs.Algebras.{IsGradedCommutative}
 use Rattle.graded_algebra.specs.Presentations.{IsRelations}
 use Rattle.ring_completion.specs.Completions.{alone, IsStandardOf, IsReduced, IsClearBefore}
 use Rattle.ring_completion.proofs.LinearForms.{linear-alone}

@@ -1,5 +1,6 @@
 -- What stays of products and forms where generators are added.
-use Rattle.std.proofs.Common.{◌≡◌, ℕ, zero, suc, ◌+◌, ◌<◌, ◌≤◌, List, [], ◌∷◌, ◌++◌, length, ◌⊎◌, inl, inr, arith, ap, sym, ◌∙◌, refl}
+use Rattle.std.proofs.Common.{◌≡◌, ℕ, zero, suc, ◌+◌, ◌<◌, ◌≤◌, List, [], ◌∷◌, ◌++◌, length, ◌⊎◌, inl, inr}
+use Rattle.std.proofs.Common.{arith, ap, sym, ◌∙◌, refl}
 use Rattle.std.proofs.lemmas.Bool.{cases_lt}
 use Rattle.std.specs.List.{AllByRecursion as Each}
 use Rattle.graded_polynomials.specs.Monomials.{IsMonomial}
@@ -12,7 +13,8 @@ use Rattle.graded_algebra.specs.Presentations.{IsStandard, IsNormalForm}
 use Rattle.graded_algebra.proofs.MoreGenerators.{degrees-append, value-more}
 use Rattle.graded_polynomials.proofs.MoreGenerators.{monomial-more}
 use Rattle.presentation_rows.specs.RowPolynomials.{polynomial_of}
-use Rattle.ring_completion.specs.Completions.{alone, generator_times, degree_of, IsGenerator, IsStandardOf, IsReduced, AreProducts}
+use Rattle.ring_completion.specs.Completions.{alone, generator_times, degree_of, IsGenerator, IsStandardOf}
+use Rattle.ring_completion.specs.Completions.{IsReduced, AreProducts}
 use Rattle.ring_completion.proofs.AddedGenerators.{monomial-less, multiple-more}
 
 -- a row with a 0 behind, over a list with one more monomial, stands for the same polynomial

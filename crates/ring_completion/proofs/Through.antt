@@ -5,12 +5,14 @@ use Rattle.linear_algebra.specs.Modular.{IsCongruent, IsFieldModulo}
 use Rattle.graded_polynomials.specs.Monomials.{IsMonomial, joined, swaps, sign}
 use Rattle.graded_polynomials.specs.Polynomials.{Term, Polynomial, scaled}
 use Rattle.graded_polynomials.specs.Texts.{power}
-use Rattle.graded_algebra.specs.Algebras.{Algebra, Generator, degrees, evaluate, value, linear, times, IsSpace, IsGradedCommutative}
+use Rattle.graded_algebra.specs.Algebras.{Algebra, Generator, degrees, evaluate, value, linear, times}
+use Rattle.graded_algebra.specs.Algebras.{IsSpace, IsGradedCommutative}
 use Rattle.graded_algebra.specs.Presentations.{IsStandard, IsRelations}
 use Rattle.graded_algebra.proofs.Evaluation.{evaluate-mul}
 use Rattle.graded_algebra.proofs.Values.{linear-append, linear-scaled, linear-same, value-multiple}
 use Rattle.graded_algebra.proofs.Vectors.{times-one, mul-zero, mul-times}
-use Rattle.ring_completion.specs.Completions.{alone, generator_times, degree_of, IsGenerator, IsStandardOf, IsReduced, AreProducts}
+use Rattle.ring_completion.specs.Completions.{alone, generator_times, degree_of, IsGenerator, IsStandardOf}
+use Rattle.ring_completion.specs.Completions.{IsReduced, AreProducts}
 use Rattle.ring_completion.proofs.LinearForms.{sign-twice, linear-alone}
 use Rattle.ring_completion.proofs.Lower.{known, standard-same, reduced-append, reduced-scaled}
 

@@ -1,18 +1,22 @@
 -- Forms of products that are 0, since a generator of odd degree comes twice, are 0.
-use Rattle.std.proofs.Common.{◌≡◌, ℕ, suc, ◌+◌, ◌*◌, ◌<◌, ◌≤◌, List, [], ◌∷◌, true, false, ◌⊎◌, inl, inr, arith, ap, ap₂, sym, ◌∙◌, refl}
+use Rattle.std.proofs.Common.{◌≡◌, ℕ, suc, ◌+◌, ◌*◌, ◌<◌, ◌≤◌, List, [], ◌∷◌, true, false, ◌⊎◌, inl, inr}
+use Rattle.std.proofs.Common.{arith, ap, ap₂, sym, ◌∙◌, refl}
 use Rattle.std.proofs.lemmas.Bool.{cases_order}
 use Rattle.std.specs.List.{AllByRecursion as Each}
 use Rattle.linear_algebra.specs.Modular.{IsCongruent, IsFieldModulo}
-use Rattle.graded_polynomials.specs.Monomials.{IsMonomial, exponent, degree, fits, is_exterior, joined, swaps, sign}
+use Rattle.graded_polynomials.specs.Monomials.{IsMonomial, exponent, degree, fits, is_exterior, joined, swaps}
+use Rattle.graded_polynomials.specs.Monomials.{sign}
 use Rattle.graded_polynomials.specs.Polynomials.{Term, Polynomial}
 use Rattle.graded_polynomials.specs.Texts.{power}
 use Rattle.graded_polynomials.proofs.Exponents.{exponent-joined}
-use Rattle.graded_algebra.specs.Algebras.{Algebra, Generator, degrees, evaluate, linear, times, IsSpace, IsGradedCommutative}
+use Rattle.graded_algebra.specs.Algebras.{Algebra, Generator, degrees, evaluate, linear, times, IsSpace}
+use Rattle.graded_algebra.specs.Algebras.{IsGradedCommutative}
 use Rattle.graded_algebra.specs.Presentations.{IsRelations}
 use Rattle.graded_algebra.proofs.Evaluation.{evaluate-unfit}
 use Rattle.graded_algebra.proofs.Vectors.{times-zero}
 use Rattle.ring_completion.specs.Candidates.{IsQuotient}
-use Rattle.ring_completion.specs.Completions.{degree_of, IsGenerator, AreProducts, AreConsistent, IsClearBefore}
+use Rattle.ring_completion.specs.Completions.{degree_of, IsGenerator, AreProducts, AreConsistent}
+use Rattle.ring_completion.specs.Completions.{IsClearBefore}
 use Rattle.ring_completion.proofs.Quotients.{IsFactorOf, factor-of, degree-positive}
 use Rattle.ring_completion.proofs.LinearForms.{sign-twice, linear-times}
 use Rattle.ring_completion.proofs.Standing.{Standing, StandingClear, ClearStandard, standing, together}

@@ -18,14 +18,16 @@ use Rattle.graded_algebra.specs.Vectors.{Vector, algebra, unit}
 use Rattle.graded_algebra.proofs.Leading.{not-zero}
 use Rattle.presentation_rows.specs.Values.{vector, AreValues}
 use Rattle.ring_completion.specs.Candidates.{AreSome, IsListed, IsQuotient, AreCandidates, AreLeft}
-use Rattle.ring_completion.specs.Completions.{alone, generator_times, degree_of, IsGenerator, IsStandardOf, IsReduced, AreProducts}
+use Rattle.ring_completion.specs.Completions.{alone, generator_times, degree_of, IsGenerator, IsStandardOf}
+use Rattle.ring_completion.specs.Completions.{IsReduced, AreProducts}
 use Rattle.ring_completion.specs.Eliminations.{AreForms, AreCritical}
 use Rattle.ring_completion.specs.Left.{IsCompletion}
 use Rattle.ring_completion.proofs.Choosing.{are-candidates}
 use Rattle.ring_completion.proofs.FormRows.{form-of-product}
 use Rattle.ring_completion.proofs.OpenLine.{line}
 use Rattle.ring_completion.proofs.ThreePowers.{field, one-row}
-use Rattle.ring_completion.proofs.Results.{free, separates-left, nothing-leads, relations-of-list, standard-of-list, left-candidates}
+use Rattle.ring_completion.proofs.Results.{free, separates-left, nothing-leads, relations-of-list}
+use Rattle.ring_completion.proofs.Results.{standard-of-list, left-candidates}
 use Rattle.std.proofs.Math.Path.{fun_ext}
 use Rattle.graded_polynomials.proofs.Terms.{eqb-false, false≢true}
 

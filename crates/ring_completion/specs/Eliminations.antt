@@ -11,7 +11,8 @@ use Rattle.graded_algebra.specs.Vectors.{Vector, vectors}
 use Rattle.presentation_rows.specs.RowPolynomials.{polynomial_of, row_of}
 use Rattle.presentation_rows.specs.Values.{vector}
 use Rattle.ring_completion.specs.Candidates.{IsListed}
-use Rattle.ring_completion.specs.Completions.{generator_times, degree_of, IsGenerator, IsStandardOf, IsClearBefore}
+use Rattle.ring_completion.specs.Completions.{generator_times, degree_of, IsGenerator, IsStandardOf}
+use Rattle.ring_completion.specs.Completions.{IsClearBefore}
 
 module _ (q : ℕ) (mul : ℕ → ℕ → Vector q → Vector q → Vector q) (gs : List (Generator (Vector q))) where
   -- forms i s is a row over ms that differs from generator i times s, of degree d, by a consequence of rs;

@@ -1,6 +1,7 @@
 -- The candidates of a degree as a list that is made from the standard monomials of lower degrees, each by its
 -- first factor.
-use Rattle.std.specs.Prelude.{ℕ, zero, suc, ◌-◌, ◌<◌, Bool, true, false, cond, ◌||◌, ◌&&◌, eqb, leb, List, [], ◌∷◌, ◌++◌, length, slice_index_or}
+use Rattle.std.specs.Prelude.{ℕ, zero, suc, ◌-◌, ◌<◌, Bool, true, false, cond, ◌||◌, ◌&&◌, eqb, leb, List, []}
+use Rattle.std.specs.Prelude.{◌∷◌, ◌++◌, length, slice_index_or}
 use Rattle.graded_polynomials.specs.Monomials.{exponent, fits, joined, same}
 use Rattle.graded_polynomials.specs.Texts.{power}
 use Rattle.graded_algebra.specs.Algebras.{Algebra, Generator, degrees}

@@ -6,26 +6,32 @@
 //! chapter 4).
 #![tactic(auto)]
 
-ghost use Rattle.std.specs.Prelude.{◌≡◌, ◌≢◌, ℕ, suc, ◌+◌, ◌*◌, ◌<◌, ◌≤◌, ◌↔◌, false, true, List, [], ◌∷◌, ◌++◌, length, map, slice_index_or};
+ghost use Rattle.std.specs.Prelude.{◌≡◌, ◌≢◌, ℕ, suc, ◌+◌, ◌*◌, ◌<◌, ◌≤◌, ◌↔◌, false, true, List, [], ◌∷◌};
+ghost use Rattle.std.specs.Prelude.{◌++◌, length, map, slice_index_or};
 ghost use Rattle.std.specs.List.{AllByRecursion as Each};
 ghost use Rattle.linear_algebra.specs.Modular.{IsFieldModulo};
 ghost use Rattle.linear_algebra.specs.Rows.{IsRow, IsEchelonOf, IsReduced as IsRowReduced, IsPivot};
 ghost use Rattle.linear_algebra.specs.Kernels.{IsKernelOf};
 ghost use Rattle.linear_algebra.specs.Choices.{IsPreimage, IsGreedy};
-ghost use Rattle.graded_polynomials.specs.Monomials.{IsMonomial, IsMonomials, IsGreater, degree, fits, joined, sign, swaps};
+ghost use Rattle.graded_polynomials.specs.Monomials.{IsMonomial, IsMonomials, IsGreater, degree, fits};
+ghost use Rattle.graded_polynomials.specs.Monomials.{joined, sign, swaps};
 ghost use Rattle.graded_polynomials.specs.Polynomials.{Term, Polynomial, IsOver, scaled};
 ghost use Rattle.graded_polynomials.specs.Texts.{power};
 ghost use Rattle.graded_algebra.specs.Algebras.{Generator, degrees, evaluate, times, value};
-ghost use Rattle.graded_algebra.specs.Presentations.{IsLeading, IsConsequence, IsRelations, IsStandard, IsNormalForm, IsSpanGenerators, generators_of};
-ghost use Rattle.graded_algebra.specs.Vectors.{Vector, GradedAlgebra, IsOfDegree, algebra, basis, unit, vectors};
+ghost use Rattle.graded_algebra.specs.Presentations.{IsLeading, IsConsequence, IsRelations, IsStandard};
+ghost use Rattle.graded_algebra.specs.Presentations.{IsNormalForm, IsSpanGenerators, generators_of};
+ghost use Rattle.graded_algebra.specs.Vectors.{Vector, GradedAlgebra, IsOfDegree, algebra, basis, unit};
+ghost use Rattle.graded_algebra.specs.Vectors.{vectors};
 ghost use Rattle.presentation_rows.specs.Pivots.{new_relations};
 ghost use Rattle.presentation_rows.specs.RowPolynomials.{polynomial_of, row_of};
 ghost use Rattle.presentation_rows.specs.Values.{vector, AreValues, AreUnitRows};
 ghost use Rattle.ring_completion.specs.Candidates.{AreSome, IsListed, IsQuotient, AreCandidates, AreLeft};
-ghost use Rattle.ring_completion.specs.Completions.{generator_times, degree_of, IsGenerator, IsStandardOf, IsClearBefore, AreProducts};
+ghost use Rattle.ring_completion.specs.Completions.{generator_times, degree_of, IsGenerator, IsStandardOf};
+ghost use Rattle.ring_completion.specs.Completions.{IsClearBefore, AreProducts};
 ghost use Rattle.ring_completion.specs.Eliminations.{AreForms, exchange, form_of};
 ghost use Rattle.ring_completion.specs.Left.{without_pivots, entries_without, IsCompletion};
-ghost use Rattle.ring_completion.specs.Listings.{AreStandardLists, candidates_of, is_clear_before, is_listed, standard_of};
+ghost use Rattle.ring_completion.specs.Listings.{AreStandardLists, candidates_of, is_clear_before, is_listed};
+ghost use Rattle.ring_completion.specs.Listings.{standard_of};
 
 /// The standard monomials of a degree are among its candidates.
 pub fn standard_monomials_are_candidates()

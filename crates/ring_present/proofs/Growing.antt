@@ -1,5 +1,6 @@
 -- One more generator, and generators of a degree by their places in the dual basis.
-use Rattle.std.proofs.Common.{◌≡◌, ℕ, suc, ◌<◌, ◌≤◌, List, [], ◌∷◌, ◌++◌, length, map, arith, ap, sym, ◌∙◌, refl, append_assoc}
+use Rattle.std.proofs.Common.{◌≡◌, ℕ, suc, ◌<◌, ◌≤◌, List, [], ◌∷◌, ◌++◌, length, map, arith, ap, sym, ◌∙◌}
+use Rattle.std.proofs.Common.{refl, append_assoc}
 use Rattle.std.specs.Prelude.{slice_index_or, All}
 use Rattle.std.specs.List.{AllByRecursion as Each}
 use Rattle.std.proofs.lemmas.List.{get_or_past, get_or_push, get_or_append_left, length_push, get_or_default}
@@ -17,7 +18,8 @@ use Rattle.graded_algebra.proofs.MoreGenerators.{degrees-append}
 use Rattle.gc_poly.specs.Generators.{Generators}
 use Rattle.presentation_rows.specs.Values.{vector, AreValues, AreUnitRows}
 use Rattle.presentation_rows.proofs.UnitRows.{unit-vector}
-use Rattle.presentation_rows.proofs.MoreMonomials.{monomials-with-last, values-with-last, monomials-stay, values-stay}
+use Rattle.presentation_rows.proofs.MoreMonomials.{monomials-with-last, values-with-last, monomials-stay}
+use Rattle.presentation_rows.proofs.MoreMonomials.{values-stay}
 use Rattle.min_res.specs.Stages.{rank_of}
 use Rattle.chain_lift.specs.Values.{LiftValue}
 use Rattle.chain_lift.specs.Products.{multiply}

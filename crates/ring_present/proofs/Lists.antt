@@ -1,5 +1,6 @@
 -- Lists of numbers and of lifts.
-use Rattle.std.proofs.Common.{◌≡◌, ℕ, zero, suc, ◌+◌, ◌<◌, ◌≤◌, List, [], ◌∷◌, ◌++◌, length, take, map, arith, ap, sym, ◌∙◌, refl, length-take, append_assoc}
+use Rattle.std.proofs.Common.{◌≡◌, ℕ, zero, suc, ◌+◌, ◌<◌, ◌≤◌, List, [], ◌∷◌, ◌++◌, length, take, map, arith}
+use Rattle.std.proofs.Common.{ap, sym, ◌∙◌, refl, length-take, append_assoc}
 use Rattle.std.specs.Prelude.{slice_index, slice_index_or, slice_set, All}
 use Rattle.std.proofs.lemmas.List.{get_or-take, length-map, take_more, map-append}
 use Rattle.gc_poly.specs.Generators.{AreOrdered}

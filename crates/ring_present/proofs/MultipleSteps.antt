@@ -1,11 +1,14 @@
 -- The rows of the multiples of relations, one relation after another.
-use Rattle.std.proofs.Common.{◌≡◌, ℕ, zero, suc, ◌+◌, ◌-◌, ◌<◌, ◌≤◌, List, [], ◌∷◌, ◌++◌, map, length, get_or, take, ◌⊎◌, inl, inr, arith, ap, sym, subst, ◌∙◌, refl}
+use Rattle.std.proofs.Common.{◌≡◌, ℕ, zero, suc, ◌+◌, ◌-◌, ◌<◌, ◌≤◌, List, [], ◌∷◌, ◌++◌, map, length, get_or}
+use Rattle.std.proofs.Common.{take, ◌⊎◌, inl, inr, arith, ap, sym, subst, ◌∙◌, refl}
 use Rattle.std.proofs.lemmas.Bool.{cases_lt}
-use Rattle.std.proofs.lemmas.List.{append-nil, append_assoc, map-append, take_more, length-append, length-map, get_or-map, get_or-append-add, get_or_append_left}
+use Rattle.std.proofs.lemmas.List.{append-nil, append_assoc, map-append, take_more, length-append, length-map}
+use Rattle.std.proofs.lemmas.List.{get_or-map, get_or-append-add, get_or_append_left}
 use Rattle.linear_algebra.specs.Rows.{row}
 use Rattle.linear_algebra.proofs.Congruences.{to_congruent}
 use Rattle.graded_polynomials.specs.Monomials.{IsMonomial, IsMonomials}
-use Rattle.graded_polynomials.specs.Polynomials.{Term, Polynomial, Multiple, IsMultiple, IsOneOf, IsPolynomial, IsSame, coefficient, multiple, product}
+use Rattle.graded_polynomials.specs.Polynomials.{Term, Polynomial, Multiple, IsMultiple, IsOneOf}
+use Rattle.graded_polynomials.specs.Polynomials.{IsPolynomial, IsSame, coefficient, multiple, product}
 use Rattle.graded_polynomials.proofs.Stored.{polynomial-unique}
 use Rattle.gc_poly.specs.Generators.{Generators, greatest}
 use Rattle.gc_poly.specs.Polynomials.{IsMonomialOf, IsSumOf}

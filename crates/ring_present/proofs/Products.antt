@@ -1,5 +1,6 @@
 -- Products of rows are products of vectors, and 1 times a class is the class.
-use Rattle.std.proofs.Common.{◌≡◌, ℕ, suc, ◌+◌, ◌*◌, ◌<◌, ◌≤◌, ◌⊎◌, inl, inr, List, length, arith, ap, sym, ◌∙◌}
+use Rattle.std.proofs.Common.{◌≡◌, ℕ, suc, ◌+◌, ◌*◌, ◌<◌, ◌≤◌, ◌⊎◌, inl, inr, List, length, arith, ap, sym}
+use Rattle.std.proofs.Common.{◌∙◌}
 use Rattle.std.proofs.lemmas.Bool.{cases_lt}
 use Rattle.std.proofs.Math.Nat.{mod-eq_of_lt}
 use mathlib.Core.Path.{fun_ext}
@@ -17,7 +18,8 @@ use Rattle.presentation_rows.specs.Values.{vector}
 use Rattle.min_res.specs.Stages.{stage_rows, rank_of}
 use Rattle.chain_maps.specs.Lifts.{lift, product}
 use Rattle.chain_maps.proofs.ChainMaps.{pair-sums, sum-multiple}
-use Rattle.chain_maps.proofs.Vectors.{vector-claims, product-claims, length-entries, extended-at, extended-past}
+use Rattle.chain_maps.proofs.Vectors.{vector-claims, product-claims, length-entries, extended-at}
+use Rattle.chain_maps.proofs.Vectors.{extended-past}
 use Rattle.chain_lift.specs.Products.{multiply, product_row}
 
 module _ (G : PGroup) where

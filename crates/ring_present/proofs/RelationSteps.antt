@@ -1,5 +1,6 @@
 -- Polynomials and relations of rows, one place or row after another.
-use Rattle.std.proofs.Common.{◌≡◌, ℕ, zero, suc, ◌+◌, ◌<◌, ◌≤◌, Bool, true, false, cond, List, [], ◌∷◌, ◌++◌, length, get_or, take, add-one, arith, ap, ap₂, sym, ◌∙◌, refl}
+use Rattle.std.proofs.Common.{◌≡◌, ℕ, zero, suc, ◌+◌, ◌<◌, ◌≤◌, Bool, true, false, cond, List, [], ◌∷◌, ◌++◌}
+use Rattle.std.proofs.Common.{length, get_or, take, add-one, arith, ap, ap₂, sym, ◌∙◌, refl}
 use Rattle.std.proofs.lemmas.List.{take_more, take_all, append-nil}
 use Rattle.linear_algebra.specs.Rows.{entry, row, pivot, IsRow, is_pivot}
 use Rattle.linear_algebra.proofs.Congruences.{congruent_eq}

@@ -1,5 +1,6 @@
 -- What is kept of a ring depends on the lifts but for their heights, and grows by a degree.
-use Rattle.std.proofs.Common.{◌≡◌, ℕ, suc, ◌<◌, ◌≤◌, ◌⊎◌, inl, inr, List, [], ◌∷◌, ◌++◌, length, length-append, map, arith, ap, sym, ◌∙◌, refl}
+use Rattle.std.proofs.Common.{◌≡◌, ℕ, suc, ◌<◌, ◌≤◌, ◌⊎◌, inl, inr, List, [], ◌∷◌, ◌++◌, length}
+use Rattle.std.proofs.Common.{length-append, map, arith, ap, sym, ◌∙◌, refl}
 use Rattle.std.specs.Prelude.{slice_index_or, Option, Some, None, IfSome, Result, Ok, Err, OnOk, OnErr}
 use Rattle.std.proofs.lemmas.Bool.{cases_lt}
 use Rattle.std.proofs.lemmas.List.{get_or_append_left, get_or_push, length_push}
@@ -14,7 +15,8 @@ use Rattle.gc_poly.specs.Generators.{Generators}
 use Rattle.presentation_rows.specs.Values.{vector, AreValues}
 use Rattle.chain_lift.specs.Values.{LiftValue}
 use Rattle.ring_present.specs.Rings.{cohomology, IsPresentation}
-use Rattle.ring_present.specs.Degrees.{classes, degrees_of, lifted, kept, IsLiftBelow, AreAll, IsDegree, IsLower}
+use Rattle.ring_present.specs.Degrees.{classes, degrees_of, lifted, kept, IsLiftBelow, AreAll, IsDegree}
+use Rattle.ring_present.specs.Degrees.{IsLower}
 use Rattle.ring_present.specs.Nexts.{IsNext, IsLiftOf}
 use Rattle.ring_present.specs.Stores.{IsRingOf, IsRingStore}
 use Rattle.ring_present.specs.declared.degree.Valued.{Valued}

@@ -1,6 +1,7 @@
 //! The new generators of a degree.
 
-ghost use Rattle.std.specs.Prelude.{◌≡◌, ℕ, suc, ◌+◌, ◌^◌, ◌<◌, ◌≤◌, [], ◌∷◌, ◌++◌, List, length, map, replicate, All, IfOk, OnOk};
+ghost use Rattle.std.specs.Prelude.{◌≡◌, ℕ, suc, ◌+◌, ◌^◌, ◌<◌, ◌≤◌, [], ◌∷◌, ◌++◌, List, length, map};
+ghost use Rattle.std.specs.Prelude.{replicate, All, IfOk, OnOk};
 ghost use Rattle.linear_algebra.specs.Rows.{IsEchelonOf, row};
 ghost use Rattle.linear_algebra.specs.Choices.{IsGreedy, rows_at};
 ghost use Rattle.group_table.specs.Prime.{prime_value};

@@ -1,6 +1,7 @@
 //! The new relations of a degree.
 
-ghost use Rattle.std.specs.Prelude.{◌≡◌, ℕ, suc, ◌+◌, ◌-◌, ◌<◌, ◌≤◌, [], ◌∷◌, ◌++◌, List, length, map, All, IfOk, OnOk};
+ghost use Rattle.std.specs.Prelude.{◌≡◌, ℕ, suc, ◌+◌, ◌-◌, ◌<◌, ◌≤◌, [], ◌∷◌, ◌++◌, List, length, map, All};
+ghost use Rattle.std.specs.Prelude.{IfOk, OnOk};
 ghost use Rattle.linear_algebra.specs.Rows.{IsEchelonOf};
 ghost use Rattle.fp_rows.specs.Refs.{entries_of, modulus_of};
 ghost use Rattle.limits.specs.declared.TheConstants.{GREATEST_DEGREE};

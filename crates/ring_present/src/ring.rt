@@ -1,6 +1,7 @@
 //! The ring through a degree.
 
-ghost use Rattle.std.specs.Prelude.{◌≡◌, ℕ, suc, ◌<◌, ◌≤◌, [], List, length, map, min, slice_get, slice_index_or};
+ghost use Rattle.std.specs.Prelude.{◌≡◌, ℕ, suc, ◌<◌, ◌≤◌, [], List, length, map, min, slice_get};
+ghost use Rattle.std.specs.Prelude.{slice_index_or};
 ghost use Rattle.std.specs.Prelude.{OnOk, OnErr, IfOk, IfErr, IfSome, Some, None};
 ghost use Rattle.limits.specs.declared.TheConstants.{GREATEST_COUNT, GREATEST_DEGREE};
 ghost use Rattle.group_table.specs.Prime.{prime_value};

@@ -1,7 +1,9 @@
 -- The primes, ranks and orders of small groups.
 use Rattle.std.specs.Prelude.{ℕ}
 use Rattle.small_groups.specs.declared.SmallGroup.{SmallGroup}
-use Rattle.small_groups.specs.declared.SmallGroup.TheVariants.{Trivial, Two, Four, Three, Klein, Nine, Dihedral, Quaternion, Sixteen, TwentySeven, ThirtyTwoPlus, ThirtyTwoMinus}
+use Rattle.small_groups.specs.declared.SmallGroup.TheVariants.{Trivial, Two, Four, Three, Klein, Nine}
+use Rattle.small_groups.specs.declared.SmallGroup.TheVariants.{Dihedral, Quaternion, Sixteen, TwentySeven}
+use Rattle.small_groups.specs.declared.SmallGroup.TheVariants.{ThirtyTwoPlus, ThirtyTwoMinus}
 
 abbrev pub prime_of : SmallGroup → ℕ
 prime_of Trivial = 2

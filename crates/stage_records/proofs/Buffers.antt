@@ -1,11 +1,13 @@
 -- A step of the walk over bytes of which the front was read.
-use Rattle.std.proofs.Common.{◌≡◌, ℕ, ◌+◌, ◌-◌, ◌≤◌, true, false, List, take, drop, length, Some, sym, ap, ◌∙◌, arith, inl, inr}
+use Rattle.std.proofs.Common.{◌≡◌, ℕ, ◌+◌, ◌-◌, ◌≤◌, true, false, List, take, drop, length, Some, sym, ap}
+use Rattle.std.proofs.Common.{◌∙◌, arith, inl, inr}
 use Rattle.std.specs.declared.option.Option.{Option}
 use Rattle.std.proofs.lemmas.Bool.{cases_Bool, both_ways}
 use Rattle.std.proofs.lemmas.List.{length-take}
 use Rattle.stage_records.specs.Walks.{length_at, is_in_range, is_cut, Ends, Takes, Refuses, next}
 use Rattle.stage_records.specs.Claims.{IsFramed, FrontClaims}
-use Rattle.stage_records.proofs.Steps.{same_length_at, uncut_some, uncut_whole, uncut, next_ends, next_takes, IsTaken, Way, cut, taken, refused, way}
+use Rattle.stage_records.proofs.Steps.{same_length_at, uncut_some, uncut_whole, uncut, next_ends, next_takes}
+use Rattle.stage_records.proofs.Steps.{IsTaken, Way, cut, taken, refused, way}
 use Rattle.stage_records.proofs.Cuts.{whole-uncut, front-whole, whole-front}
 
 module _ (o : Option (List ℕ)) (F : (r : List ℕ) → o ≡ Some r → IsFramed r) (k : ℕ) (bytes : List ℕ)

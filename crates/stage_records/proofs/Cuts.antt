@@ -1,13 +1,17 @@
 -- The walk over a file that is cut, against the walk over the file.
-use Rattle.std.proofs.Common.{◌≡◌, ℕ, zero, suc, ◌+◌, ◌-◌, ◌<◌, ◌≤◌, true, false, min, List, [], length, take, drop, None, Some, inl, inr, refl, sym, ap, ◌∙◌, arith}
+use Rattle.std.proofs.Common.{◌≡◌, ℕ, zero, suc, ◌+◌, ◌-◌, ◌<◌, ◌≤◌, true, false, min, List, [], length, take}
+use Rattle.std.proofs.Common.{drop, None, Some, inl, inr, refl, sym, ap, ◌∙◌, arith}
 use mathlib.Core.Path.{subst}
 use Rattle.std.specs.declared.option.Option.{Option}
 use Rattle.std.proofs.lemmas.Bool.{cases_Bool, cases_lt, both_ways}
 use Rattle.std.proofs.lemmas.List.{take-take, length-append, length-take, drop-take, take_all, drop_all}
 use Rattle.std.proofs.lemmas.Slice.Eq.{bytes_eq-Decides}
-use Rattle.stage_records.specs.Walks.{length_at, is_in_range, is_cut, Next, Ends, Takes, Refuses, next, Walked, WalkFault, after, ended, refused, one_more, walk_records, agrees, walk, with_rest, records_from, stage_bytes}
+use Rattle.stage_records.specs.Walks.{length_at, is_in_range, is_cut, Next, Ends, Takes, Refuses, next}
+use Rattle.stage_records.specs.Walks.{Walked, WalkFault, after, ended, refused, one_more, walk_records}
+use Rattle.stage_records.specs.Walks.{agrees, walk, with_rest, records_from, stage_bytes}
 use Rattle.stage_records.specs.Claims.{IsFramed, AreHonest, CutClaims}
-use Rattle.stage_records.proofs.Steps.{same_length_at, cut_short, uncut_some, uncut_whole, uncut, next_ends, next_takes, IsTaken, Way, cut, taken, refused as refused-way, way}
+use Rattle.stage_records.proofs.Steps.{same_length_at, cut_short, uncut_some, uncut_whole, uncut, next_ends}
+use Rattle.stage_records.proofs.Steps.{next_takes, IsTaken, Way, cut, taken, refused as refused-way, way}
 
 -- a walk over the first k bytes of what begins with records of lengths, against the walk over the whole
 pub record AreAlike (records : ℕ → Option (List ℕ)) (d k : ℕ) (front whole : Walked) : Type 0 where

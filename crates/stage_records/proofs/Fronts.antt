@@ -1,5 +1,6 @@
 -- A record is read from its own bytes alone.
-use Rattle.std.proofs.Common.{◌≡◌, ℕ, ◌+◌, ◌-◌, ◌*◌, ◌≤◌, Bool, true, false, not, cond, ◌&&◌, ◌==◌, List, length, take, drop, map, None, sym, ap, ◌∙◌, arith, ◌⊎◌, inl, inr}
+use Rattle.std.proofs.Common.{◌≡◌, ℕ, ◌+◌, ◌-◌, ◌*◌, ◌≤◌, Bool, true, false, not, cond, ◌&&◌, ◌==◌, List}
+use Rattle.std.proofs.Common.{length, take, drop, map, None, sym, ap, ◌∙◌, arith, ◌⊎◌, inl, inr}
 use Rattle.std.specs.List.{list_all}
 use Rattle.std.specs.Str.{bytes_eq}
 use Rattle.std.specs.Int.{w16, from_be_bytes}
@@ -12,7 +13,9 @@ use Rattle.stage_records.specs.declared.shape.Shape.{Shape}
 use Rattle.stage_records.specs.declared.field.Field.TheVariants as field
 use Rattle.stage_records.specs.Records.{record_length}
 use Rattle.stage_records.specs.Walks.{length_at, is_in_range, is_cut}
-use Rattle.stage_records.specs.Readings.{numbers_in, rows_in, are_places, part, degree_at, rank_at, body_length, is_below, fits, parts_at, Reading, Whole, Malformed, read_parts, read_fields, read_record}
+use Rattle.stage_records.specs.Readings.{numbers_in, rows_in, are_places, part, degree_at, rank_at}
+use Rattle.stage_records.specs.Readings.{body_length, is_below, fits, parts_at, Reading, Whole, Malformed}
+use Rattle.stage_records.specs.Readings.{read_parts, read_fields, read_record}
 use Rattle.stage_records.proofs.Steps.{same_length_at, uncut_some, uncut_whole, uncut}
 use Rattle.stage_records.proofs.Cuts.{whole-uncut}
 use Rattle.stage_records.proofs.Whole.{square}

@@ -1,15 +1,20 @@
 -- The walk over a front of an honest file.
-use Rattle.std.proofs.Common.{◌≡◌, ℕ, zero, suc, ◌+◌, ◌-◌, ◌<◌, ◌≤◌, true, false, min, List, [], ◌++◌, length, take, drop, None, Some, inl, inr, refl, sym, ap, ◌∙◌, arith}
+use Rattle.std.proofs.Common.{◌≡◌, ℕ, zero, suc, ◌+◌, ◌-◌, ◌<◌, ◌≤◌, true, false, min, List, [], ◌++◌, length}
+use Rattle.std.proofs.Common.{take, drop, None, Some, inl, inr, refl, sym, ap, ◌∙◌, arith}
 use mathlib.Core.Path.{subst}
 use Rattle.std.specs.declared.option.Option.{Option}
 use Rattle.std.proofs.Math.Dec.{leb}
 use Rattle.std.proofs.Math.Seq.{take-add}
 use Rattle.std.proofs.lemmas.Bool.{cond-true, cond-false, cases_lt, le-leb, lt-leb}
-use Rattle.std.proofs.lemmas.List.{take_at, drop_at, take-take, take-append-le, length-append, length-take, length-take-le, drop-take, take_all, drop_all}
+use Rattle.std.proofs.lemmas.List.{take_at, drop_at, take-take, take-append-le, length-append, length-take}
+use Rattle.std.proofs.lemmas.List.{length-take-le, drop-take, take_all, drop_all}
 use Rattle.std.proofs.lemmas.Slice.Eq.{bytes_eq-Decides}
-use Rattle.stage_records.specs.Walks.{length_at, is_in_range, is_cut, Next, Ends, Takes, next, Walked, after, one_more, walk_records, agrees, walk, with_rest, records_from, stage_bytes, count_with, whole_records}
+use Rattle.stage_records.specs.Walks.{length_at, is_in_range, is_cut, Next, Ends, Takes, next, Walked, after}
+use Rattle.stage_records.specs.Walks.{one_more, walk_records, agrees, walk, with_rest, records_from}
+use Rattle.stage_records.specs.Walks.{stage_bytes, count_with, whole_records}
 use Rattle.stage_records.specs.Claims.{IsFramed, AreHonest}
-use Rattle.stage_records.proofs.Steps.{same_length_at, front_length_at, cut_short, cut_inside, uncut, next_ends, next_takes}
+use Rattle.stage_records.proofs.Steps.{same_length_at, front_length_at, cut_short, cut_inside, uncut}
+use Rattle.stage_records.proofs.Steps.{next_ends, next_takes}
 
 -- a framed record at the front is taken
 pub next_framed : (r rest : List ℕ) → IsFramed r → next (Some r) (r ++ rest) ≡ Takes rest

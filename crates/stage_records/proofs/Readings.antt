@@ -1,5 +1,6 @@
 -- When a reading is cut, and when it is not.
-use Rattle.std.proofs.Common.{◌≡◌, ℕ, ◌+◌, ◌*◌, Bool, true, false, not, cond, ◌==◌, inl, inr, List, length, sym, ◌∙◌}
+use Rattle.std.proofs.Common.{◌≡◌, ℕ, ◌+◌, ◌*◌, Bool, true, false, not, cond, ◌==◌, inl, inr, List, length}
+use Rattle.std.proofs.Common.{sym, ◌∙◌}
 use Rattle.std.specs.List.{list_all}
 use Rattle.std.specs.Str.{bytes_eq}
 use Rattle.std.proofs.Math.Dec.{ltb}
@@ -10,7 +11,9 @@ use Rattle.stage_records.specs.declared.shape.Shape.{Shape}
 use Rattle.stage_records.specs.declared.field.Field.{Field}
 use Rattle.stage_records.specs.declared.field.Field.TheVariants as field
 use Rattle.stage_records.specs.Walks.{length_at, is_in_range, is_cut}
-use Rattle.stage_records.specs.Readings.{numbers_in, are_places, part, degree_at, rank_at, body_length, is_below, fits, Reading, Cut, Malformed, read_parts, read_fields, read_record}
+use Rattle.stage_records.specs.Readings.{numbers_in, are_places, part, degree_at, rank_at, body_length}
+use Rattle.stage_records.specs.Readings.{is_below, fits, Reading, Cut, Malformed, read_parts, read_fields}
+use Rattle.stage_records.specs.Readings.{read_record}
 use Rattle.stage_records.proofs.Steps.{cut_short, cut_inside, uncut}
 use Rattle.stage_records.proofs.Tests.{on}
 

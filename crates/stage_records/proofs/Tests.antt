@@ -1,9 +1,11 @@
 -- The tests of a record, in their order.
-use Rattle.std.proofs.Common.{◌≡◌, ℕ, ◌+◌, ◌*◌, ◌≤◌, Bool, true, false, not, cond, ◌&&◌, ◌==◌, List, length, refl, ◌∙◌}
+use Rattle.std.proofs.Common.{◌≡◌, ℕ, ◌+◌, ◌*◌, ◌≤◌, Bool, true, false, not, cond, ◌&&◌, ◌==◌, List, length}
+use Rattle.std.proofs.Common.{refl, ◌∙◌}
 use Rattle.std.specs.List.{list_all}
 use Rattle.std.specs.Str.{bytes_eq}
 use Rattle.std.proofs.Math.Dec.{ltb, leb, eqb}
-use Rattle.std.proofs.lemmas.Bool.{and_parts, and_from, ltb-false, leb-true, le-ltb, le-leb, eqb-true, eq-eqb, cond-false}
+use Rattle.std.proofs.lemmas.Bool.{and_parts, and_from, ltb-false, leb-true, le-ltb, le-leb, eqb-true, eq-eqb}
+use Rattle.std.proofs.lemmas.Bool.{cond-false}
 use Rattle.std.proofs.lemmas.Slice.Eq.{bytes_eq-Decides}
 use Rattle.group_table.specs.Prime.{prime_value}
 use Rattle.sha2.specs.Sha256.{sha256}
@@ -13,7 +15,9 @@ use Rattle.stage_records.specs.declared.field.Field.{Field}
 use Rattle.stage_records.specs.declared.field.Field.TheVariants as field
 use Rattle.stage_records.specs.Records.{record_length}
 use Rattle.stage_records.specs.Walks.{length_at, is_in_range}
-use Rattle.stage_records.specs.Readings.{numbers_in, are_places, part, degree_at, rank_at, body_length, is_below, fits, parts_at, Reading, Cut, Whole, Malformed, read_parts, read_fields, read_record}
+use Rattle.stage_records.specs.Readings.{numbers_in, are_places, part, degree_at, rank_at, body_length}
+use Rattle.stage_records.specs.Readings.{is_below, fits, parts_at, Reading, Cut, Whole, Malformed, read_parts}
+use Rattle.stage_records.specs.Readings.{read_fields, read_record}
 
 -- one test
 pub passes : (b : Bool) (f : Field) (y : Reading) (Q : StageParts) → cond (not b) (Malformed f) y ≡ Whole Q

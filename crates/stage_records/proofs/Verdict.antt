@@ -1,5 +1,6 @@
 -- The reading of a record and the six checks decide exactly as the walk does.
-use Rattle.std.proofs.Common.{◌≡◌, ℕ, zero, suc, ◌+◌, ◌*◌, ◌<◌, ◌≤◌, true, List, ◌++◌, length, take, drop, map, None, Some, refl, sym, ap, ap₂, ◌∙◌, arith, inl, inr}
+use Rattle.std.proofs.Common.{◌≡◌, ℕ, zero, suc, ◌+◌, ◌*◌, ◌<◌, ◌≤◌, true, List, ◌++◌, length, take, drop}
+use Rattle.std.proofs.Common.{map, None, Some, refl, sym, ap, ap₂, ◌∙◌, arith, inl, inr}
 use mathlib.Core.Path.{subst, fun_ext}
 use Rattle.std.specs.declared.option.Option.{Option}
 use Rattle.std.specs.Prelude.{codes}
@@ -21,7 +22,8 @@ use Rattle.radical_layers.specs.Coordinates.{Coordinates}
 use Rattle.radical_layers.specs.Moves.{moves}
 use Rattle.group_modules.specs.Tables.{Table}
 use Rattle.resolution_stages.specs.Definitions.{StageRows, AreStages}
-use Rattle.resolution_stages.specs.Checks.{StageParts, IsSubmoduleList, HasShape, HasCount, PassesChecks, IsNextStage}
+use Rattle.resolution_stages.specs.Checks.{StageParts, IsSubmoduleList, HasShape, HasCount, PassesChecks}
+use Rattle.resolution_stages.specs.Checks.{IsNextStage}
 use Rattle.resolution_stages.specs.Chain.{parts_of}
 use Rattle.resolution_stages.proofs.CheckClaims.{checks-next, next-checks}
 use Rattle.resolution_stages.proofs.ChainLaws.{next-of}
@@ -30,7 +32,8 @@ use Rattle.resolution_stages.proofs.Unique.{next-is-one}
 use Rattle.sha2.specs.Sha256.{sha256}
 use Rattle.sha2.proofs.Facts256.{length-sha256}
 use Rattle.stage_records.specs.declared.shape.Shape.{Shape}
-use Rattle.stage_records.specs.Records.{record_length, record_bytes, record_of_width, record_at, header_bytes, body, position_bytes}
+use Rattle.stage_records.specs.Records.{record_length, record_bytes, record_of_width, record_at, header_bytes}
+use Rattle.stage_records.specs.Records.{body, position_bytes}
 use Rattle.stage_records.specs.Walks.{length_at, is_in_range, Ends, Takes, Refuses, next}
 use Rattle.stage_records.specs.Readings.{AreBytes, Cut, Whole, Malformed, read_record}
 use Rattle.stage_records.specs.Claims.{IsFramed, AreHonest, Fits, WholeClaims}

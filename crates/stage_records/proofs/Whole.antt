@@ -1,11 +1,13 @@
 -- What is read as a record of parts is the record of these parts, and the record of parts that fit is read
 -- so.
-use Rattle.std.proofs.Common.{◌≡◌, ℕ, ◌+◌, ◌-◌, ◌*◌, ◌<◌, ◌≤◌, ◌^◌, List, ◌++◌, length, map, take, drop, get_or, refl, sym, ap, ap₂, ◌∙◌, arith}
+use Rattle.std.proofs.Common.{◌≡◌, ℕ, ◌+◌, ◌-◌, ◌*◌, ◌<◌, ◌≤◌, ◌^◌, List, ◌++◌, length, map, take, drop}
+use Rattle.std.proofs.Common.{get_or, refl, sym, ap, ap₂, ◌∙◌, arith}
 use mathlib.Core.Path.{subst}
 use Rattle.std.specs.Int.{w16, w32, to_be_bytes}
 use Rattle.std.specs.List.{concat}
 use Rattle.std.proofs.lemmas.Nat.{be_bytes_2, be_bytes_4}
-use Rattle.std.proofs.lemmas.List.{take-take, length-take, length-take-le, length-drop, length-map, get_or-take, get_or-drop, get_or-map}
+use Rattle.std.proofs.lemmas.List.{take-take, length-take, length-take-le, length-drop, length-map}
+use Rattle.std.proofs.lemmas.List.{get_or-take, get_or-drop, get_or-map}
 use Rattle.group_table.specs.Prime.{prime_value}
 use Rattle.sha2.specs.Sha256.{sha256}
 use Rattle.linear_algebra.specs.Rows.{IsMatrix}
@@ -15,7 +17,9 @@ use Rattle.stage_records.specs.Records.{position_bytes, body, record_length, rec
 use Rattle.stage_records.specs.Walks.{length_at, is_in_range}
 use Rattle.stage_records.specs.Readings.{numbers_in, rows_in, part, rank_at, body_length, parts_at, AreBytes}
 use Rattle.stage_records.specs.Claims.{Fits}
-use Rattle.stage_records.proofs.Bytes.{bytes-take, bytes-drop, length-numbers_in, length-rows_in, numbers-bytes, places-bytes, rows-bytes, all-below, rows-matrix, ArePlaces, places-true}
+use Rattle.stage_records.proofs.Bytes.{bytes-take, bytes-drop, length-numbers_in, length-rows_in}
+use Rattle.stage_records.proofs.Bytes.{numbers-bytes, places-bytes, rows-bytes, all-below, rows-matrix}
+use Rattle.stage_records.proofs.Bytes.{ArePlaces, places-true}
 use Rattle.stage_records.proofs.Pieces.{part-split, part-five}
 use Rattle.stage_records.proofs.Tests.{IsWhole}
 

@@ -1,5 +1,6 @@
 -- The record of parts that fit is read as these parts.
-use Rattle.std.proofs.Common.{◌≡◌, ℕ, zero, suc, ◌+◌, ◌-◌, ◌*◌, ◌<◌, ◌≤◌, ◌^◌, true, List, [], ◌∷◌, ◌++◌, length, map, take, drop, refl, sym, ap, ap₂, ◌∙◌, arith}
+use Rattle.std.proofs.Common.{◌≡◌, ℕ, zero, suc, ◌+◌, ◌-◌, ◌*◌, ◌<◌, ◌≤◌, ◌^◌, true, List, [], ◌∷◌, ◌++◌}
+use Rattle.std.proofs.Common.{length, map, take, drop, refl, sym, ap, ap₂, ◌∙◌, arith}
 use mathlib.Core.Path.{subst}
 use Rattle.std.specs.Int.{w16, w32, from_be_bytes, to_be_bytes}
 use Rattle.std.specs.List.{concat, list_all}
@@ -15,10 +16,13 @@ use Rattle.resolution_stages.specs.Checks.{StageParts}
 use Rattle.stage_records.specs.declared.shape.Shape.{Shape}
 use Rattle.stage_records.specs.Records.{position_bytes, body, record_length, record_bytes, record_of_width}
 use Rattle.stage_records.specs.Walks.{length_at, is_in_range}
-use Rattle.stage_records.specs.Readings.{numbers_in, rows_in, are_places, part, degree_at, rank_at, body_length, is_below, parts_at, AreBytes, Whole, read_record}
+use Rattle.stage_records.specs.Readings.{numbers_in, rows_in, are_places, part, degree_at, rank_at}
+use Rattle.stage_records.specs.Readings.{body_length, is_below, parts_at, AreBytes, Whole, read_record}
 use Rattle.stage_records.specs.Claims.{Fits, WholeClaims}
-use Rattle.stage_records.proofs.Bytes.{numbers-again, minus-plus, rows-again, length-concat, below-all, matrix-entries, true-places}
-use Rattle.stage_records.proofs.Pieces.{all, of-record, first-four, at-degree, at-rank, at-positions, at-kernel, at-sections, at-entries, at-body, at-digest, length-all}
+use Rattle.stage_records.proofs.Bytes.{numbers-again, minus-plus, rows-again, length-concat, below-all}
+use Rattle.stage_records.proofs.Bytes.{matrix-entries, true-places}
+use Rattle.stage_records.proofs.Pieces.{all, of-record, first-four, at-degree, at-rank, at-positions}
+use Rattle.stage_records.proofs.Pieces.{at-kernel, at-sections, at-entries, at-body, at-digest, length-all}
 use Rattle.stage_records.proofs.Tests.{IsWhole, whole-tests, tests-whole}
 use Rattle.stage_records.proofs.Whole.{fits-whole, same-whole, square}
 

@@ -9,7 +9,8 @@ use Rattle.stage_records.specs.declared.shape.Shape.{Shape}
 use Rattle.stage_records.specs.declared.TheConstants.{GREATEST_WIDTH}
 use Rattle.stage_records.specs.Records.{record_length, record_bytes}
 use Rattle.stage_records.specs.Readings.{Whole, read_record}
-use Rattle.stage_records.specs.Walks.{length_at, is_in_range, Ends, Takes, Refuses, next, WalkFault, walk, stage_bytes}
+use Rattle.stage_records.specs.Walks.{length_at, is_in_range, Ends, Takes, Refuses, next, WalkFault, walk}
+use Rattle.stage_records.specs.Walks.{stage_bytes}
 
 -- a record begins with the number of the bytes after its length, which is in its range
 pub record IsFramed (record_bytes : List ℕ) : Type 0 where

@@ -1,5 +1,6 @@
 -- What the bytes of a record say, field by field, and the first field that is not as the format says.
-use Rattle.std.specs.Prelude.{ℕ, suc, zero, ◌+◌, ◌-◌, ◌*◌, ◌<◌, ◌&&◌, ◌==◌, not, Bool, true, List, [], ◌∷◌, length, map, take, drop, slice_index_or, nat_lt, nat_le, if◌then◌else◌}
+use Rattle.std.specs.Prelude.{ℕ, suc, zero, ◌+◌, ◌-◌, ◌*◌, ◌<◌, ◌&&◌, ◌==◌, not, Bool, true, List, [], ◌∷◌}
+use Rattle.std.specs.Prelude.{length, map, take, drop, slice_index_or, nat_lt, nat_le, if◌then◌else◌}
 use Rattle.std.specs.Int.{w16, from_be_bytes}
 use Rattle.std.specs.List.{list_all}
 use Rattle.std.specs.Str.{bytes_eq}

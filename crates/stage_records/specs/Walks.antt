@@ -1,5 +1,6 @@
 -- A walk over a stage file that nobody vouches for: what it takes, where it ends and what it refuses.
-use Rattle.std.specs.Prelude.{ℕ, suc, zero, ◌+◌, ◌-◌, ◌&&◌, not, min, Bool, true, false, List, [], ◌++◌, length, take, drop, nat_lt, nat_le, if◌then◌else◌}
+use Rattle.std.specs.Prelude.{ℕ, suc, zero, ◌+◌, ◌-◌, ◌&&◌, not, min, Bool, true, false, List, [], ◌++◌}
+use Rattle.std.specs.Prelude.{length, take, drop, nat_lt, nat_le, if◌then◌else◌}
 use Rattle.std.specs.declared.option.Option.{Option}
 use Rattle.std.specs.declared.option.Option.TheVariants.{None, Some}
 use Rattle.std.specs.Int.{w32, from_be_bytes}

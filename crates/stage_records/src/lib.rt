@@ -5,7 +5,8 @@
 //! `resolution_stages`), and the records of its stages are framed (`framed_law`).
 #![tactic(auto)]
 
-ghost use Rattle.std.specs.Prelude.{Some, true, ◌+◌, [], ◌∷◌, ◌≡◌, ℕ, suc, ◌-◌, ◌≤◌, ◌<◌, ◌^◌, List, length, take, None, Option};
+ghost use Rattle.std.specs.Prelude.{Some, true, ◌+◌, [], ◌∷◌, ◌≡◌, ℕ, suc, ◌-◌, ◌≤◌, ◌<◌, ◌^◌, List, length};
+ghost use Rattle.std.specs.Prelude.{take, None, Option};
 ghost use Rattle.limits.specs.declared.TheConstants.{GREATEST_DEGREE};
 ghost use Rattle.group_modules.specs.Tables.{Group};
 ghost use Rattle.linear_algebra.specs.Modular.{IsFieldModulo};
@@ -15,7 +16,8 @@ ghost use Rattle.stage_records.specs.Records.{header_bytes, record_at, record_by
 ghost use Rattle.stage_records.specs.Examples.{two_elements, two_records};
 ghost use Rattle.stage_records.specs.Verdicts.{IsShapeOf, VerdictClaims};
 ghost use Rattle.stage_records.specs.Walks.{is_in_range, length_at, walk, stage_bytes, whole_records};
-ghost use Rattle.stage_records.specs.Claims.{AreHonest, AreThere, CutClaims, FileClaims, FrontClaims, IsFramed, WholeClaims};
+ghost use Rattle.stage_records.specs.Claims.{AreHonest, AreThere, CutClaims, FileClaims, FrontClaims};
+ghost use Rattle.stage_records.specs.Claims.{IsFramed, WholeClaims};
 ghost use Rattle.stage_records.specs.Readings.{AreBytes, read_record};
 ghost use Rattle.stage_records.specs.declared.shape.Shape.{Shape};
 ghost use Rattle.resolution_stages.specs.Checks.{StageParts};

@@ -1,5 +1,6 @@
 -- The steps of the choice of a basis.
-use Rattle.std.proofs.Common.{◌≡◌, ℕ, zero, suc, ◌<◌, ◌+◌, ◌*◌, ◌≤◌, List, [], ◌∷◌, ◌++◌, inl, inr, ap, sym, ◌∙◌, subst, arith, length, get_or, map, drop, drop-cons, add-one}
+use Rattle.std.proofs.Common.{◌≡◌, ℕ, zero, suc, ◌<◌, ◌+◌, ◌*◌, ◌≤◌, List, [], ◌∷◌, ◌++◌, inl, inr, ap, sym}
+use Rattle.std.proofs.Common.{◌∙◌, subst, arith, length, get_or, map, drop, drop-cons, add-one}
 use Rattle.std.proofs.Math.Nat.{pow-zero}
 use Rattle.group_table.specs.Tables.{GroupTable, order, product, power}
 use Rattle.group_table.specs.declared.Prime.{Prime}

@@ -8,7 +8,8 @@ use Rattle.elementary_subgroups.specs.Subgroups.{IsConjugateBy, IsLeast}
 use Rattle.elementary_subgroups.specs.Cliques.{IsFull}
 use Rattle.elementary_subgroups.proofs.Members.{same_set, not_before_both}
 use Rattle.elementary_subgroups.proofs.Cliques.{maximal_from_full}
-use Rattle.elementary_subgroups.proofs.Conjugates.{Carries, same_left, conjugate_full, conjugate_to, conjugate_from, conjugate_exists}
+use Rattle.elementary_subgroups.proofs.Conjugates.{Carries, same_left, conjugate_full, conjugate_to}
+use Rattle.elementary_subgroups.proofs.Conjugates.{conjugate_from, conjugate_exists}
 
 -- at the first number that only m has, m comes before, where l is no part of m
 pub before_by : (x : ℕ) (m l : List ℕ) → IsSet m → IsSet l →

@@ -1,5 +1,6 @@
 -- The table of an elementary abelian group, entry by entry.
-use Rattle.std.proofs.Common.{◌≡◌, ℕ, zero, suc, ◌<◌, ◌≤◌, ◌+◌, ◌*◌, ◌/◌, ◌%◌, ◌^◌, ◌-◌, List, ap, sym, ◌∙◌, subst, arith, length}
+use Rattle.std.proofs.Common.{◌≡◌, ℕ, zero, suc, ◌<◌, ◌≤◌, ◌+◌, ◌*◌, ◌/◌, ◌%◌, ◌^◌, ◌-◌, List, ap, sym, ◌∙◌}
+use Rattle.std.proofs.Common.{subst, arith, length}
 use Rattle.std.proofs.Math.Nat.{pow-suc}
 use Rattle.group_table.specs.Tables.{GroupTable, IsTable, IsGroupTable, order, order_is}
 use Rattle.group_table.specs.declared.Prime.{Prime}

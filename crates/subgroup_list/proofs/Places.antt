@@ -1,5 +1,6 @@
 -- The steps of the search.
-use Rattle.std.proofs.Common.{◌≡◌, ℕ, ◌<◌, ◌≤◌, List, [], ◌∷◌, ◌++◌, Bool, true, false, inl, inr, refl, ap, sym, ◌∙◌, subst, arith, append_assoc, length, get_or, take, drop, ◌-◌}
+use Rattle.std.proofs.Common.{◌≡◌, ℕ, ◌<◌, ◌≤◌, List, [], ◌∷◌, ◌++◌, Bool, true, false, inl, inr, refl, ap}
+use Rattle.std.proofs.Common.{sym, ◌∙◌, subst, arith, append_assoc, length, get_or, take, drop, ◌-◌}
 use Rattle.std.proofs.lemmas.Grind.{common_steps}
 use Rattle.std.specs.Prelude.{filter, ◌==◌}
 use Rattle.std.proofs.lemmas.Bool.{eq-eqb, eqb-true}
@@ -8,10 +9,15 @@ use Rattle.elementary_subgroups.proofs.GroupLaws.{HasGroupLaw}
 use Rattle.elementary_subgroups.specs.Sets.{IsIn, IsAscending, IsBelow, IsSet, IsBefore}
 use Rattle.elementary_subgroups.specs.Subgroups.{IsMaximalElementaryList, IsLeast}
 use Rattle.elementary_subgroups.specs.Bases.{numbers}
-use Rattle.elementary_subgroups.specs.Cliques.{IsTorsion, Commutes, CommutesWithAll, commutes_test, torsion_test, IsFull}
+use Rattle.elementary_subgroups.specs.Cliques.{IsTorsion, Commutes, CommutesWithAll, commutes_test}
+use Rattle.elementary_subgroups.specs.Cliques.{torsion_test, IsFull}
 use Rattle.subgroup_list.specs.Search.{IsSublist, IsPlace, IsFound, IsBlocked, IsKept}
-use Rattle.elementary_subgroups.proofs.Members.{bool_cases, filter_taken, filter_left, in_left, in_right, in_append, in_filter, from_filter, filter_ascending, in_numbers, from_numbers, numbers_ascending, ascending_append}
-use Rattle.subgroup_list.proofs.Sublists.{sublist_in, set_is_sublist, sublist_filter, filter_sublist, before_at, ascending_left, ascending_right, ascending_across, ascending_end}
+use Rattle.elementary_subgroups.proofs.Members.{bool_cases, filter_taken, filter_left, in_left, in_right}
+use Rattle.elementary_subgroups.proofs.Members.{in_append, in_filter, from_filter, filter_ascending}
+use Rattle.elementary_subgroups.proofs.Members.{in_numbers, from_numbers, numbers_ascending, ascending_append}
+use Rattle.subgroup_list.proofs.Sublists.{sublist_in, set_is_sublist, sublist_filter, filter_sublist}
+use Rattle.subgroup_list.proofs.Sublists.{before_at, ascending_left, ascending_right, ascending_across}
+use Rattle.subgroup_list.proofs.Sublists.{ascending_end}
 use Rattle.elementary_subgroups.proofs.Cliques.{maximal_from_full, full_from_maximal}
 
 self_filter : (t : ℕ → Bool) (xs : List ℕ) → IsSublist (filter t xs) xs

@@ -1,9 +1,11 @@
 -- Lists that go through another one and leave some members out.
-use Rattle.std.proofs.Common.{◌≡◌, ℕ, ◌<◌, List, [], ◌∷◌, ◌++◌, Bool, true, inl, inr, refl, ap, sym, subst, arith}
+use Rattle.std.proofs.Common.{◌≡◌, ℕ, ◌<◌, List, [], ◌∷◌, ◌++◌, Bool, true, inl, inr, refl, ap, sym, subst}
+use Rattle.std.proofs.Common.{arith}
 use Rattle.std.specs.Prelude.{filter}
 use Rattle.elementary_subgroups.specs.Sets.{IsIn, IsBelow, IsSet, IsSubset, IsBefore}
 use Rattle.subgroup_list.specs.Search.{IsSublist}
-use Rattle.elementary_subgroups.proofs.Members.{filter_taken, in_left, in_right, ascending_append, bool_cases, filter_left}
+use Rattle.elementary_subgroups.proofs.Members.{filter_taken, in_left, in_right, ascending_append, bool_cases}
+use Rattle.elementary_subgroups.proofs.Members.{filter_left}
 
 pub empty_sublist : (xs : List ℕ) → IsSublist [] xs
 empty_sublist [] = refl

@@ -3,7 +3,8 @@
 ghost use Rattle.std.specs.Prelude.{◌≡◌, ◌<◌, ◌++◌, ◌∷◌, [], ◌↔◌, IfOk, IsTrue, filter};
 ghost use Rattle.group_table.specs.Tables.{order};
 ghost use Rattle.elementary_subgroups.specs.Bases.{numbers};
-ghost use Rattle.elementary_subgroups.specs.Cliques.{AreElements, CommutesWithAll, commutes_test, torsion_test};
+ghost use Rattle.elementary_subgroups.specs.Cliques.{AreElements, CommutesWithAll, commutes_test};
+ghost use Rattle.elementary_subgroups.specs.Cliques.{torsion_test};
 ghost use Rattle.elementary_subgroups.specs.Sets.{IsIn};
 
 use group_table::Group;

@@ -1,7 +1,8 @@
 use Rattle.std.proofs.Common.{arith}
 use Rattle.graded_algebra.specs.Vectors.{Vector, IsOfDegree, algebra}
 use Rattle.ring_completion.proofs.ListedCandidates.{generator-at, standard-listed}
-use Rattle.ring_completion.proofs.Listings.{degree-power, within-length, clear-if-found, found-if-clear, listed-if-found, found-if-listed}
+use Rattle.ring_completion.proofs.Listings.{degree-power, within-length, clear-if-found, found-if-clear}
+use Rattle.ring_completion.proofs.Listings.{listed-if-found, found-if-listed}
 use Rattle.ring_completion.proofs.Results.{free}
 use Rattle.ring_completion.proofs.generators_and_standard_monomials_by_lists.Goals as goal
 

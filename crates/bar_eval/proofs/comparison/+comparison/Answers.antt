@@ -1,4 +1,5 @@
-use Rattle.std.proofs.Common.{◌≡◌, ℕ, suc, [], List, IfOk, length, replicate, get_or, false, ◌+◌, ◌-◌, arith, ap, sym, ◌∙◌, refl}
+use Rattle.std.proofs.Common.{◌≡◌, ℕ, suc, [], List, IfOk, length, replicate, get_or, false, ◌+◌, ◌-◌, arith}
+use Rattle.std.proofs.Common.{ap, sym, ◌∙◌, refl}
 use mathlib.Core.Path.{subst}
 use Rattle.std.proofs.lemmas.Bool.{eqb-true}
 use Rattle.linear_algebra.specs.Rows.{add_multiple}
@@ -15,7 +16,8 @@ use Rattle.bar_complex.specs.Faces.{alternate, face as face_of}
 use Rattle.subgroup_list.proofs.Bools.{no_items}
 use Rattle.bar_eval.specs.Comparison.{compared_row, tuple_of}
 use Rattle.bar_eval.proofs.FaceSums.{all-faces, up-to}
-use Rattle.bar_eval.proofs.ComparisonRows.{after-one, boundary-in, section-there, zero-there, first-face, next-face, row-length}
+use Rattle.bar_eval.proofs.ComparisonRows.{after-one, boundary-in, section-there, zero-there, first-face}
+use Rattle.bar_eval.proofs.ComparisonRows.{next-face, row-length}
 use Rattle.bar_eval.proofs.comparison.+comparison.Goals as goal
 
 pub compared-returns-then-is_empty-clause-value : goal.compared-returns-then-is_empty-clause-value

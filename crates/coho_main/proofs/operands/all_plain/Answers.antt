@@ -1,4 +1,5 @@
-use Rattle.std.proofs.Common.{◌≡◌, ◌∙◌, ◌&&◌, Bool, rules, tests, ap, refl, List, [], ◌∷◌, map, string_bytes, String, Global, refl}
+use Rattle.std.proofs.Common.{◌≡◌, ◌∙◌, ◌&&◌, Bool, rules, tests, ap, refl, List, [], ◌∷◌, map, string_bytes}
+use Rattle.std.proofs.Common.{String, Global, refl}
 use Rattle.std.specs.List.{list_all}
 use Rattle.std.proofs.lemmas.Iterator.{YieldsList-from_slice}
 use Rattle.std.proofs.lemmas.Iterator.Search.{all_from_yields_List}

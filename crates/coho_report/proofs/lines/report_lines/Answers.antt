@@ -1,7 +1,8 @@
 use Rattle.std.proofs.Common.{◌≡◌, ◌∙◌, List, Vec, Global, ℕ, codes, map, length, ap, ap₂, sym, subst}
 use Rattle.gc_poly.specs.Generators.{Generators}
 use Rattle.coho_report.specs.Values.{ReportValue, SubgroupValue}
-use Rattle.coho_report.specs.Lines.{numbered, head_lines, generator_lines, relation_lines, all_subgroup_lines, report_lines}
+use Rattle.coho_report.specs.Lines.{numbered, head_lines, generator_lines, relation_lines, all_subgroup_lines}
+use Rattle.coho_report.specs.Lines.{report_lines}
 use Rattle.coho_report.proofs.LineLists.{three_parts}
 use Rattle.coho_report.proofs.lines.report_lines.Goals as goal
 

@@ -2,7 +2,8 @@ use Rattle.std.proofs.Common.{◌≡◌, ℕ, ◌+◌, ◌-◌, ◌/◌, ◌%◌
 use Rattle.std.proofs.lemmas.Bool.{cases_eq}
 use Rattle.std.specs.Int.{bit_at}
 use Rattle.fp_rows.specs.Places.{place}
-use Rattle.fp_rows.proofs.PlaceLemmas.{place_below, bit_at-shr, bit_at-shifted_in, bit_at-shifted_below, nothing_past}
+use Rattle.fp_rows.proofs.PlaceLemmas.{place_below, bit_at-shr, bit_at-shifted_in, bit_at-shifted_below}
+use Rattle.fp_rows.proofs.PlaceLemmas.{nothing_past}
 use Rattle.fp_rows.proofs.words.add_bits.Goals as goal
 
 pub returns-then-shift-len-gt64-clause-sums : goal.returns-then-shift-len-gt64-clause-sums

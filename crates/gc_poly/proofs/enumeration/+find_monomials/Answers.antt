@@ -1,4 +1,5 @@
-use Rattle.std.proofs.Common.{◌≡◌, ◌+◌, ◌-◌, ◌*◌, ◌++◌, ◌∷◌, [], ℕ, cond, length, take, subst, drop, vec_len, arith, ap, sym, ◌∙◌, refl, rules}
+use Rattle.std.proofs.Common.{◌≡◌, ◌+◌, ◌-◌, ◌*◌, ◌++◌, ◌∷◌, [], ℕ, cond, length, take, subst, drop, vec_len}
+use Rattle.std.proofs.Common.{arith, ap, sym, ◌∙◌, refl, rules}
 use Rattle.graded_polynomials.specs.Monomials.{IsTrimmed}
 use Rattle.graded_polynomials.specs.AllMonomials.{all_monomials}
 use Rattle.gc_poly.proofs.Enumerating.{behind, taken, left-out, all-remain, trimmed-last, last-out, found-one}

@@ -2,9 +2,15 @@
 use Rattle.std.proofs.Common.{◌≡◌, ◌++◌, map, inl, inr, IfOk, Result, Ok, Err, arith, ap, ◌∙◌}
 use Rattle.std.proofs.lemmas.List.{map-append, take_all}
 use Rattle.graded_polynomials.specs.Texts.{factor_texts}
-use Rattle.gc_poly.proofs.Writing.{power-next, power-none, coefficient-first, coefficient-left-out, is-empty, not-empty}
+use Rattle.gc_poly.proofs.Writing.{power-next, power-none, coefficient-first, coefficient-left-out, is-empty}
+use Rattle.gc_poly.proofs.Writing.{not-empty}
 use Rattle.gc_poly.proofs.text.term_bytes.Goals as goal
-use Rattle.gc_poly.proofs.text.term_bytes.Goals.{then-exponent-ne0+in_ok-power_bytes+in_ok-push-2, else-exponent-ne0, then-coefficient-ne1+in_ok-format+in_ok-push, then-coefficient-ne1-via-then-coefficient-ne1, then-coefficient-ne1-via-else-coefficient-ne1+then-is_empty, else-coefficient-ne1+else-is_empty}
+use Rattle.gc_poly.proofs.text.term_bytes.Goals.{then-exponent-ne0+in_ok-power_bytes+in_ok-push-2}
+use Rattle.gc_poly.proofs.text.term_bytes.Goals.{else-exponent-ne0}
+use Rattle.gc_poly.proofs.text.term_bytes.Goals.{then-coefficient-ne1+in_ok-format+in_ok-push}
+use Rattle.gc_poly.proofs.text.term_bytes.Goals.{then-coefficient-ne1-via-then-coefficient-ne1}
+use Rattle.gc_poly.proofs.text.term_bytes.Goals.{then-coefficient-ne1-via-else-coefficient-ne1+then-is_empty}
+use Rattle.gc_poly.proofs.text.term_bytes.Goals.{else-coefficient-ne1+else-is_empty}
 
 pub loop-i-preserved : goal.loop-i-preserved
 loop-i-preserved c = elim c.if-exponent-ne0.branch [

@@ -5,7 +5,8 @@ use Rattle.linear_algebra.specs.Choices.{rows_at, IsGreedy}
 use Rattle.std.proofs.lemmas.List.{length_push}
 use Rattle.linear_algebra.proofs.GreedyChoice.{greedy-below}
 use Rattle.radical_layers.specs.LayerBasis.{layer_basis as basis_rows, layer_sizes}
-use Rattle.group_algebra.proofs.FirstLayers.{AreFirstLayers, first-start, first-next, first-end, first-shorter, few-rows, rows-next, sizes-next-of}
+use Rattle.group_algebra.proofs.FirstLayers.{AreFirstLayers, first-start, first-next, first-end}
+use Rattle.group_algebra.proofs.FirstLayers.{first-shorter, few-rows, rows-next, sizes-next-of}
 use Rattle.group_algebra.proofs.layers.layer_basis.Goals as goal
 
 pub loop-rows-init : goal.loop-rows-init

@@ -7,7 +7,8 @@ use Rattle.linear_algebra.specs.Rows.{row}
 use Rattle.radical_layers.specs.Moves.{move_row}
 use Rattle.fp_rows.specs.Refs.{entries_of}
 use Rattle.fp_rows.specs.Values.{RowValue, MatrixValue}
-use Rattle.fp_rows.proofs.Turns.{AreLeft, IsRowTurn, passed, passed-start, passed-turn, row-turn, row-end, turn-width}
+use Rattle.fp_rows.proofs.Turns.{AreLeft, IsRowTurn, passed, passed-start, passed-turn, row-turn, row-end}
+use Rattle.fp_rows.proofs.Turns.{turn-width}
 use Rattle.p_groups.specs.PGroups.{PGroup, group as group_of}
 use Rattle.group_algebra.specs.Coordinates.{free_module, sum_coordinates, AreCoefficients}
 use Rattle.group_algebra.specs.Coefficients.{AreSumCoordinates}

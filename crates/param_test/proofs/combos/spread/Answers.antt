@@ -1,6 +1,7 @@
 use Rattle.std.proofs.Common.{◌≡◌, ◌+◌, ◌<◌, arith, subst, sym}
 use Rattle.param_test.specs.Odometers.{IsSpread}
-use Rattle.param_test.proofs.Spread.{spread-skip, spread-put, spread-places, spread-coefficients, spread-combination}
+use Rattle.param_test.proofs.Spread.{spread-skip, spread-put, spread-places, spread-coefficients}
+use Rattle.param_test.proofs.Spread.{spread-combination}
 use Rattle.param_test.proofs.combos.spread.Goals as goal
 
 pub returns-clause-member : goal.returns-clause-member

@@ -1,7 +1,8 @@
 use Rattle.std.proofs.Common.{refl, ◌∙◌}
 use Rattle.param_test.proofs.Keeping.{kept-over, kept-scalar, kept-monomial, kept-dropped, kept-added}
 use Rattle.param_test.proofs.restriction.keep.Goals as goal
-use Rattle.param_test.proofs.restriction.keep.Goals.{in-Some+in_ok-add_term-in-Some+in-Heap-1, in-Some+in_ok-add_term-in-Some+in-Inline-1, in-None}
+use Rattle.param_test.proofs.restriction.keep.Goals.{in-Some+in_ok-add_term-in-Some+in-Heap-1}
+use Rattle.param_test.proofs.restriction.keep.Goals.{in-Some+in_ok-add_term-in-Some+in-Inline-1, in-None}
 
 pub add_term-requires-clause-over : goal.add_term-requires-clause-over
 add_term-requires-clause-over c =

@@ -3,7 +3,8 @@ use Rattle.graded_polynomials.specs.Monomials.{exponent}
 use Rattle.gc_poly.specs.Generators.{greatest}
 use Rattle.param_test.proofs.Taking.{IsTaken, taken-more, taken-left, taken-none, taken-inside, taken-is}
 use Rattle.param_test.proofs.restriction.restrict.Goals as goal
-use Rattle.param_test.proofs.restriction.restrict.Goals.{then-degree-unit+in_ok-push, else-degree-unit+else-e-ne0}
+use Rattle.param_test.proofs.restriction.restrict.Goals.{then-degree-unit+in_ok-push}
+use Rattle.param_test.proofs.restriction.restrict.Goals.{else-degree-unit+else-e-ne0}
 
 pub returns-then-e-ne0-clause-none : goal.returns-then-e-ne0-clause-none
 returns-then-e-ne0-clause-none c = λ _.

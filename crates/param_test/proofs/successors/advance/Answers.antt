@@ -2,7 +2,8 @@ use Rattle.std.proofs.Common.{◌≡◌, ◌+◌, ◌<◌, ◌≤◌, arith, sub
 use Rattle.param_test.specs.Odometers.{AreOnes, run}
 use Rattle.param_test.proofs.Lists.{length-snoc}
 use Rattle.param_test.proofs.Steps.{room-le}
-use Rattle.param_test.proofs.Odometer.{successor-turn, successor-shift, successor-longer, all-past, below-each, ones-snoc}
+use Rattle.param_test.proofs.Odometer.{successor-turn, successor-shift, successor-longer, all-past}
+use Rattle.param_test.proofs.Odometer.{below-each, ones-snoc}
 use Rattle.param_test.proofs.successors.advance.Goals as goal
 
 pub returns-then-turn-clause-successor : goal.returns-then-turn-clause-successor

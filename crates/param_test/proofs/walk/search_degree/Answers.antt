@@ -1,7 +1,9 @@
 use Rattle.std.proofs.Common.{◌≡◌, ◌+◌, ◌<◌, arith, sym, refl, ap, ◌∙◌, ◌≢◌, length}
 use Rattle.std.specs.Prelude.{slice_index}
 use Rattle.param_test.specs.Tuples.{total}
-use Rattle.param_test.proofs.Standing.{stands-all, stands-push, push-smaller, stands-pop, pop-smaller, stands-skip, next-smaller, stands-visit, stands-found, stands-next, stands-limit}
+use Rattle.param_test.proofs.Standing.{stands-all, stands-push, push-smaller, stands-pop, pop-smaller}
+use Rattle.param_test.proofs.Standing.{stands-skip, next-smaller, stands-visit, stands-found, stands-next}
+use Rattle.param_test.proofs.Standing.{stands-limit}
 use Rattle.param_test.proofs.Tables.{all-candidates}
 use Rattle.param_test.proofs.walk.search_degree.Goals as goal
 

@@ -1,11 +1,13 @@
-use Rattle.std.proofs.Common.{◌≡◌, ℕ, suc, ◌+◌, ◌-◌, ◌<◌, ◌≤◌, ◌++◌, ◌∷◌, [], ◌∙◌, ap, ap₂, sym, subst, arith, drop, take, length, length-take, length-drop, All}
+use Rattle.std.proofs.Common.{◌≡◌, ℕ, suc, ◌+◌, ◌-◌, ◌<◌, ◌≤◌, ◌++◌, ◌∷◌, [], ◌∙◌, ap, ap₂, sym, subst, arith}
+use Rattle.std.proofs.Common.{drop, take, length, length-take, length-drop, All}
 use Rattle.std.proofs.lemmas.List.Elements.{All-get_or}
 use Rattle.std.proofs.lemmas.Slice.{between_to_end}
 use Rattle.power_commutator.specs.Presentations.{IsWord, multiply}
 use Rattle.power_commutator.specs.Collect.{product_of, spell}
 use Rattle.power_commutator.proofs.Collecting.{product-word}
 use Rattle.pc_group.specs.Collection.{passed}
-use Rattle.pc_group.proofs.CollectedWords.{few-generators, right-after, passed-after, collected, collected-more, collected-all}
+use Rattle.pc_group.proofs.CollectedWords.{few-generators, right-after, passed-after, collected}
+use Rattle.pc_group.proofs.CollectedWords.{collected-more, collected-all}
 use Rattle.pc_group.proofs.collection.+collect_generator.Goals as goal
 
 pub overflow_add-k : goal.overflow_add-k

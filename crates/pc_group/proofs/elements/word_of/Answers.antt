@@ -1,5 +1,6 @@
 -- There are at most 8 exponents, and each is the remainder of what is left.
-use Rattle.std.proofs.Common.{◌≡◌, suc, ◌∙◌, ap, ◌-◌, ◌+◌, ◌/◌, ◌%◌, arith, lit<, length, [], ◌∷◌, ◌++◌, append_assoc, length-append}
+use Rattle.std.proofs.Common.{◌≡◌, suc, ◌∙◌, ap, ◌-◌, ◌+◌, ◌/◌, ◌%◌, arith, lit<, length, [], ◌∷◌, ◌++◌}
+use Rattle.std.proofs.Common.{append_assoc, length-append}
 use Rattle.power_commutator.specs.Presentations.{word_of}
 use Rattle.pc_group.proofs.CollectedWords.{few-generators}
 use Rattle.pc_group.proofs.elements.word_of.Goals as goal

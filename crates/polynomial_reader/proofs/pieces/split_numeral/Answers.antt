@@ -3,7 +3,8 @@ use Rattle.std.proofs.lemmas.Bool.{false≢true}
 use Rattle.polynomial_texts.specs.Grammar.{is_digit}
 use Rattle.polynomial_reader.proofs.Cutting.{numeral-some, numeral-none, rest-whole}
 use Rattle.polynomial_reader.proofs.pieces.split_numeral.Goals as goal
-use Rattle.polynomial_reader.proofs.pieces.split_numeral.Goals.{else-term-ge2-via-then-term-ge2+else-is_digit, else-term-ge2-via-else-term-ge2}
+use Rattle.polynomial_reader.proofs.pieces.split_numeral.Goals.{else-term-ge2-via-then-term-ge2+else-is_digit}
+use Rattle.polynomial_reader.proofs.pieces.split_numeral.Goals.{else-term-ge2-via-else-term-ge2}
 
 pub returns-then-is_digit-clause-numeral : goal.returns-then-is_digit-clause-numeral
 returns-then-is_digit-clause-numeral c q t m h k =

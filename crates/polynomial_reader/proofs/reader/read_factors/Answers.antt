@@ -1,7 +1,8 @@
 use Rattle.std.proofs.Common.{arith, refl}
 use Rattle.polynomial_texts.specs.Grammar.{IsFactor, factor_text}
 use Rattle.polynomial_texts.specs.Readings.{Names}
-use Rattle.polynomial_reader.proofs.ReaderLemmas.{place-step, place-room, zip-step, factor-fault, no_factor, no_piece}
+use Rattle.polynomial_reader.proofs.ReaderLemmas.{place-step, place-room, zip-step, factor-fault, no_factor}
+use Rattle.polynomial_reader.proofs.ReaderLemmas.{no_piece}
 use Rattle.polynomial_reader.proofs.reader.read_factors.Goals as goal
 
 pub returns-in-None : goal.returns-in-None

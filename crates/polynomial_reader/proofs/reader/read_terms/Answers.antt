@@ -3,7 +3,8 @@ use Rattle.std.proofs.lemmas.Result.{err_from_is_err_and}
 use Rattle.polynomial_texts.specs.Grammar.{IsTerm, term_bytes}
 use Rattle.polynomial_texts.specs.Readings.{NamesTerm}
 use Rattle.gc_poly.specs.Generators.{greatest}
-use Rattle.polynomial_reader.proofs.ReaderLemmas.{place-step, place-room, zip-step, term-fault, no_term, no_piece}
+use Rattle.polynomial_reader.proofs.ReaderLemmas.{place-step, place-room, zip-step, term-fault, no_term}
+use Rattle.polynomial_reader.proofs.ReaderLemmas.{no_piece}
 use Rattle.polynomial_reader.proofs.reader.read_terms.Goals as goal
 
 pub read_term-requires-clause-small : goal.read_term-requires-clause-small

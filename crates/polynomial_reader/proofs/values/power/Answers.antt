@@ -1,7 +1,8 @@
 use Rattle.std.proofs.Common.{get_or, arith, ap, sym, ◌∙◌}
 use Rattle.graded_polynomials.specs.Monomials.{is_exterior}
 use Rattle.gc_poly.specs.Generators.{greatest}
-use Rattle.polynomial_reader.proofs.ValueLemmas.{zero-made, power-zero, power-fitting, power-named, power-term}
+use Rattle.polynomial_reader.proofs.ValueLemmas.{zero-made, power-zero, power-fitting, power-named}
+use Rattle.polynomial_reader.proofs.ValueLemmas.{power-term}
 use Rattle.polynomial_reader.proofs.values.power.Goals as goal
 
 pub returns-then-vanishes : goal.returns-then-vanishes

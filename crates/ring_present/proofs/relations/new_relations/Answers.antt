@@ -2,7 +2,8 @@ use Rattle.std.proofs.Common.{ap, sym, ◌∙◌, arith}
 use Rattle.presentation_rows.specs.RowPolynomials.{polynomial_of}
 use Rattle.ring_present.proofs.RelationSteps.{relation-taken, row-left-out}
 use Rattle.ring_present.proofs.relations.new_relations.Goals as goal
-use Rattle.ring_present.proofs.relations.new_relations.Goals.{then-not-is_pivot+in_ok-polynomial_of+in_ok-push, else-not-is_pivot}
+use Rattle.ring_present.proofs.relations.new_relations.Goals.{then-not-is_pivot+in_ok-polynomial_of+in_ok-push}
+use Rattle.ring_present.proofs.relations.new_relations.Goals.{else-not-is_pivot}
 
 pub loop-i-preserved : goal.loop-i-preserved
 loop-i-preserved c = elim c.if-not-is_pivot.branch [

@@ -6,7 +6,8 @@ use Rattle.subgroup_list.proofs.Choosing.{basis_taken, basis_left, value_positiv
 use Rattle.elementary_subgroups.proofs.Numbering.{numbering_elements}
 use Rattle.elementary_subgroups.proofs.GroupLaws.{law_of}
 use Rattle.subgroup_list.proofs.bases.basis_and_images.Goals as goal
-use Rattle.subgroup_list.proofs.bases.basis_and_images.Goals.{then-not-has+in_ok-images-2+in_ok-push, else-not-has}
+use Rattle.subgroup_list.proofs.bases.basis_and_images.Goals.{then-not-has+in_ok-images-2+in_ok-push}
+use Rattle.subgroup_list.proofs.bases.basis_and_images.Goals.{else-not-has}
 
 pub spread_by-requires-clause-elements : goal.spread_by-requires-clause-elements
 spread_by-requires-clause-elements c =

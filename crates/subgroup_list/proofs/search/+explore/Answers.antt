@@ -1,6 +1,7 @@
 use Rattle.std.proofs.Common.{◌<◌, [], arith, refl, ◌∙◌, length, take, drop, ◌-◌}
 use Rattle.subgroup_list.specs.Search.{lists}
-use Rattle.subgroup_list.proofs.Places.{explore_step, found_kept, kept_requires, head_tail, found_blocked, not_empty, in_rest, shorter, shorter_filter, step_with, step_without}
+use Rattle.subgroup_list.proofs.Places.{explore_step, found_kept, kept_requires, head_tail, found_blocked}
+use Rattle.subgroup_list.proofs.Places.{not_empty, in_rest, shorter, shorter_filter, step_with, step_without}
 use Rattle.subgroup_list.proofs.Bools.{append_none, no_items}
 use Rattle.elementary_subgroups.proofs.Indices.{in_at}
 use Rattle.subgroup_list.proofs.search.+explore.Goals as goal

@@ -1,4 +1,5 @@
-use Rattle.std.proofs.Common.{◌≡◌, ◌<◌, ℕ, List, [], ◌∷◌, ◌++◌, length, arith, ◌∙◌, ap, sym, subst, get_or, take, inl, inr}
+use Rattle.std.proofs.Common.{◌≡◌, ◌<◌, ℕ, List, [], ◌∷◌, ◌++◌, length, arith, ◌∙◌, ap, sym, subst, get_or}
+use Rattle.std.proofs.Common.{take, inl, inr}
 use Rattle.elementary_subgroups.specs.Bases.{NumberedSubgroup, IsNumbered, members_of}
 use Rattle.subgroup_list.specs.Search.{lists}
 use Rattle.elementary_subgroups.specs.Sets.{IsIn}

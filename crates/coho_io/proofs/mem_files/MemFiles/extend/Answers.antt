@@ -5,7 +5,8 @@ use Rattle.coho_io.specs.MemFiles.{bytes_at, content_of, after_put}
 use Rattle.coho_io.proofs.Puts.{content-extended}
 use Rattle.coho_io.proofs.mem_files.MemFiles.extend.Goals as goal
 
-joined : (c : goal.After-drop-bytes-2) → c.deref.result.now ≡ or_empty (bytes_at c.args.self.now c.args.path.now)
+joined : (c : goal.After-drop-bytes-2)
+    → c.deref.result.now ≡ or_empty (bytes_at c.args.self.now c.args.path.now)
     ++ c.args.piece.now
 joined c = c.deref.ensures.value ∙ c.in_ok-extend_from_slice-2.ensures.items
     ∙ ap (λ t. t ++ c.args.piece.now) (c.in_ok-extend_from_slice.ensures.items

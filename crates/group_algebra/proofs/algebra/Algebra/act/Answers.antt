@@ -66,3 +66,9 @@ returns-clause-moved c =
       b,
     ) c.self.inside.places
     (entries_of c.args.v) c.add_image.new.out.entries c.self.invariant.sizes_are r C)
+
+pub add_image-requires-clause-short : goal.add_image-requires-clause-short
+add_image-requires-clause-short c =
+    let size : size_of c.self.inside.places ≡ order c.self.inside.group.table =
+    ap size_of c.self.invariant.sizes_are ∙ size-is c.self.inside.group in
+    rw size c.self.invariant.small

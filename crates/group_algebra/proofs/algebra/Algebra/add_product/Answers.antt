@@ -12,7 +12,8 @@ use Rattle.group_algebra.specs.Gains.{stepped, GainsImage}
 use Rattle.group_algebra.proofs.BlockSums.{block, entry-block, block-is, block-is-row}
 use Rattle.group_algebra.proofs.LayerRows.{size-is}
 use Rattle.group_algebra.proofs.Members.{residue-row}
-use Rattle.group_algebra.proofs.ImageLemmas.{row-of-ref, inside-steps, row-back, first_products, products-all, product-gained}
+use Rattle.group_algebra.proofs.ImageLemmas.{row-of-ref, inside-steps, row-back, first_products, products-all}
+use Rattle.group_algebra.proofs.ImageLemmas.{product-gained}
 use Rattle.group_algebra.proofs.algebra.Algebra.add_product.Goals as goal
 
 pub loop-k-init : goal.loop-k-init
@@ -143,3 +144,9 @@ returns-clause-gained c a' B' =
     (whole ∙ ap (λ y. (free_module G b).add (table_of G b c.args.out.now.entries) y)
     (ap (first_products G b A (table_of G b v)) end ∙ products-all G b A (table_of G b v) a
     ∙ ap (λ y. product_with G b (table_of G 1 y) (table_of G b v)) (sym same))))
+
+pub add_image-requires-clause-short : goal.add_image-requires-clause-short
+add_image-requires-clause-short c =
+    let size : size_of c.self.inside.places ≡ order c.self.inside.group.table =
+    ap size_of c.self.invariant.sizes_are ∙ size-is c.self.inside.group in
+    rw size c.self.invariant.small

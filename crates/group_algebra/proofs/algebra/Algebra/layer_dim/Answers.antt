@@ -11,6 +11,6 @@ size-requires c =
     omega (arith, l, e)
 
 pub returns : goal.returns
-returns c = rw (← c.self.view_is) (c.size.ensures
+returns c = rw (← c.self.view_is) (c.size.ensures.value
     ∙ layer-size c.self.inside.group c.self.inside.places c.args.i c.self.invariant.sizes_are
     (rw (← c.self.view_is) at c.requires))

@@ -2,7 +2,8 @@
 use Rattle.std.proofs.Common.{sym, ◌∙◌, ap, subst, subst₂, ◌+◌, ◌-◌, ◌*◌, ◌^◌, ◌<◌, ◌≤◌, arith, get_or}
 use Rattle.pc_group.specs.Tables.{AreNumbers}
 use Rattle.pc_group.proofs.Powers.{part-small, next-small}
-use Rattle.pc_group.proofs.LayerLists.{AreScaled, AreGenerators, AreElements, AreImages, scaled-numbers, powers-are, commutators-are, images-are}
+use Rattle.pc_group.proofs.LayerLists.{AreScaled, AreGenerators, AreElements, AreImages, scaled-numbers}
+use Rattle.pc_group.proofs.LayerLists.{powers-are, commutators-are, images-are}
 use Rattle.pc_group.proofs.layer.Layer.new.Goals as goal
 
 pub small_power-scale-requires-clause-small : goal.small_power-scale-requires-clause-small

@@ -7,7 +7,8 @@ use Rattle.graded_algebra.specs.Presentations.{IsNormalForm}
 use Rattle.presentation_rows.specs.Values.{vector}
 use Rattle.ring_present.specs.Rings.{cohomology}
 use Rattle.ring_present.specs.Values.{generators_of}
-use Rattle.ring_present.proofs.Shown.{seen-of, some-group, prime-seen, targets-seen, width-of-forms, monomials-seen, form-seen}
+use Rattle.ring_present.proofs.Shown.{seen-of, some-group, prime-seen, targets-seen, width-of-forms}
+use Rattle.ring_present.proofs.Shown.{monomials-seen, form-seen}
 use Rattle.ring_present.proofs.ring.Ring.normal_form.Goals as goal
 
 pub combination-requires-clause-prime : goal.combination-requires-clause-prime

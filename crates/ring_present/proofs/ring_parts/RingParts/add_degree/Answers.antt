@@ -1,4 +1,5 @@
-use Rattle.std.proofs.Common.{◌≡◌, ℕ, suc, ◌+◌, ◌-◌, List, ◌++◌, [], ◌∷◌, length, map, arith, ap, ap₂, sym, ◌∙◌, add-one}
+use Rattle.std.proofs.Common.{◌≡◌, ℕ, suc, ◌+◌, ◌-◌, List, ◌++◌, [], ◌∷◌, length, map, arith, ap, ap₂, sym}
+use Rattle.std.proofs.Common.{◌∙◌, add-one}
 use Rattle.std.proofs.lemmas.List.{with_items_is, length_push}
 use mathlib.Core.Path.{subst}
 use Rattle.p_groups.specs.PGroups.{PGroup}
@@ -10,7 +11,8 @@ use Rattle.ring_present.specs.Rings.{IsPresentation}
 use Rattle.ring_present.specs.Degrees.{classes, kept, lifted, IsLower}
 use Rattle.ring_present.specs.declared.degree.Degree.{Degree}
 use Rattle.ring_present.proofs.Counting.{too-many}
-use Rattle.ring_present.proofs.Stores.{IsBefore, before-of, lower-kept, classes-kept, degrees-kept, lifted-kept, lifted-append, ring-next, on-err}
+use Rattle.ring_present.proofs.Stores.{IsBefore, before-of, lower-kept, classes-kept, degrees-kept}
+use Rattle.ring_present.proofs.Stores.{lifted-kept, lifted-append, ring-next, on-err}
 use Rattle.ring_present.proofs.ring_parts.RingParts.add_degree.Goals as goal
 
 pub returns-then-count-cap-clause-refused : goal.returns-then-count-cap-clause-refused

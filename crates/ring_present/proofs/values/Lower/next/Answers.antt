@@ -11,7 +11,8 @@ use Rattle.chain_lift.specs.Values.{LiftValue}
 use Rattle.ring_present.specs.Degrees.{IsLower}
 use Rattle.ring_present.specs.Multiples.{IsRelationBelow, AreNewRelations}
 use Rattle.ring_present.specs.declared.degree.Valued.{Valued}
-use Rattle.ring_present.proofs.Nexts.{relations-below, monomials-below, monomials-of-gens, relations-next, next-degree-is}
+use Rattle.ring_present.proofs.Nexts.{relations-below, monomials-below, monomials-of-gens, relations-next}
+use Rattle.ring_present.proofs.Nexts.{next-degree-is}
 use Rattle.ring_present.proofs.values.Lower.next.Goals as goal
 
 pub choose-requires-clause-presentation : goal.choose-requires-clause-presentation

@@ -1,7 +1,8 @@
 use Rattle.std.proofs.Common.{◌≡◌, ◌≤◌, arith, sym, subst, ◌∙◌}
 use Rattle.group_table.specs.Tables.{IsTable, IsGroupTable, order}
 use Rattle.elementary_subgroups.specs.OwnGroups.{IsOwnGroup}
-use Rattle.subgroup_list.proofs.OwnTables.{made_is, rank_small, size_small, order_small, own_table, own_law, own_group}
+use Rattle.subgroup_list.proofs.OwnTables.{made_is, rank_small, size_small, order_small, own_table, own_law}
+use Rattle.subgroup_list.proofs.OwnTables.{own_group}
 use Rattle.subgroup_list.proofs.elem_ab.ElemAb.group.Goals as goal
 
 at_most_256 : (n m : _) → n ≡ m → n ≤ 256 → m ≤ 256

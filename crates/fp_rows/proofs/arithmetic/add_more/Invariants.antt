@@ -1,6 +1,6 @@
 use Rattle.std.proofs.Common.{◌≡◌, ℕ, ◌+◌, ◌*◌, ◌%◌, ◌<◌, ◌≤◌}
 use Rattle.linear_algebra.specs.Rows.{entry}
-use Rattle.fp_rows.proofs.arithmetic.add_times_modulo.Given as goal
+use Rattle.fp_rows.proofs.arithmetic.add_more.Given as goal
 
 abbrev pub invariant-loop-i : goal.invariant-loop-i
 invariant-loop-i g l = record {

@@ -1,0 +1,13 @@
+use Rattle.std.proofs.Common.{◌≡◌, ◌<◌, ◌≤◌, ◌-◌, ℕ, length}
+use Rattle.linear_algebra.specs.Rows.{entry}
+use Rattle.fp_rows.specs.Bits.{bits_of}
+use Rattle.fp_rows.proofs.numbers.are_zero.Given as goal
+
+abbrev pub invariant-loop-done : goal.invariant-loop-done
+invariant-loop-done l = record {
+  within : l.done ≤ length (bits_of l.b);
+  zero : (j : ℕ) → j < l.done → entry (bits_of l.b) j ≡ 0;
+}
+
+abbrev pub decreases-loop-done : goal.decreases-loop-done
+decreases-loop-done l = length (bits_of l.b) - l.done

@@ -1,0 +1,50 @@
+-- Sums of images, one member at a time.
+use Rattle.std.proofs.Common.{◌≡◌, ℕ, ◌+◌, ◌*◌, ◌%◌, ◌<◌, List, length, arith, ap, sym, ◌∙◌, refl, add-one}
+use Rattle.linear_algebra.specs.Modular.{IsCongruent, sum_below}
+use Rattle.linear_algebra.specs.Rows.{entry, add_multiple}
+use Rattle.linear_algebra.proofs.Congruences.{congruent_trans, congruent_eq, congruent_mod, congruent_add}
+use Rattle.linear_algebra.proofs.Congruences.{congruent_refl}
+use Rattle.linear_algebra.proofs.RowLemmas.{entry-add_multiple, length-add_multiple}
+use Rattle.fp_rows.specs.Values.{RowValue}
+
+-- the first k terms are added to the row
+pub record AreImagesAdded (p : ℕ) (old : List ℕ) (g : ℕ → ℕ → ℕ) (k : ℕ) (sum : RowValue) : Type 0 where
+  pub prime : sum.p ≡ p
+  pub count : length sum.entries ≡ length old
+  pub sums : (j : ℕ) → j < length old
+      → IsCongruent p (entry sum.entries j) (entry old j + sum_below k (λ i. g i j))
+
+pub images-none : (old : RowValue) (g : ℕ → ℕ → ℕ) → AreImagesAdded old.p old.entries g 0 old
+images-none old g = record {
+  prime = refl;
+  count = refl;
+  sums = λ j l. congruent_eq (let z : entry old.entries j ≡ entry old.entries j + 0 = omega arith in z);
+}
+
+pub images-skip : (p : ℕ) (old : List ℕ) (g : ℕ → ℕ → ℕ) (k : ℕ) (sum : RowValue)
+    → AreImagesAdded p old g k sum
+    → ((j : ℕ) → g k j ≡ 0) → AreImagesAdded p old g (k + 1) sum
+images-skip p old g k sum A h = record {
+  prime = A.prime;
+  count = A.count;
+  sums = λ j l. congruent_trans (A.sums j l) (congruent_eq (rw (add-one, h j)
+      (let z : entry old j + sum_below k (λ i. g i j) ≡ entry old j + (sum_below k (λ i. g i j) + 0) = omega arith in
+      z)));
+}
+
+pub images-next : (p : ℕ) (old : List ℕ) (g : ℕ → ℕ → ℕ) (k x : ℕ) (r : List ℕ) (mid new : RowValue)
+    → AreImagesAdded p old g k mid → length r ≡ length mid.entries
+    → new ≡ record mid { entries = add_multiple mid.p x mid.entries r }
+    → ((j : ℕ) → x * entry r j ≡ g k j) → AreImagesAdded p old g (k + 1) new
+images-next p old g k x r mid new A len e h = record {
+  prime = ap (λ (v : RowValue). v.p) e ∙ A.prime;
+  count = ap (λ (v : RowValue). length v.entries) e ∙ length-add_multiple mid.p x mid.entries r ∙ A.count;
+  sums = λ j l. congruent_trans (congruent_eq (ap (λ (v : RowValue). entry v.entries j) e
+      ∙ entry-add_multiple mid.p x mid.entries r j len (omega (arith, l, A.count))
+      ∙ ap (λ q. (entry mid.entries j + x * entry r j) % q) A.prime))
+      (congruent_trans (congruent_mod (entry mid.entries j + x * entry r j))
+      (congruent_trans (congruent_add (A.sums j l) (congruent_eq (h j)))
+      (congruent_eq (rw add-one
+      (let z : entry old j + sum_below k (λ i. g i j) + g k j ≡ entry old j + (sum_below k (λ i. g i j) + g k j) =
+      omega arith in z)))));
+}

@@ -1,0 +1,10 @@
+use Rattle.std.proofs.Common.{◌+◌, ◌*◌}
+use Rattle.linear_algebra.specs.Rows.{entry}
+use Rattle.fp_rows.specs.Refs.{entries_of}
+use Rattle.group_algebra.specs.Gains.{stepped}
+use Rattle.group_algebra.proofs.ImageSums.{AreImagesAdded}
+use Rattle.group_algebra.proofs.combinations.add_images.Given as goal
+
+abbrev pub invariant-loop-k : goal.invariant-loop-k
+invariant-loop-k l = AreImagesAdded l.fn.sum.p l.fn.sum.entries (λ k j. entry (entries_of l.coefficients) k
+    * entry (stepped l.images.rows.now.rows l.images.first l.images.step (l.start + k)) j) l.k l.sum
