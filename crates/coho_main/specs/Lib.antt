@@ -11,3 +11,4 @@ pub mod Statuses
 pub mod Stages
 pub mod Resolving
 pub mod RingAnswers
+pub mod Samples

@@ -27,24 +27,29 @@ pub data Command : Type 0 where
   Resolve : List ℕ → ℕ → Command
   -- to find generators and relations of the cohomology ring of a file's group through a degree
   Ring : List ℕ → ℕ → Command
+  -- to make the product of small groups that a number names, and to describe its cohomology ring
+  Sample : ℕ → Command
 
 -- the command by the program's own value
 abbrev pub asked : Named → Command
 asked (named.Group path) = Group path.now
 asked (named.Resolve path n) = Resolve path.now n
 asked (named.Ring path n) = Ring path.now n
+asked (named.Sample k) = Sample k
 
--- the path of its file
-abbrev pub path_of : Command → List ℕ
-path_of (Group path) = path
-path_of (Resolve path n) = path
-path_of (Ring path n) = path
+-- the path of its file, where it has one
+abbrev pub path_of : Command → Option (List ℕ)
+path_of (Group path) = Some path
+path_of (Resolve path n) = Some path
+path_of (Ring path n) = Some path
+path_of (Sample k) = None
 
 -- the degree of a command that has one is from 1 to the greatest
 abbrev pub IsWithin : Command → Type 0
 IsWithin (Group path) = ⊤
 IsWithin (Resolve path n) = (1 ≤ n) × (n ≤ GREATEST_DEGREE)
 IsWithin (Ring path n) = (1 ≤ n) × (n ≤ GREATEST_DEGREE)
+IsWithin (Sample k) = k ≤ 999
 
 -- a word that may stand for a file: it is not empty, and begins with no dash
 abbrev pub is_path : List ℕ → Bool
@@ -53,8 +58,10 @@ is_path (b ∷ bs) = not (b == 45)
 
 -- the command of the words, and None where they are not those of one
 abbrev pub command : List (List ℕ) → Option Command
-command (name ∷ path ∷ []) =
-    if bytes_eq name (codes "group") && is_path path then Some (Group path) else None
+command (name ∷ word ∷ []) =
+    if bytes_eq name (codes "group") && is_path word
+    then Some (Group word)
+    else (if bytes_eq name (codes "sample") then option_map Sample (numeral 0 999 word) else None)
 command (name ∷ path ∷ degree ∷ []) =
     if bytes_eq name (codes "resolve") && is_path path
     then option_map (Resolve path) (numeral 1 GREATEST_DEGREE degree)
@@ -80,9 +87,14 @@ with_degree p = option_map (λ n. (p.0, n)) (numeral 1 GREATEST_DEGREE p.1)
 abbrev pub file_and_degree : List (List ℕ) → Option (List ℕ × ℕ)
 file_and_degree words = option_and_then with_degree (two_operands words)
 
+-- the path that is there
+abbrev paths_of : Option (List ℕ) → List (List ℕ)
+paths_of None = []
+paths_of (Some path) = path ∷ []
+
 -- the paths that a command reads, and those that it saves to
 abbrev pub read_paths : Command → List (List ℕ)
-read_paths c = path_of c ∷ []
+read_paths c = paths_of (path_of c)
 
 abbrev pub saved_paths : Command → List (List ℕ)
 saved_paths c = []

@@ -12,6 +12,9 @@ mod loading;
 mod operands;
 mod reading;
 mod running;
+mod samples;
+#[cfg(test)]
+mod sample_tests;
 mod stages;
 mod status;
 mod stop;
@@ -20,7 +23,7 @@ mod tests;
 mod words;
 mod writing;
 
-pub use answers::{group_lines, stage_lines};
+pub use answers::{group_lines, sample_lines, stage_lines};
 pub use cause::Cause;
 use coho_io::{DiskFiles, StdSink};
 pub use degree::read_degree;
@@ -29,6 +32,7 @@ pub use loading::{accept, load};
 pub use operands::{all_plain, one_operand, two_operands};
 pub use reading::read_front;
 pub use running::{outcome_exists, outcome_is_unique, run};
+pub use samples::{GREATEST_SAMPLE, read_sample, sample_presentation};
 pub use stages::resolution_of;
 pub use status::Status;
 use std::io::ErrorKind;

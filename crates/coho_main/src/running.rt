@@ -1,22 +1,26 @@
 ghost use Rattle.std.specs.Prelude.{◌≡◌, ◌≢◌, ◌≤◌, ◌⊎◌, ℕ, List, None, Some};
+ghost use Rattle.std.specs.List.{Contains};
 ghost use Rattle.coho_io.specs.Content.{Content};
 ghost use Rattle.coho_io.specs.Causes.{Rose};
-ghost use Rattle.coho_main.specs.Words.{IsRead, IsWithin, asked, command, contents, texts};
-ghost use Rattle.coho_main.specs.Outcome.{Answer, AnswerGroup, AnswerResolve, AnswerRing, Comes, Ending, Outcome};
+ghost use Rattle.coho_main.specs.Words.{IsRead, IsWithin, asked, command, contents, read_paths, texts};
+ghost use Rattle.coho_main.specs.Outcome.{Answer, AnswerGroup, AnswerResolve, AnswerRing, AnswerSample, Comes, Ending, Given, Outcome};
 ghost use Rattle.coho_main.specs.Refusals.{read_refused, write_refused};
 ghost use Rattle.coho_main.specs.RingAnswers.{TellsRingOf};
 ghost use Rattle.coho_main.specs.Stops.{Meets, Settles, HasReadCause, OnlyReads};
 ghost use Rattle.coho_main.specs.Run.{OfFiles, IsSettled, MayWrite, Tells, EndsAs, AnswersFront, WantsMemory, NoReadFault, Stays};
 
 use crate::{
-    Command, Status, Stop, group_lines, load, radical_dimensions, read_words, report,
-    resolution_of, stage_lines, write_lines,
+    Command, Status, Stop, accept, group_lines, load, radical_dimensions, read_words, report,
+    resolution_of, sample_lines, sample_presentation, stage_lines, write_lines,
 };
 use coho_io::{Files, Sink};
 use coho_report::{compose, report_lines};
 use limits::{GREATEST_DEGREE, GREATEST_DIMENSION, MOST_MONOMIALS};
 use pc_group::Consistent;
 use std::alloc::Global;
+
+// The degree through which the ring of a product is described.
+const SAMPLE_DEGREE: u32 = 4;
 
 // The lines of the answer to `group`.
 fn answer_group<'a>(alloc: Global, consistent: &Consistent) -> Result<Vec<Vec<u8>>, Stop<'a>>
@@ -50,7 +54,17 @@ fn answer_ring<'a>(alloc: Global, consistent: &Consistent, n: u32) -> Result<Vec
     Ok(report_lines(alloc, &report)?)
 }
 
-// The lines of the answer to a command on the presentation of its file.
+// The lines of the answer to `sample`.
+fn answer_sample<'a>(alloc: Global, consistent: &Consistent, k: u32) -> Result<Vec<Vec<u8>>, Stop<'a>>
+    ensures { Settles (λ lines. contents lines.items) (AnswerSample consistent.now k) result }
+{
+    let resolution = resolution_of(alloc, consistent, SAMPLE_DEGREE)?;
+    let report =
+        compose(alloc, &resolution, SAMPLE_DEGREE, MOST_MONOMIALS, GREATEST_DIMENSION)?;
+    Ok(sample_lines(alloc, k, &report)?)
+}
+
+// The lines of the answer to a command on its presentation.
 fn answer_on<'a>(
     alloc: Global,
     command: Command<'a>,
@@ -63,6 +77,28 @@ fn answer_on<'a>(
         Command::Group(_) => answer_group(alloc, consistent),
         Command::Resolve(_, n) => answer_resolve(alloc, consistent, n),
         Command::Ring(_, n) => answer_ring(alloc, consistent, n),
+        Command::Sample(k) => answer_sample(alloc, consistent, k),
+    }
+}
+
+// The consistent presentation that a command is asked about.
+fn given<'a, F: Files>(
+    alloc: Global,
+    command: Command<'a>,
+    files: &mut F,
+) -> Result<Consistent, Stop<'a>>
+    requires { IsWithin (asked command) }
+    ensures step { OfFiles (F.content files.old)
+        (λ seen. Meets (λ c. c) (Given (asked command.entry)) seen seen result) }
+    ensures reads { OnlyReads (HasReadCause (λ path. Contains (read_paths (asked command.entry)) path))
+        (F.content files.old) (F.content files.new)
+        (F.read_faults files.old) (F.read_faults files.new) result }
+{
+    match command {
+        Command::Group(path) | Command::Resolve(path, _) | Command::Ring(path, _) => {
+            load(alloc, files, path)
+        }
+        Command::Sample(k) => accept(alloc, sample_presentation(alloc, k)?),
     }
 }
 
@@ -79,7 +115,7 @@ fn answer<'a, F: Files>(
         (F.read_faults files.old) (F.read_faults files.new) result }
 {
     let command = read_words(alloc, words)?;
-    let consistent = load(alloc, files, command.path())?;
+    let consistent = given(alloc, command, files)?;
     answer_on(alloc, command, &consistent)
 }
 

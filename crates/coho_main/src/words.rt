@@ -1,10 +1,11 @@
-ghost use Rattle.std.specs.Prelude.{◌≡◌, ◌≤◌, IfErr, IfOk, None, Some, true};
+ghost use Rattle.std.specs.Prelude.{◌≡◌, ◌≤◌, IfErr, IfOk, None, Some, option_and_then, true};
+ghost use Rattle.pc_text.specs.Numerals.{numeral};
 ghost use Rattle.std.specs.List.{list_all};
-ghost use Rattle.coho_main.specs.Words.{IsWithin, asked, command, file_and_degree, is_path, path_of, texts};
+ghost use Rattle.coho_main.specs.Words.{IsWithin, asked, command, file_and_degree, is_path, one_operand, texts};
 ghost use Rattle.coho_main.specs.Outcome.{Ask};
 ghost use Rattle.coho_main.specs.Stops.{IsWordsStop, Settles};
 
-use crate::{Cause, Stop, all_plain, one_operand, read_degree, two_operands};
+use crate::{Cause, Stop, all_plain, one_operand, read_degree, read_sample, two_operands};
 use limits::GREATEST_DEGREE;
 use std::alloc::Global;
 
@@ -18,17 +19,8 @@ pub enum Command<'a> {
     /// To find generators and relations of the cohomology ring of the group of the file at this path, through
     /// this degree.
     Ring(&'a str, u32),
-}
-
-impl<'a> Command<'a> {
-    /// The path of its file.
-    pub fn path(self) -> &'a str
-        ensures { result.now ≡ path_of (asked self.entry) }
-    {
-        match self {
-            Command::Group(path) | Command::Resolve(path, _) | Command::Ring(path, _) => path,
-        }
-    }
+    /// To make the product of small groups that this number names, and to describe its cohomology ring.
+    Sample(u32),
 }
 
 // The two words after the command's name, a file and a degree.
@@ -41,6 +33,21 @@ fn file_and_degree<'a>(alloc: Global, words: &'a [String]) -> Result<(&'a str, u
     let (path, degree) = two_operands(alloc, words)?;
     match read_degree(degree) {
         Some(degree) => Ok((path, degree)),
+        None => Err(Stop::Refused(Cause::Words)),
+    }
+}
+
+// The one word after the command's name, the numeral of a number that names a product.
+fn sample_number<'a>(alloc: Global, words: &'a [String]) -> Result<u32, Stop<'a>>
+    requires { list_all is_path (texts words.now) ≡ true }
+    ensures found { IfOk result (λ k. option_and_then (numeral 0 999) (one_operand (texts words.now)) ≡ Some k) }
+    ensures range { IfOk result (λ k. k ≤ 999) }
+    ensures refused { IfErr result
+        (IsWordsStop (option_and_then (numeral 0 999) (one_operand (texts words.now)) ≡ None)) }
+{
+    let word = one_operand(alloc, words)?;
+    match read_sample(word) {
+        Some(k) => Ok(k),
         None => Err(Stop::Refused(Cause::Words)),
     }
 }
@@ -64,6 +71,7 @@ pub fn read_words<'a>(alloc: Global, words: &'a [String]) -> Result<Command<'a>,
             let (path, degree) = file_and_degree(alloc, words)?;
             Ok(Command::Ring(path, degree))
         }
+        [name, ..] if name.as_str() == "sample" => Ok(Command::Sample(sample_number(alloc, words)?)),
         _ => Err(Stop::Refused(Cause::Words)),
     }
 }

@@ -14,13 +14,15 @@ use std::test::Fail;
 
 const KLEIN: &str = "coho ring 1\nprime 2\norder 4\ndegree 2\nranks 1 2 3\n\
     generators 2\nx_1_1\nx_1_2\nrelations 0\n\
-    subgroups 1\nsubgroup 1 rank 2 basis 1 2\nx_1_1 -> x_1_1\nx_1_2 -> x_1_2\n";
+    subgroups 1\nsubgroup 1 rank 2 basis 1 2\nx_1_1 -> x_1_1\nx_1_2 -> x_1_2\n\
+    parameters 2\nx_1_1\nx_1_2\nbound 1\nverdict complete\n";
 
 const DIHEDRAL: &str = "coho ring 1\nprime 2\norder 8\ndegree 2\nranks 1 2 3\n\
     generators 3\nx_1_1\nx_1_2\nx_2_1\nrelations 1\nx_1_1*x_1_2\n\
     subgroups 2\n\
     subgroup 1 rank 2 basis 1 4\nx_1_1 -> x_1_1\nx_1_2 -> 0\nx_2_1 -> x_1_1*x_1_2+x_1_2^2\n\
-    subgroup 2 rank 2 basis 2 4\nx_1_1 -> 0\nx_1_2 -> x_1_1\nx_2_1 -> x_1_1*x_1_2+x_1_2^2\n";
+    subgroup 2 rank 2 basis 2 4\nx_1_1 -> 0\nx_1_2 -> x_1_1\nx_2_1 -> x_1_1*x_1_2+x_1_2^2\n\
+    parameters 2\nx_1_1+x_1_2\nx_2_1\nbound 2\nverdict complete\n";
 
 fn resolved(
     rt: &impl Abort,

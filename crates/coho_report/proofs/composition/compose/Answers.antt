@@ -1,10 +1,14 @@
-use Rattle.std.proofs.Common.{◌≡◌, ◌∙◌, ◌+◌, suc, sym, ap, subst, arith}
+use Rattle.std.proofs.Common.{◌≡◌, ◌∙◌, ◌+◌, suc, List, sym, ap, subst, arith}
 use Rattle.std.proofs.lemmas.Result.{err_from_is_err_and}
 use Rattle.p_groups.specs.PGroups.{PGroup, largest_residue}
 use Rattle.group_table.specs.Tables.{order}
 use Rattle.ring_present.specs.Values.{generators_of}
 use Rattle.ring_present.proofs.RelationsOver.{degrees-are}
 use Rattle.coho_report.specs.Related.{AreRelated}
+use Rattle.coho_report.specs.Restrictors.{IsRestrictor, IsRestrictorOf}
+use Rattle.coho_report.specs.declared.restrictors.Restrictor.{Restrictor}
+use Rattle.coho_report.proofs.Related.{all-related}
+use Rattle.std.specs.Prelude.{All}
 use Rattle.coho_report.specs.Reports.{ranks_below}
 use Rattle.coho_report.specs.Subgroups.{IsToldOf}
 use Rattle.coho_report.proofs.CohomologyReports.{cohomology-report}
@@ -18,12 +22,23 @@ returns-in_err-ring-clause-refused c =
     rw (p.1, p.2) (ring_refused c.args.res.now.group c.args.n c.args.cap c.args.limit c.in_err-ring.field-0.0
     c.in_err-ring.ensures.refused)
 
+pub find_parameters-requires-clause-restrictors : goal.find_parameters-requires-clause-restrictors
+find_parameters-requires-clause-restrictors c =
+    let G = c.args.res.now.group in
+    let n = c.in_ok-ring.ring.degree in
+    let told = c.in_ok-told.ensures.told in
+    subst (λ (xs : List Restrictor). All (IsRestrictor G n) xs) (sym c.deref.ensures.value)
+    (all-related (IsRestrictorOf G n) (IsRestrictor G n) (λ s x r. r.restrictor) told.0
+    c.in_ok-told.told.restrictors.items told.3)
+
 pub invariant_of-result : goal.invariant_of-result
 invariant_of-result c =
     let G = c.args.res.now.group in
     let ring = c.in_ok-ring.ring in
-    let told = c.in_ok-subgroups.ensures.told in
-    told_counts G ring.degree ring.generators told.0 c.in_ok-subgroups.subgroups.items told.2
+    let told = c.in_ok-told.ensures.told in (
+      told_counts G ring.degree ring.generators told.0 c.in_ok-told.told.reports.items told.2,
+      c.in_ok-parameters.ensures.over,
+    )
 
 pub returns-clause-report : goal.returns-clause-report
 returns-clause-report c =
@@ -33,7 +48,7 @@ returns-clause-report c =
     let q = largest_residue G in
     let gs = generators_of q ring.generators in
     let next : c.args.n + 1 ≡ suc c.args.n = omega arith in
-    let told = c.in_ok-subgroups.ensures.told in
+    let told = c.in_ok-told.ensures.told in
     record {
       prime = through.prime_is;
       order_is = c.order-order.ensures.value
@@ -45,7 +60,7 @@ returns-clause-report c =
       presentation = through.presentation;
       subgroups = told.0;
       subgroups_are = told.1;
-      told = subst (λ n. AreRelated (IsToldOf G n gs) told.0 c.in_ok-subgroups.subgroups.items)
+      told = subst (λ n. AreRelated (IsToldOf G n gs) told.0 c.in_ok-told.told.reports.items)
           through.degree_is told.2;
     }
 
