@@ -13,6 +13,7 @@ use Rattle.std.specs.declared.result.Result.TheVariants.{Ok, Err}
 use Rattle.limits.specs.declared.TheConstants.{GREATEST_DEGREE}
 use Rattle.clap.specs.declared.error.kind.ErrorKind.{ErrorKind}
 use Rattle.clap.specs.declared.error.kind.ErrorKind.TheVariants as kind
+use Rattle.coho_main.specs.declared.samples.TheConstants.{GREATEST_SAMPLE}
 use Rattle.coho_main.specs.declared.cause.Cause.TheVariants as cause
 use Rattle.coho_main.specs.declared.stop.Stop.{Stop}
 use Rattle.coho_main.specs.declared.stop.Stop.TheVariants as stop
@@ -21,7 +22,8 @@ use Rattle.coho_main.specs.Steps.{OrRefuse}
 use Rattle.coho_main.specs.Stops.{IsWordsStop, Settles, parse_stop}
 use Rattle.coho_main.specs.Refusals.{words_refused}
 use Rattle.coho_main.specs.Outcome.{Ask}
-use Rattle.coho_main.specs.Words.{Command, Group, Resolve, Ring, asked, command, file_and_degree, is_path, one_operand, texts, two_operands, with_degree}
+use Rattle.coho_main.specs.Words.{Command, Group, Resolve, Ring, Sample, asked, command, file_and_degree, is_path}
+use Rattle.coho_main.specs.Words.{one_operand, sample_number, texts, two_operands, with_degree}
 
 abbrev Text : Type 0
 Text = List ℕ
@@ -69,6 +71,13 @@ ring_at (a ∷ []) h = refl
 ring_at (a ∷ b ∷ []) h = rw (both (is_path a) _ h).0 (same_degree Ring a (numeral 1 GREATEST_DEGREE b))
 ring_at (a ∷ b ∷ c ∷ rest) h = refl
 
+sample_at : (rest : List Text) → list_all is_path rest ≡ true
+    → command (codes "sample" ∷ rest) ≡ option_map Sample (sample_number (codes "sample" ∷ rest))
+sample_at [] h = refl
+sample_at (a ∷ []) h = refl
+sample_at (a ∷ b ∷ []) h = refl
+sample_at (a ∷ b ∷ c ∷ rest) h = refl
+
 pub group_is : (name : Text) (rest : List Text) → list_all is_path (name ∷ rest) ≡ true
     → bytes_eq name (codes "group") ≡ true
     → command (name ∷ rest) ≡ option_map Group (one_operand (name ∷ rest))
@@ -93,24 +102,32 @@ ring_is name rest h e =
     → command (n ∷ rest) ≡ of_degree Ring (file_and_degree (n ∷ rest)))
     (sym (is_name name (codes "ring") e)) (ring_at rest) h
 
+pub sample_is : (name : Text) (rest : List Text) → list_all is_path (name ∷ rest) ≡ true
+    → bytes_eq name (codes "sample") ≡ true
+    → command (name ∷ rest) ≡ option_map Sample (sample_number (name ∷ rest))
+sample_is name rest h e =
+    subst (λ n. list_all is_path (n ∷ rest) ≡ true
+    → command (n ∷ rest) ≡ option_map Sample (sample_number (n ∷ rest)))
+    (sym (is_name name (codes "sample") e)) (sample_at rest) h
+
 -- ---- words of no command
 
 pub other_is : (name : Text) (rest : List Text) → bytes_eq name (codes "group") ≡ false
     → bytes_eq name (codes "resolve") ≡ false → bytes_eq name (codes "ring") ≡ false
-    → command (name ∷ rest) ≡ None
-other_is name [] g r s = refl
-other_is name (a ∷ []) g r s = rw g refl
-other_is name (a ∷ b ∷ []) g r s = rw (r, s) refl
-other_is name (a ∷ b ∷ c ∷ rest) g r s = refl
+    → bytes_eq name (codes "sample") ≡ false → command (name ∷ rest) ≡ None
+other_is name [] g r s p = refl
+other_is name (a ∷ []) g r s p = rw (g, p) refl
+other_is name (a ∷ b ∷ []) g r s p = rw (r, s) refl
+other_is name (a ∷ b ∷ c ∷ rest) g r s p = refl
 
-dash_first : (word : Text) → is_path word ≡ false → numeral 1 GREATEST_DEGREE word ≡ None
-dash_first [] h = refl
-dash_first (b ∷ bs) h = subst (λ b. numeral 1 GREATEST_DEGREE (b ∷ bs) ≡ None) (sym dash) (at bs)
+dash_first : (low high : ℕ) (word : Text) → is_path word ≡ false → numeral low high word ≡ None
+dash_first low high [] h = refl
+dash_first low high (b ∷ bs) h = subst (λ b. numeral low high (b ∷ bs) ≡ None) (sym dash) (at bs)
   where
     dash : b ≡ 45
     dash = let e = negated (b == 45) h in grind (arith, nat_tests)
 
-    at : (bs : Text) → numeral 1 GREATEST_DEGREE (45 ∷ bs) ≡ None
+    at : (bs : Text) → numeral low high (45 ∷ bs) ≡ None
     at [] = refl
     at (c ∷ bs) = refl
 
@@ -119,6 +136,10 @@ unless : {A : Type 0} (t p : Bool) (x y : Option A) → (t ≡ true → p ≡ tr
 unless true true x y h k = h refl refl
 unless true false x y h k = k
 unless false p x y h k = k
+
+unless_named : {A : Type 0} (t : Bool) (x y : Option A) → (t ≡ true → x ≡ None) → y ≡ None → cond t x y ≡ None
+unless_named true x y h k = h refl
+unless_named false x y h k = k
 
 -- of the words after a plain name, and after a plain file, the next is not plain
 after_name : (name known : Text) (rest : List Text) → list_all is_path (name ∷ rest) ≡ false
@@ -140,11 +161,13 @@ pub dashed_is : (words : List Text) → list_all is_path words ≡ false → com
 dashed_is [] h = refl
 dashed_is (name ∷ []) h = refl
 dashed_is (name ∷ a ∷ []) h =
-    unless (bytes_eq name (codes "group")) (is_path a) (Some (Group a)) None
-    (λ e p. absurd (true≢false (after_file a [] (after_name name (codes "group") (a ∷ []) h refl e) p)))
-    refl
+    let dashed = λ (known : Text) (k : is_path known ≡ true) (e : bytes_eq name known ≡ true). after_name name known (a ∷ []) h k e in
+    unless (bytes_eq name (codes "group")) (is_path a) (Some (Group a)) _
+    (λ e p. absurd (true≢false (after_file a [] (dashed (codes "group") refl e) p)))
+    (unless_named (bytes_eq name (codes "sample")) (option_map Sample (numeral 0 GREATEST_SAMPLE a)) None
+    (λ e. ap (option_map Sample) (dash_first 0 GREATEST_SAMPLE a (ends a (dashed (codes "sample") refl e)))) refl)
 dashed_is (name ∷ a ∷ b ∷ []) h =
-    let no_degree = λ (known : Text) (k : is_path known ≡ true) (e : bytes_eq name known ≡ true) (p : is_path a ≡ true). dash_first b (ends b (after_file a (b ∷ []) (after_name name known (a ∷ b ∷ []) h k e) p)) in
+    let no_degree = λ (known : Text) (k : is_path known ≡ true) (e : bytes_eq name known ≡ true) (p : is_path a ≡ true). dash_first 1 GREATEST_DEGREE b (ends b (after_file a (b ∷ []) (after_name name known (a ∷ b ∷ []) h k e) p)) in
     unless (bytes_eq name (codes "resolve")) (is_path a)
     (option_map (Resolve a) (numeral 1 GREATEST_DEGREE b)) _
     (λ e p. ap (option_map (Resolve a)) (no_degree (codes "resolve") refl e p))
@@ -215,6 +238,19 @@ pub operands_none : (words : List Text) (k : ErrorKind) → (k ≡ kind.OutOfMem
 operands_none words k (inl m) = inl m
 operands_none words k (inr none) = inr (ap (option_and_then with_degree) none)
 
+pub number_found : (words : List Text) (word : Text) (k : ℕ) → one_operand words ≡ Some word
+    → numeral 0 GREATEST_SAMPLE word ≡ Some k → sample_number words ≡ Some k
+number_found words word k is number = ap (option_and_then (numeral 0 GREATEST_SAMPLE)) is ∙ number
+
+pub number_none : (words : List Text) (word : Text) → one_operand words ≡ Some word
+    → numeral 0 GREATEST_SAMPLE word ≡ None → sample_number words ≡ None
+number_none words word is number = ap (option_and_then (numeral 0 GREATEST_SAMPLE)) is ∙ number
+
+pub operand_none : (words : List Text) (k : ErrorKind) → (k ≡ kind.OutOfMemory) ⊎ (one_operand words ≡ None)
+    → (k ≡ kind.OutOfMemory) ⊎ (sample_number words ≡ None)
+operand_none words k (inl m) = inl m
+operand_none words k (inr none) = inr (ap (option_and_then (numeral 0 GREATEST_SAMPLE)) none)
+
 -- ---- the same of the words as they are given
 
 pub named : (words : List (String Global)) (name : String Global) → 1 ≤ length words
@@ -246,6 +282,10 @@ module _ (words rest : List Text) (plain : list_all is_path words ≡ true) (nam
   at_ring e = subst (λ ws. command ws ≡ of_degree Ring (file_and_degree ws)) (sym first)
       (ring_is name rest (subst (λ ws. list_all is_path ws ≡ true) first plain) e)
 
+  pub at_sample : bytes_eq name (codes "sample") ≡ true → command words ≡ option_map Sample (sample_number words)
+  at_sample e = subst (λ ws. command ws ≡ option_map Sample (sample_number ws)) (sym first)
+      (sample_is name rest (subst (λ ws. list_all is_path ws ≡ true) first plain) e)
+
   pub other_none : bytes_eq name (codes "group") ≡ false → bytes_eq name (codes "resolve") ≡ false
-      → bytes_eq name (codes "ring") ≡ false → command words ≡ None
-  other_none g r s = ap command first ∙ other_is name rest g r s
+      → bytes_eq name (codes "ring") ≡ false → bytes_eq name (codes "sample") ≡ false → command words ≡ None
+  other_none g r s p = ap command first ∙ other_is name rest g r s p

@@ -14,6 +14,9 @@ pub mod ParsedWords
 pub mod Commands
 pub mod Run
 pub mod TableExists
+pub mod ProductWords
+pub mod Agreement
+pub mod SampleGroups
 pub mod StagesExist
 pub mod Outcomes
 pub mod RingAnswers

@@ -11,4 +11,5 @@ pub mod Statuses
 pub mod Stages
 pub mod Resolving
 pub mod RingAnswers
+pub mod Products
 pub mod Samples

@@ -1,21 +1,10 @@
 -- The products of small groups that the digits of a number name.
-use Rattle.std.specs.Prelude.{ℕ, ◌+◌, ◌-◌, ◌%◌, ◌^◌, Bool, cond, leb, List, [], ◌∷◌, ◌++◌, map, replicate, codes, decimal}
-use Rattle.power_commutator.specs.Presentations.{Presentation, identity}
+use Rattle.std.specs.Prelude.{◌≡◌, ℕ, zero, suc, ◌+◌, ◌-◌, ◌%◌, ◌^◌, ◌≤◌, cond, leb, List, [], ◌∷◌, codes, decimal}
+use Rattle.power_commutator.specs.Presentations.{Presentation, IsPresentation}
 use Rattle.pc_group.specs.Parts.{elementary_abelian, with_power, with_commutator}
 use Rattle.coho_report.specs.Lines.{numbered, summary_lines}
 use Rattle.coho_report.specs.Values.{ReportValue}
-
--- the direct product of the groups of presentations over one prime: the generators of Q come after those of P
-abbrev pub direct_product : Presentation → Presentation → Presentation
-direct_product P Q = record {
-  prime = P.prime;
-  gens = P.gens + Q.gens;
-  powers = map (λ w. w ++ identity Q.gens) P.powers ++ map (λ w. identity P.gens ++ w) Q.powers;
-  commutators =
-      map (λ row. map (λ w. w ++ identity Q.gens) row) P.commutators
-      ++ map (λ row. replicate P.gens (identity (P.gens + Q.gens)) ++ map (λ w. identity P.gens ++ w) row)
-      Q.commutators;
-}
+use Rattle.coho_main.specs.Products.{direct_product}
 
 -- the cyclic groups of order 2, 4 and 8
 abbrev pub two : Presentation
@@ -36,11 +25,11 @@ quaternion = with_power (with_power dihedral 1 (0 ∷ 0 ∷ 1 ∷ [])) 2 (0 ∷ 
 
 -- the factor that a digit names, modulo 5
 abbrev pub factor_of : ℕ → Presentation
-factor_of 0 = two
-factor_of 1 = four
-factor_of 2 = eight
-factor_of 3 = dihedral
-factor_of _ = quaternion
+factor_of zero = two
+factor_of (suc zero) = four
+factor_of (suc (suc zero)) = eight
+factor_of (suc (suc (suc zero))) = dihedral
+factor_of (suc (suc (suc (suc d)))) = quaternion
 
 -- P with one more factor, which is left out where the order would be above 64
 abbrev pub with_factor : Presentation → Presentation → Presentation
@@ -54,6 +43,12 @@ with_digits P (b ∷ digits) = with_digits (with_factor P (factor_of ((b - 48) %
 -- the product that the decimal digits of k name
 abbrev pub sample : ℕ → Presentation
 sample k = with_digits (elementary_abelian 2 0) (decimal k)
+
+-- a presentation of a group of order 2^n, with n at most m
+pub record IsSmall (m : ℕ) (P : Presentation) : Type 0 where
+  pub valid : IsPresentation P
+  pub prime : P.prime ≡ 2
+  pub few : P.gens ≤ m
 
 -- the number, and the summary of the report
 abbrev pub sample_lines : ℕ → ReportValue → List (List ℕ)

@@ -8,6 +8,7 @@ use Rattle.std.specs.List.{Contains}
 use Rattle.std.specs.Str.{bytes_eq}
 use Rattle.limits.specs.declared.TheConstants.{GREATEST_DEGREE}
 use Rattle.pc_text.specs.Numerals.{numeral}
+use Rattle.coho_main.specs.declared.samples.TheConstants.{GREATEST_SAMPLE}
 use Rattle.coho_main.specs.declared.words.Command.{Command as Named}
 use Rattle.coho_main.specs.declared.words.Command.TheVariants as named
 
@@ -49,7 +50,7 @@ abbrev pub IsWithin : Command → Type 0
 IsWithin (Group path) = ⊤
 IsWithin (Resolve path n) = (1 ≤ n) × (n ≤ GREATEST_DEGREE)
 IsWithin (Ring path n) = (1 ≤ n) × (n ≤ GREATEST_DEGREE)
-IsWithin (Sample k) = k ≤ 999
+IsWithin (Sample k) = k ≤ GREATEST_SAMPLE
 
 -- a word that may stand for a file: it is not empty, and begins with no dash
 abbrev pub is_path : List ℕ → Bool
@@ -61,7 +62,7 @@ abbrev pub command : List (List ℕ) → Option Command
 command (name ∷ word ∷ []) =
     if bytes_eq name (codes "group") && is_path word
     then Some (Group word)
-    else (if bytes_eq name (codes "sample") then option_map Sample (numeral 0 999 word) else None)
+    else (if bytes_eq name (codes "sample") then option_map Sample (numeral 0 GREATEST_SAMPLE word) else None)
 command (name ∷ path ∷ degree ∷ []) =
     if bytes_eq name (codes "resolve") && is_path path
     then option_map (Resolve path) (numeral 1 GREATEST_DEGREE degree)
@@ -86,6 +87,10 @@ with_degree p = option_map (λ n. (p.0, n)) (numeral 1 GREATEST_DEGREE p.1)
 
 abbrev pub file_and_degree : List (List ℕ) → Option (List ℕ × ℕ)
 file_and_degree words = option_and_then with_degree (two_operands words)
+
+-- the number that names a product, where the one word is its numeral
+abbrev pub sample_number : List (List ℕ) → Option ℕ
+sample_number words = option_and_then (numeral 0 GREATEST_SAMPLE) (one_operand words)
 
 -- the path that is there
 abbrev paths_of : Option (List ℕ) → List (List ℕ)

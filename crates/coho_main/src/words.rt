@@ -1,11 +1,10 @@
-ghost use Rattle.std.specs.Prelude.{◌≡◌, ◌≤◌, IfErr, IfOk, None, Some, option_and_then, true};
-ghost use Rattle.pc_text.specs.Numerals.{numeral};
+ghost use Rattle.std.specs.Prelude.{◌≡◌, ◌≤◌, IfErr, IfOk, None, Some, true};
 ghost use Rattle.std.specs.List.{list_all};
-ghost use Rattle.coho_main.specs.Words.{IsWithin, asked, command, file_and_degree, is_path, one_operand, texts};
+ghost use Rattle.coho_main.specs.Words.{IsWithin, asked, command, file_and_degree, is_path, sample_number, texts};
 ghost use Rattle.coho_main.specs.Outcome.{Ask};
 ghost use Rattle.coho_main.specs.Stops.{IsWordsStop, Settles};
 
-use crate::{Cause, Stop, all_plain, one_operand, read_degree, read_sample, two_operands};
+use crate::{Cause, GREATEST_SAMPLE, Stop, all_plain, one_operand, read_degree, read_sample, two_operands};
 use limits::GREATEST_DEGREE;
 use std::alloc::Global;
 
@@ -37,13 +36,12 @@ fn file_and_degree<'a>(alloc: Global, words: &'a [String]) -> Result<(&'a str, u
     }
 }
 
-// The one word after the command's name, the numeral of a number that names a product.
+// The number that names a product, by the one word after the command's name.
 fn sample_number<'a>(alloc: Global, words: &'a [String]) -> Result<u32, Stop<'a>>
     requires { list_all is_path (texts words.now) ≡ true }
-    ensures found { IfOk result (λ k. option_and_then (numeral 0 999) (one_operand (texts words.now)) ≡ Some k) }
-    ensures range { IfOk result (λ k. k ≤ 999) }
-    ensures refused { IfErr result
-        (IsWordsStop (option_and_then (numeral 0 999) (one_operand (texts words.now)) ≡ None)) }
+    ensures found { IfOk result (λ k. sample_number (texts words.now) ≡ Some k) }
+    ensures range { IfOk result (λ k. k ≤ GREATEST_SAMPLE) }
+    ensures refused { IfErr result (IsWordsStop (sample_number (texts words.now) ≡ None)) }
 {
     let word = one_operand(alloc, words)?;
     match read_sample(word) {

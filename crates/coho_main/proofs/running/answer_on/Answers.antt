@@ -19,3 +19,8 @@ pub returns-in-Ring : goal.returns-in-Ring
 returns-in-Ring c = subst (λ named. Settles lines_of
     (Answer (asked named) c.args.consistent.now) c.answer_ring.result)
     (sym c.in-Ring.is) c.answer_ring.ensures
+
+pub returns-in-Sample : goal.returns-in-Sample
+returns-in-Sample c = subst (λ named. Settles lines_of
+    (Answer (asked named) c.args.consistent.now) c.answer_sample.result)
+    (sym c.in-Sample.is) c.answer_sample.ensures
