@@ -1,5 +1,5 @@
 -- The command of the words, by its name and the words after it.
-use Rattle.std.proofs.Common.{◌≡◌, ◌∙◌, ◌⊎◌, inl, inr, Bool, true, false, not, ◌&&◌, ◌==◌, ℕ, List, [], ◌∷◌, length, slice_index_or, drop, string_bytes, String, Global, ◌≤◌, cond, sym, ap, subst, refl, codes, arith, true≢false}
+use Rattle.std.proofs.Common.{◌≡◌, ◌∙◌, ◌⊎◌, inl, inr, Bool, true, false, not, ◌&&◌, ◌==◌, ℕ, List, [], ◌∷◌, length, slice_index_or, drop, string_bytes, String, Global, ◌<◌, ◌≤◌, cond, sym, ap, subst, refl, codes, arith, true≢false}
 use Rattle.std.proofs.lemmas.Slice.Eq.{bytes_eq-Decides}
 use Rattle.std.proofs.lemmas.Bool.Decides.{nat_tests}
 use Rattle.std.specs.declared.option.Option.{Option}
@@ -286,6 +286,21 @@ module _ (words rest : List Text) (plain : list_all is_path words ≡ true) (nam
   at_sample e = subst (λ ws. command ws ≡ option_map Sample (sample_number ws)) (sym first)
       (sample_is name rest (subst (λ ws. list_all is_path ws ≡ true) first plain) e)
 
-  pub other_none : bytes_eq name (codes "group") ≡ false → bytes_eq name (codes "resolve") ≡ false
-      → bytes_eq name (codes "ring") ≡ false → bytes_eq name (codes "sample") ≡ false → command words ≡ None
-  other_none g r s p = ap command first ∙ other_is name rest g r s p
+same_name : (words rest : List Text) (a b : Text) → words ≡ a ∷ rest → words ≡ b ∷ rest → a ≡ b
+same_name words rest a b h k = cc
+
+-- words whose name, as it is read for each command, is that of none
+pub unnamed : (words : List Text) (a b c d : Text) → words ≡ a ∷ drop 1 words → words ≡ b ∷ drop 1 words
+    → words ≡ c ∷ drop 1 words → words ≡ d ∷ drop 1 words → bytes_eq a (codes "group") ≡ false
+    → bytes_eq b (codes "resolve") ≡ false → bytes_eq c (codes "ring") ≡ false
+    → bytes_eq d (codes "sample") ≡ false → command words ≡ None
+unnamed words a b c d h i j k g r s p =
+    let rest = drop 1 words in
+    ap command k ∙ other_is d rest
+    (subst (λ n. bytes_eq n (codes "group") ≡ false) (same_name words rest a d h k) g)
+    (subst (λ n. bytes_eq n (codes "resolve") ≡ false) (same_name words rest b d i k) r)
+    (subst (λ n. bytes_eq n (codes "ring") ≡ false) (same_name words rest c d j k) s) p
+
+pub no_words : (words : List (String Global)) → length words < 1 → command (texts words) ≡ None
+no_words [] h = refl
+no_words (x ∷ xs) h = absurd (omega arith)
