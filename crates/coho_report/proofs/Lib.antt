@@ -29,3 +29,4 @@ pub mod StandardRows
 pub mod Finding
 pub mod Places
 pub mod Chosen
+pub mod ParametersTold
