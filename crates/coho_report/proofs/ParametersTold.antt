@@ -46,7 +46,7 @@ low_exponent p r h small = go (cases_lt 8 r)
   where
     go : (8 < r) ⊎ (r ≤ 8) → r ≤ 8
     go (inl above) =
-        let two : 2 ^ r ≤ p ^ r = pow-le-pow_left {2} {p} h r in
+        let two : 2 ^ r ≤ p ^ r = pow-le-pow_left {n = 2} {m = p} h r in
         let more : 2 ^ 8 < 2 ^ r = pow_below 8 r above in
         absurd (omega (arith, two, more, small))
     go (inr low) = low
