@@ -30,3 +30,5 @@ pub mod Finding
 pub mod Places
 pub mod Chosen
 pub mod ParametersTold
+pub mod RestrictedCocycles
+pub mod ParameterCocycles
