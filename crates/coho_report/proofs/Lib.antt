@@ -29,3 +29,6 @@ pub mod StandardRows
 pub mod Finding
 pub mod Places
 pub mod Chosen
+pub mod ParametersTold
+pub mod RestrictedCocycles
+pub mod ParameterCocycles

@@ -3,7 +3,7 @@
 use Rattle.std.specs.Prelude.{◌≡◌, ℕ, Option, Some, None, List, [], length, map, slice_index_or}
 use Rattle.p_groups.specs.PGroups.{PGroup, largest_residue, prime_of}
 use Rattle.graded_polynomials.specs.Polynomials.{Polynomial}
-use Rattle.graded_algebra.specs.Algebras.{Generator, degrees, value}
+use Rattle.graded_algebra.specs.Algebras.{Generator, value}
 use Rattle.graded_algebra.specs.Vectors.{Vector}
 use Rattle.gc_poly.specs.Generators.{Generators}
 use Rattle.param_test.specs.Bounds.{greatest}

@@ -43,7 +43,8 @@ fn standard_classes(alloc: Global, res: &Resolution, ring: &Ring, d: u32) -> Res
     ensures values { IfOk result (λ m. AreValues (largest_residue res.now.group) (cohomology res.now.group)
         (generators_of (largest_residue res.now.group) ring.now.generators) (standard_of ring.now d) m.rows) }
     ensures standard { IfOk result (λ _. AreStandard (largest_residue res.now.group)
-        (cohomology res.now.group) (generators_of (largest_residue res.now.group) ring.now.generators) d (standard_of ring.now d)) }
+        (cohomology res.now.group)
+        (generators_of (largest_residue res.now.group) ring.now.generators) d (standard_of ring.now d)) }
 {
     let rank = res.stage_at(d).rank();
     let mut classes = Matrix::new(alloc, ring.gens().prime(), rank);
