@@ -9,12 +9,14 @@ mod laws;
 mod matrices;
 mod moves;
 mod next;
+mod parts;
 mod resolution;
 mod sections;
 mod stage;
 
 pub use fault::ResFault;
 pub use laws::{boundary_law, exactness_law, one_stage_law, section_law, stage_exists_law};
+pub use parts::StageParts;
 pub use resolution::Resolution;
 pub use stage::Stage;
 
