@@ -1,6 +1,6 @@
 -- The laws of stage files for the stages of a group.
 use Rattle.std.proofs.Common.{◌≡◌, ℕ, suc, ◌-◌, ◌≤◌, List, take, None, sym, ◌∙◌}
-use Rattle.p_groups.specs.PGroups.{PGroup, largest_residue, group, order_of}
+use Rattle.p_groups.specs.PGroups.{PGroup, largest_residue, group}
 use Rattle.p_groups.proofs.Fields.{field, residues}
 use Rattle.group_algebra.specs.Coordinates.{layer_coordinates}
 use Rattle.min_res.specs.Stages.{stage_rows}

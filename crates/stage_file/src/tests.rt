@@ -1,4 +1,5 @@
 use super::*;
+use fp_rows::RowRef;
 use group_algebra::Algebra;
 use group_table::Prime;
 use min_res::{Resolution, Stage, StageParts};
@@ -57,16 +58,32 @@ fn names_the_first_wrong_field(rt: HostRuntime) {
     }
 }
 
-fn rank_of(bytes: &[u8]) -> Option<usize> {
-    match next_record(bytes, &shape()) {
-        Record::Whole(parts) => Some(parts.rank()),
-        Record::Cut | Record::Malformed(_) => None,
+fn pair_of(r: RowRef<'_>) -> Option<(u8, u8)> {
+    if r.len() == 2 {
+        Some((r.get(0), r.get(1)))
+    } else {
+        None
     }
+}
+
+/// The position, the row of the kernel and the section of a record that has one of each.
+fn parts_of(bytes: &[u8]) -> Option<(u32, Option<(u8, u8)>, Option<(u8, u8)>)> {
+    let Record::Whole(parts) = next_record(bytes, &shape()) else {
+        return None;
+    };
+    if parts.rank() != 1 || parts.previous != 1 || parts.width != 2 {
+        return None;
+    }
+    Some((
+        parts.position(0),
+        pair_of(parts.kernel_row(0)),
+        pair_of(parts.section_row(0)),
+    ))
 }
 
 #[test]
 fn reads_whole_records(rt: HostRuntime) {
-    assert_eq!(rt; rank_of(&FIRST), Some(1));
+    assert_eq!(rt; parts_of(&FIRST), Some((0, Some((0, 1)), Some((1, 0)))));
     for len in [0, 3, 4, 45] {
         assert!(rt; len < FIRST.len());
         let record = next_record(&FIRST[..len], &shape());
@@ -104,13 +121,22 @@ fn compares_headers(rt: HostRuntime) -> Result<(), Fail> {
             bytes[at] = b'!';
         }
         assert!(rt; len <= bytes.len());
-        assert_eq!(rt; read_header(&bytes[..len], &HEADER), answer, "byte {at} of {len}");
+        assert_eq!(rt;
+            read_header(&bytes[..len], &HEADER),
+            answer,
+            "byte {at} of {len}"
+        );
     }
     Ok(())
 }
 
 /// Appends the record of the last stage.
-fn append_record(rt: &impl Abort, alloc: Global, file: &mut Vec<u8>, r: &Resolution) -> Result<(), Fail> {
+fn append_record(
+    rt: &impl Abort,
+    alloc: Global,
+    file: &mut Vec<u8>,
+    r: &Resolution,
+) -> Result<(), Fail> {
     let stage = r.stage_at(r.last());
     assert!(rt; stage.degree() >= 1);
     assert!(rt; stage.degree() <= 24);
@@ -121,7 +147,7 @@ fn append_record(rt: &impl Abort, alloc: Global, file: &mut Vec<u8>, r: &Resolut
 
 /// The stage file of the group of two elements to degree n.
 fn file_of_two(rt: &impl Abort, alloc: Global, n: u32) -> Result<Vec<u8>, Fail> {
-    let algebra = Algebra::build(alloc, &SmallGroup::Cyclic2.group(alloc)?)?;
+    let algebra = Algebra::build(alloc, &SmallGroup::Two.group(alloc)?)?;
     let mut resolution = Resolution::start(alloc, algebra)?;
     let mut file = Vec::new(alloc);
     file.extend_from_slice(&HEADER)?;
