@@ -1,16 +1,19 @@
 -- Numbers and rows of bytes by their places.
-use Rattle.std.proofs.Common.{◌≡◌, ℕ, zero, suc, ◌+◌, ◌-◌, ◌*◌, ◌<◌, ◌≤◌, true, false, ◌&&◌, List, ◌∷◌, length, map, take, drop, get_or, refl, sym, ap, ap₂, ◌∙◌, arith, ◌⊎◌, inl, inr}
+use Rattle.std.proofs.Common.{◌≡◌, ℕ, zero, suc, ◌+◌, ◌-◌, ◌*◌, ◌<◌, ◌≤◌, true, false, ◌&&◌, List, ◌∷◌}
+use Rattle.std.proofs.Common.{length, map, take, drop, get_or, refl, sym, ap, ap₂, ◌∙◌, arith, ◌⊎◌, inl, inr}
 use mathlib.Core.Path.{subst}
 use Rattle.std.specs.Int.{w16, from_be_bytes}
 use Rattle.std.proofs.Math.Dec.{ltb, leb}
 use Rattle.std.specs.List.{list_all}
 use Rattle.std.proofs.lemmas.Bool.{lt-ltb, le-leb, lt-leb, le-ltb, and_left, and_right}
-use Rattle.std.proofs.lemmas.List.{drop-drop, length-map, get_or-map, length-take, length-drop, length-take-le, get_or-take, get_or-drop, drop_all, drop_more}
+use Rattle.std.proofs.lemmas.List.{drop-drop, length-map, get_or-map, length-take, length-drop}
+use Rattle.std.proofs.lemmas.List.{length-take-le, get_or-take, get_or-drop, drop_all, drop_more}
 use Rattle.std.proofs.Math.Nat.{mul-le-mul}
 use Rattle.linear_algebra.specs.Rows.{row}
 use Rattle.std.specs.Str.{bytes_eq}
 use Rattle.sha2.specs.Sha256.{sha256}
-use Rattle.stage_records.specs.Readings.{numbers_in, rows_in, are_places, part, is_below, body_length, parts_at, Whole, read_parts}
+use Rattle.stage_records.specs.Readings.{numbers_in, rows_in, are_places, part, is_below, body_length}
+use Rattle.stage_records.specs.Readings.{parts_at, Whole, read_parts}
 use Rattle.stage_records.proofs.Tests.{on}
 use Rattle.stage_records.proofs.Bytes.{length-numbers_in, all-below, places-true}
 use Rattle.stage_records.proofs.Whole.{square}

@@ -1,5 +1,6 @@
 -- A stage of a group against the record of its degree.
-use Rattle.std.proofs.Common.{◌≡◌, ℕ, suc, ◌+◌, ◌-◌, ◌*◌, ◌<◌, ◌≤◌, List, length, map, get_or, Some, refl, sym, ap, ap₂, ◌∙◌, arith}
+use Rattle.std.proofs.Common.{◌≡◌, ℕ, suc, ◌+◌, ◌-◌, ◌*◌, ◌<◌, ◌≤◌, List, length, map, get_or, Some, refl}
+use Rattle.std.proofs.Common.{sym, ap, ap₂, ◌∙◌, arith}
 use Rattle.std.specs.Prelude.{unwrap_or, []}
 use mathlib.Core.Path.{subst}
 use Rattle.std.specs.declared.option.Option.{Option}
