@@ -16,3 +16,5 @@ pub mod OneStage
 pub mod BlockSums
 pub mod Candidates
 pub mod CheckOrder
+pub mod NextParts
+pub mod AdoptedStage

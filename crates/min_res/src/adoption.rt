@@ -1,7 +1,7 @@
 //! A stage from parts that come from outside.
 
 ghost use Rattle.group_table.specs.Prime.{prime_value};
-ghost use Rattle.min_res.specs.Candidates.{IsBoundaryBy, IsCandidate, kernel_by};
+ghost use Rattle.min_res.specs.Candidates.{IsBoundaryBy, IsCandidate, kept_parts, kernel_by};
 ghost use Rattle.min_res.specs.Defined.{IsStageAt};
 ghost use Rattle.min_res.specs.RecordChecks.{IsNotAdopted, MayFollow};
 ghost use Rattle.p_groups.specs.PGroups.{order_of, prime_of};
@@ -131,7 +131,7 @@ pub(crate) fn adopted_stage<S: StageParts>(
     test(alloc, algebra, last, &boundary, &kernel)?;
     Ok(Stage {
         degree: last.degree() + 1,
-        rank: boundary.positions.len(),
+        rank: boundary.positions().len(),
         kernel: Rc::new(alloc, kernel)?,
         boundary: Some(boundary),
     })
