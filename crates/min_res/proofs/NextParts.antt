@@ -10,7 +10,8 @@ use Rattle.p_groups.specs.PGroups.{PGroup, largest_residue, group, order_of}
 use Rattle.p_groups.proofs.Fields.{field}
 use Rattle.group_algebra.specs.Coordinates.{layer_coordinates}
 use Rattle.min_res.specs.Stages.{stage_rows, rank_of}
-use Rattle.min_res.specs.RecordChecks.{MayFollow, Passes, HoldsAt, row_count, number_of, IsFirstFailure, list_before}
+use Rattle.min_res.specs.RecordChecks.{MayFollow, Passes, HoldsAt, AllHold, row_count}
+use Rattle.min_res.specs.RecordChecks.{IsFirstFailure, list_before}
 use Rattle.min_res.specs.declared.check.Check.{Check}
 use Rattle.min_res.specs.declared.check.Check.TheVariants as check
 use Rattle.min_res.proofs.StageLaws.{submodule-list, parts-are, parts-one}
@@ -27,11 +28,7 @@ echelon-of rows h = record {
 }
 
 module _ (G : PGroup) (d : ℕ) (Q : StageParts) where
-  -- each check holds at each of its rows
-  abbrev AllHold : Type 0
-  AllHold = (c : Check) (k : ℕ) → k < row_count G d Q c → HoldsAt G d Q c k
-
-  pub passes-all : AllHold → Passes G d Q
+  pub passes-all : AllHold G d Q → Passes G d Q
   passes-all h = record {
     echelon = echelon-of Q.kernel (λ k l. h check.ReducedKernel k l);
     kernel_to_zero = λ k l. h check.KernelToZero k l;
@@ -41,7 +38,7 @@ module _ (G : PGroup) (d : ℕ) (Q : StageParts) where
     sections_before = λ k l no i g. h check.LaterPositions k l no i g;
   }
 
-  pub all-passes : Passes G d Q → AllHold
+  pub all-passes : Passes G d Q → AllHold G d Q
   all-passes P check.ReducedKernel k l = reduced Q.kernel k P.echelon l
   all-passes P check.KernelToZero k l = P.kernel_to_zero k l
   all-passes P check.SectionsToRows k l = P.sections_to_rows k l

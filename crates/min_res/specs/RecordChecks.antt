@@ -75,6 +75,10 @@ module _ (G : PGroup) (d : ℕ) (Q : StageParts) where
       → (i : Below (length Q.positions)) → k < slice_index Q.positions i.0
       → HasSumZero G (length Q.positions) (row Q.sections k) i
 
+  -- each check holds at each of its rows
+  abbrev pub AllHold : Type 0
+  AllHold = (c : Check) (k : ℕ) → k < row_count c → HoldsAt c k
+
   -- it fails at row k, it holds at the rows before, and the checks before hold at all their rows
   pub record IsFirstFailure (c : Check) (k : ℕ) : Type 0 where
     pub inside : k < row_count c

@@ -23,7 +23,9 @@ mod stage;
 pub use adopt_fault::AdoptFault;
 pub use check::Check;
 pub use fault::ResFault;
-pub use laws::{boundary_law, exactness_law, one_stage_law, section_law, stage_exists_law};
+pub use laws::{
+    boundary_law, exactness_law, one_stage_law, row_checks_law, section_law, stage_exists_law,
+};
 pub use parts::StageParts;
 pub use resolution::Resolution;
 pub use stage::Stage;

@@ -6,8 +6,7 @@ use Rattle.min_res.proofs.adoption.kernel_list.Goals as goal
 
 pub returns-in-Err-Not-clause-refused : goal.returns-in-Err-Not-clause-refused
 returns-in-Err-Not-clause-refused g c =
-    let h = rw c.in-Err-Not.field-0-is at c.in-Err-Not.ensures.refused in
-    (
+    let h = rw c.in-Err-Not.field-0-is at c.in-Err-Not.ensures.refused in (
       check_of.ReducedKernel,
       c.number.ensures,
       first-bad c.args.algebra.now c.args.last.now.degree (g.S.StageParts.parts c.args.given.now)
