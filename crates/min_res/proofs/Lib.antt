@@ -13,3 +13,8 @@ pub mod StageAbove
 pub mod StageLists
 pub mod StageReadings
 pub mod OneStage
+pub mod BlockSums
+pub mod Candidates
+pub mod CheckOrder
+pub mod NextParts
+pub mod AdoptedStage

@@ -6,3 +6,6 @@ pub mod MoveRows
 pub mod Shapes
 pub mod Refusals
 pub mod Stores
+pub mod RecordChecks
+pub mod Candidates
+pub mod Held

@@ -57,6 +57,12 @@ impl Boundary {
         self.positions.get(i)
     }
 
+    pub(crate) fn positions(&self) -> &Positions
+        ensures { result.now ≡ self.now.positions }
+    {
+        &self.positions
+    }
+
     pub(crate) fn image(&self, i: usize) -> RowRef<'_>
         requires { i < length self.now.positions }
         ensures entries { entries_of result ≡ row (rows_at self.now.source.rows self.now.positions) i }

@@ -3,15 +3,20 @@
 ghost use Rattle.fp_rows.specs.Refs.{entries_of, modulus_of};
 ghost use Rattle.min_res.specs.Defined.{InK, IsExactMinimal, IsSectionOf, IsStageAt, σ};
 ghost use Rattle.min_res.specs.Refusals.{IsRefusal};
-ghost use Rattle.min_res.specs.Stages.{rank_of};
+ghost use Rattle.min_res.specs.RecordChecks.{IsNotAdopted, MayFollow};
+ghost use Rattle.min_res.specs.Stages.{rank_of, stage_rows};
+ghost use Rattle.resolution_stages.specs.Chain.{parts_of};
 ghost use Rattle.std.specs.Prelude.{◌≡◌, ◌≤◌, ◌<◌, ◌+◌, ◌-◌, ◌*◌, ◌^◌, ◌↔◌, suc, length};
 ghost use Rattle.std.specs.Prelude.{IfErr, IfOk, IfSome, IsNone, OnErr, OnOk};
 ghost use Rattle.p_groups.specs.PGroups.{order_of, prime_of};
 
+use crate::adopt_fault::AdoptFault;
+use crate::adoption::adopted_stage;
 use crate::fault::ResFault;
 use crate::first::first_stage;
 use crate::generators::generators;
 use crate::next::next_stage;
+use crate::parts::StageParts;
 use crate::stage::Stage;
 use fp_rows::{Row, RowRef};
 use group_algebra::Algebra;
@@ -97,6 +102,46 @@ impl Resolution {
     {
         let last = self.stage_at(self.last());
         match next_stage(self.alloc, &self.algebra, &self.generators, last, limit) {
+            Ok(stage) => Ok(stage),
+            Err(fault) => Err(fault),
+        }
+    }
+
+    /// Adds the stage with these parts, which have the sizes of the next one. They are verified by products
+    /// alone, and nothing is eliminated. `False` comes exactly where they are not those of the next stage,
+    /// with the first check that fails and its first row. After an error the resolution is as before.
+    pub fn adopt<S: StageParts>(&mut self, given: &S) -> Result<(), AdoptFault>
+        requires few { self.old.last + 1 < 2 ^ 32 }
+        requires prime { S.modulus given.now ≡ prime_of self.old.group }
+        requires follows { MayFollow self.old.group self.old.last (S.parts given.now) }
+        requires small { order_of self.old.group * length (S.parts given.now).positions ≤ 2 ^ 28 }
+        ensures group { self.new.group ≡ self.old.group }
+        ensures grown { OnOk result (self.new.last ≡ suc self.old.last) }
+        ensures next { OnOk result
+            (S.parts given.now ≡ parts_of (stage_rows self.old.group) self.old.last) }
+        ensures refused { IfErr result (IsNotAdopted self.old.group self.old.last (S.parts given.now)) }
+        ensures kept { OnErr result (self.new ≡ self.old) }
+    {
+        let stage = self.adopted(given)?;
+        let next = Rc::new(self.alloc, stage)?;
+        self.stages.push(next)?;
+        Ok(())
+    }
+
+    // The stage after the last one, with these parts.
+    fn adopted<S: StageParts>(&self, given: &S) -> Result<Stage, AdoptFault>
+        requires few { self.now.last + 1 < 2 ^ 32 }
+        requires prime { S.modulus given.now ≡ prime_of self.now.group }
+        requires follows { MayFollow self.now.group self.now.last (S.parts given.now) }
+        requires small { order_of self.now.group * length (S.parts given.now).positions ≤ 2 ^ 28 }
+        ensures next { OnOk result
+            (S.parts given.now ≡ parts_of (stage_rows self.now.group) self.now.last) }
+        ensures stage { IfOk result (λ s. IsStageAt self.now.group (suc self.now.last) s) }
+        ensures width { IfOk result (λ s. s.kernel.width ≤ 2 ^ 28) }
+        ensures refused { IfErr result (IsNotAdopted self.now.group self.now.last (S.parts given.now)) }
+    {
+        let last = self.stage_at(self.last());
+        match adopted_stage(self.alloc, &self.algebra, last, given) {
             Ok(stage) => Ok(stage),
             Err(fault) => Err(fault),
         }
