@@ -28,3 +28,7 @@ pub record GainsImage (p : ℕ) (sizes : List ℕ) (rank : ℕ) (R : ℕ
   pub each : (i j : ℕ) → i < rank → j < size_of sizes
       → IsCongruent p (entry new (place_of sizes rank i j))
       (entry old (place_of sizes rank i j) + image_entry sizes rank R c v i j)
+
+-- each entry of block i is 0
+abbrev pub IsZeroBlock : List ℕ → ℕ → ℕ → List ℕ → Type 0
+IsZeroBlock sizes rank i v = (k : ℕ) → k < size_of sizes → entry v (place_of sizes rank i k) ≡ 0

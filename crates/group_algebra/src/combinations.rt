@@ -1,11 +1,11 @@
 //! The images of the blocks of a row.
 
-ghost use Rattle.std.specs.Prelude.{◌≡◌, ◌+◌, ◌*◌, ◌^◌, ◌<◌, ◌≤◌, ℕ, length};
+ghost use Rattle.std.specs.Prelude.{◌≡◌, ◌↔◌, ◌+◌, ◌*◌, ◌^◌, ◌<◌, ◌≤◌, ℕ, length, IsTrue};
 ghost use Rattle.linear_algebra.specs.Modular.{IsCongruent, sum_below};
 ghost use Rattle.linear_algebra.specs.Rows.{entry, IsRow};
 ghost use Rattle.radical_layers.specs.Placing.{size_of, place_of};
 ghost use Rattle.fp_rows.specs.Refs.{entries_of, modulus_of};
-ghost use Rattle.group_algebra.specs.Gains.{stepped, BlockGains, image_entry, GainsImage};
+ghost use Rattle.group_algebra.specs.Gains.{stepped, BlockGains, image_entry, GainsImage, IsZeroBlock};
 
 use crate::places::Places;
 use fp_rows::{Matrix, Row, RowRef, ShortRow};
@@ -31,7 +31,28 @@ fn add_to_block(places: &Places, rank: usize, block: usize, c: u8, r: RowRef<'_>
     }
 }
 
-/// Where a linear map of the group algebra takes the members of the layer basis: to every step-th row, from the first on.
+/// Whether each entry of a block of v is 0.
+pub(crate) fn is_zero_block(places: &Places, rank: usize, block: usize, v: RowRef<'_>) -> bool
+    requires block { block < rank }
+    requires length { length (entries_of v) ≡ size_of places.now * rank }
+    requires small { size_of places.now * rank < 2 ^ 64 }
+    ensures { IsTrue result ↔ IsZeroBlock places.now rank block (entries_of v.entry) }
+{
+    let _length = v.len();
+    let mut start = 0;
+    for i in 0..places.layers() {
+        let size = places.size(i);
+        let at = places.layer_place(rank, block, i, start);
+        if !v.part(at, size).is_zero() {
+            return false;
+        }
+        start += size;
+    }
+    true
+}
+
+/// Where a linear map of the group algebra takes the members of the layer basis: to every step-th row, from
+/// the first on.
 #[derive(Clone, Copy)]
 pub(crate) struct Images<'a> {
     pub(crate) rows: &'a Matrix,
@@ -90,7 +111,8 @@ fn block_image(
     requires small { size_of places.now * rank < 2 ^ 64 }
     requires width { images.rows.now.width ≡ size_of places.now }
     requires short { size_of places.now ≤ 256 }
-    requires inside { (k : ℕ) → k < size_of places.now → images.first + k * images.step < length images.rows.now.rows }
+    requires inside { (k : ℕ) → k < size_of places.now
+        → images.first + k * images.step < length images.rows.now.rows }
     requires few { length images.rows.now.rows ≤ 65536 }
     ensures prime { result.p ≡ modulus_of v.entry }
     ensures length { length result.entries ≡ size_of places.now }
@@ -123,10 +145,12 @@ fn add_block_image(
     requires primes { (modulus_of v ≡ out.old.p) × (images.rows.now.p ≡ out.old.p) }
     requires block { block < rank }
     requires factor { c < out.old.p }
-    requires lengths { (length (entries_of v) ≡ size_of places.now * rank) × (length out.old.entries ≡ size_of places.now * rank) }
+    requires lengths { (length (entries_of v) ≡ size_of places.now * rank)
+        × (length out.old.entries ≡ size_of places.now * rank) }
     requires small { size_of places.now * rank < 2 ^ 64 }
     requires width { images.rows.now.width ≡ size_of places.now }
-    requires inside { (k : ℕ) → k < size_of places.now → images.first + k * images.step < length images.rows.now.rows }
+    requires inside { (k : ℕ) → k < size_of places.now
+        → images.first + k * images.step < length images.rows.now.rows }
     requires few { length images.rows.now.rows ≤ 65536 }
     requires short { size_of places.now ≤ 256 }
     ensures prime { out.new.p ≡ out.old.p }
@@ -150,10 +174,12 @@ pub(crate) fn add_image(
 )
     requires primes { (modulus_of v ≡ out.old.p) × (images.rows.now.p ≡ out.old.p) }
     requires factor { c < out.old.p }
-    requires lengths { (length (entries_of v) ≡ size_of places.now * rank) × (length out.old.entries ≡ size_of places.now * rank) }
+    requires lengths { (length (entries_of v) ≡ size_of places.now * rank)
+        × (length out.old.entries ≡ size_of places.now * rank) }
     requires small { size_of places.now * rank < 2 ^ 64 }
     requires width { images.rows.now.width ≡ size_of places.now }
-    requires inside { (k : ℕ) → k < size_of places.now → images.first + k * images.step < length images.rows.now.rows }
+    requires inside { (k : ℕ) → k < size_of places.now
+        → images.first + k * images.step < length images.rows.now.rows }
     requires few { length images.rows.now.rows ≤ 65536 }
     requires short { size_of places.now ≤ 256 }
     ensures prime { out.new.p ≡ out.old.p }
