@@ -89,11 +89,10 @@ fn add_images(images: Images<'_>, start: usize, coefficients: RowRef<'_>, sum: &
         (λ k. entry (entries_of coefficients.entry) k
         * entry (stepped images.entry.rows.now.rows images.entry.first images.entry.step (start + k)) j)) }
 {
-    for k in 0..coefficients.len() {
-        let x = coefficients.get(k);
-        if x != 0 {
-            sum.add(x, images.image(start + k));
-        }
+    let mut k = coefficients.next_place(0);
+    while k < coefficients.len() {
+        sum.add(coefficients.get(k), images.image(start + k));
+        k = coefficients.next_place(k + 1);
     }
 }
 
