@@ -4,7 +4,7 @@ use Rattle.std.proofs.Common.{length, take, drop, get_or, slice_range, inl, inr,
 use Rattle.std.proofs.Common.{◌∙◌, refl}
 use Rattle.std.proofs.lemmas.Bool.{cases_lt, cases_eq}
 use Rattle.std.proofs.lemmas.List.{get_or-take, get_or-drop, length-take, length-drop}
-use Rattle.std.proofs.Math.Nat.{mul-le-mul_left, mul-le-mul_right}
+use Rattle.std.proofs.Math.Nat.{mul-le-mul_left, mul-le-mul_right, mod-eq_of_lt}
 use mathlib.Core.Path.{subst}
 use Rattle.linear_algebra.specs.Modular.{IsCongruent, sum_below}
 use Rattle.linear_algebra.specs.Rows.{entry, IsRow}
@@ -262,3 +262,37 @@ zero-part ss b m i v layer w h j l =
     ∙ ap (entry v) (sym (place-in-layer ss b m i j layer q))
     ∙ h (start_at ss i + j)
     (let u : start_at ss i + get_or ss i 0 ≤ size_of ss = start_within ss i layer in omega (arith, q, u))
+
+-- the members before layer i have places before those of the layer
+pub place-before : (ss : List ℕ) (b m i k : ℕ) → m < b → k < start_at ss i
+    → place_of ss b m k < b * start_at ss i
+place-before [] b m i k l h = let z : start_at [] i ≡ 0 = start-end [] i (omega arith) in absurd (omega (arith, z, h))
+place-before (s ∷ ss) b m zero k l h = absurd (omega arith)
+place-before (s ∷ ss) b m (suc i) k l h =
+    let d : b * (s + start_at ss i) ≡ b * s + b * start_at ss i = omega arith in
+    elim (cases_lt k s) [
+      | inl x ↦
+          let e : place_of (s ∷ ss) b m k ≡ m * s + k =
+          yes k s (m * s + k) (b * s + place_of ss b m (k - s)) x in
+          let y : (m + 1) * s ≤ b * s = mul-le-mul_right s (let z : m + 1 ≤ b = omega (arith, l) in z) in
+          let f : (m + 1) * s ≡ m * s + s = omega arith in
+          rw e (omega (arith, d, y, f, x))
+      | inr x ↦
+          let e : place_of (s ∷ ss) b m k ≡ b * s + place_of ss b m (k - s) =
+          otherwise k s (m * s + k) (b * s + place_of ss b m (k - s)) x in
+          let y : place_of ss b m (k - s) < b * start_at ss i =
+          place-before ss b m i (k - s) l (omega (arith, h, x)) in
+          rw e (omega (arith, d, y))
+    ]
+
+-- a part of zeros may be passed over
+pub zeros-gain : (p start c : ℕ) (part old : List ℕ) → ((j : ℕ) → j < length old → entry old j < p)
+    → start + length part ≤ length old → IsZero part → GainsPart p start c part old old
+zeros-gain p start c part old h w z = record {
+  same_length = refl;
+  inside = λ j l. sym (ap (λ x. (entry old (start + j) + c * x) % p) (z j l)
+      ∙ ap (λ x. x % p) (let e : entry old (start + j) + c * 0 ≡ entry old (start + j) = omega arith in e)
+      ∙ mod-eq_of_lt (h (start + j) (omega (arith, l, w))));
+  before = λ j l. refl;
+  after = λ j l. refl;
+}
