@@ -11,7 +11,7 @@ use borrow.Rule.Slice.PartMut.{put_mid}
 use Rattle.std.specs.Int.{bit_at, trailing_zeros}
 use Rattle.linear_algebra.specs.Rows.{entry, add_multiple, IsRow}
 use Rattle.linear_algebra.proofs.RowLemmas.{entry-add_multiple, length-add_multiple}
-use Rattle.fp_rows.specs.Parts.{GainsPart}
+use Rattle.fp_rows.specs.Parts.{GainsPart, IsNextPlace}
 
 -- the first `done` numbers of the part are added
 pub record AreAddedAt (start done : ℕ) (part old new : List ℕ) : Type 0 where
@@ -60,6 +60,31 @@ more_added start done count x part old mid new A w bits len inside before after 
         ∙ ap (λ z. (z + entry part j) % 2) (A.after (start + j) (omega arith))
         ∙ (let z : (entry old (start + j) + entry part j) % 2 ≡ (entry old (start + j) + 1 * entry part j) % 2 =
         omega arith in z)
+
+-- a word of zeros need not be added
+pub none_added_more : (start done count x : ℕ) (part old new : List ℕ) → AreAddedAt start done part old new
+    → done + count ≤ length part → ((b : ℕ) → b < count → bit_at x b ≡ entry part (done + b)) → x ≡ 0
+    → ((j : ℕ) → j < length old → entry old j < 2) → start + length part ≤ length old
+    → AreAddedAt start (done + count) part old new
+none_added_more start done count x part old new A w bits e below fits = record {
+  within = w;
+  same_length = A.same_length;
+  inside = λ j l. go j l (cases_lt j done);
+  before = A.before;
+  after = λ j l. A.after j (omega (arith, l));
+}
+  where
+    go : (j : ℕ) → j < done + count → (j < done) ⊎ (done ≤ j)
+        → entry new (start + j) ≡ (entry old (start + j) + 1 * entry part j) % 2
+    go j l (inl m) = A.inside j m
+    go j l (inr m) =
+        let f : done + (j - done) ≡ j = omega (arith, m) in
+        let z : entry part j ≡ 0 = ap (entry part) (sym f) ∙ sym (bits (j - done) (omega (arith, l, m)))
+        ∙ ap (λ y. bit_at y (j - done)) e ∙ bit_at-zero (j - done) in
+        A.after (start + j) (omega (arith, m))
+        ∙ sym (ap (λ y. (entry old (start + j) + 1 * y) % 2) z
+        ∙ ap (λ y. y % 2) (let y : entry old (start + j) + 1 * 0 ≡ entry old (start + j) = omega arith in y)
+        ∙ mod-eq_of_lt (below (start + j) (omega (arith, l, w, fits))))
 
 pub all_added : (start done : ℕ) (part old new : List ℕ) → AreAddedAt start done part old new
     → length part ≤ done
@@ -181,6 +206,51 @@ zero_so_far xs done count x bits e before j l = go (cases_lt j done)
   where
     go : (j < done) ⊎ (done ≤ j) → entry xs j ≡ 0
     go (inl m) = before j m
+    go (inr m) = let f : done + (j - done) ≡ j = omega arith in
+        ap (entry xs) (sym f) ∙ sym (bits (j - done) (omega arith)) ∙ ap (λ y. bit_at y (j - done)) e
+        ∙ bit_at-zero (j - done)
+
+-- the first place of a word that is not 0
+pub place_in_word : (x count : ℕ) → x < 2 ^ 64 → (x ≡ 0 → ⊥)
+    → ((b : ℕ) → b < 64 → count ≤ b → bit_at x b ≡ 0) → trailing_zeros w64 x < count
+place_in_word x count f n rest = let h = bit_at-trailing_zeros w64 x (omega arith) f in
+    go h.0 h.1 (cases_lt (trailing_zeros w64 x) count)
+  where
+    go : trailing_zeros w64 x < 64 → bit_at x (trailing_zeros w64 x) ≡ 1
+        → (trailing_zeros w64 x < count) ⊎ (count ≤ trailing_zeros w64 x) → trailing_zeros w64 x < count
+    go a b (inl l) = l
+    go a b (inr l) = absurd (let z : bit_at x (trailing_zeros w64 x) ≡ 0 = rest _ a l in omega arith)
+
+pub next_in_word : (xs : List ℕ) (from done count x : ℕ) → from ≤ done → done + count ≤ length xs → x < 2 ^ 64
+    → (x ≡ 0 → ⊥) → ((b : ℕ) → b < count → bit_at x b ≡ entry xs (done + b))
+    → ((b : ℕ) → b < 64 → count ≤ b → bit_at x b ≡ 0)
+    → ((j : ℕ) → from ≤ j → j < done → entry xs j ≡ 0) → IsNextPlace xs from (done + trailing_zeros w64 x)
+next_in_word xs from done count x a w f n bits rest zero =
+    let h = bit_at-trailing_zeros w64 x (omega arith) f in
+    let t : trailing_zeros w64 x < count = place_in_word x count f n rest in
+    record {
+      after = omega arith;
+      within = omega arith;
+      before = λ j l m. go h.2 j l m (cases_lt j done);
+      here = λ l z. let e : bit_at x (trailing_zeros w64 x) ≡ 1 = h.1 in
+          let b : bit_at x (trailing_zeros w64 x) ≡ entry xs (done + trailing_zeros w64 x) = bits _ t in
+          omega (arith, e, b, z);
+    }
+  where
+    go : ((i : ℕ) → i < trailing_zeros w64 x → bit_at x i ≡ 0) → (j : ℕ) → from ≤ j
+        → j < done + trailing_zeros w64 x → (j < done) ⊎ (done ≤ j) → entry xs j ≡ 0
+    go h j l m (inl b) = zero j l b
+    go h j l m (inr b) = let t : trailing_zeros w64 x < count = place_in_word x count f n rest in
+        let e : done + (j - done) ≡ j = omega (arith, b) in
+        ap (entry xs) (sym e) ∙ sym (bits (j - done) (omega (arith, b, m, t))) ∙ h (j - done) (omega (arith, b, m))
+
+pub no_place_so_far : (xs : List ℕ) (from done count x : ℕ) → ((b : ℕ) → b < count
+    → bit_at x b ≡ entry xs (done + b)) → x ≡ 0 → ((j : ℕ) → from ≤ j → j < done → entry xs j ≡ 0)
+    → (j : ℕ) → from ≤ j → j < done + count → entry xs j ≡ 0
+no_place_so_far xs from done count x bits e before j a l = go (cases_lt j done)
+  where
+    go : (j < done) ⊎ (done ≤ j) → entry xs j ≡ 0
+    go (inl m) = before j a m
     go (inr m) = let f : done + (j - done) ≡ j = omega arith in
         ap (entry xs) (sym f) ∙ sym (bits (j - done) (omega arith)) ∙ ap (λ y. bit_at y (j - done)) e
         ∙ bit_at-zero (j - done)

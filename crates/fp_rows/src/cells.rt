@@ -107,7 +107,10 @@ fn add_at(b: &mut Bits, at: usize, r: Numbers<'_>)
         } else {
             64
         };
-        b.add_word(at + done, count, r.word(done, count));
+        let word = r.word(done, count);
+        if word != 0 {
+            b.add_word(at + done, count, word);
+        }
         done += count;
     }
 }

@@ -2,7 +2,7 @@ ghost use Rattle.std.specs.Prelude.{◌≡◌, ◌↔◌, ◌+◌, ◌<◌, ◌�
 ghost use Rattle.std.specs.Int.{bit_at};
 ghost use Rattle.linear_algebra.specs.Rows.{entry};
 ghost use Rattle.fp_rows.specs.Bits.{bits_of};
-ghost use Rattle.fp_rows.specs.Parts.{IsZero};
+ghost use Rattle.fp_rows.specs.Parts.{IsZero, IsNextPlace};
 
 use crate::bits_ref::BitsRef;
 
@@ -49,12 +49,46 @@ fn are_zero(b: BitsRef<'_>) -> bool
     true
 }
 
+// The first place from place `from` on at which the number is not 0, up to 64 places at a time.
+fn next_bit(b: BitsRef<'_>, from: usize) -> usize
+    requires { from ≤ length (bits_of b) }
+    ensures { IsNextPlace (bits_of b.entry) from result }
+{
+    let mut done = from;
+    while done < b.len() {
+        let count = if b.len() - done < 64 {
+            b.len() - done
+        } else {
+            64
+        };
+        let word = b.word(done, count);
+        if word != 0 {
+            return done + word.trailing_zeros() as usize;
+        }
+        done += count;
+    }
+    done
+}
+
+// The first place from place `from` on at which the number is not 0.
+fn next_byte(s: &[u8], from: usize) -> usize
+    requires { from ≤ length s.now }
+    ensures { IsNextPlace s.now from result }
+{
+    for i in from..s.len() {
+        if s[i] != 0 {
+            return i;
+        }
+    }
+    s.len()
+}
+
 impl<'a> Numbers<'a> {
     ghost use Rattle.std.specs.Prelude.{◌≡◌, ◌↔◌, ◌+◌, ◌<◌, ◌≤◌, ℕ, length, slice_range, IsTrue};
     ghost use Rattle.std.specs.Int.{bit_at};
     ghost use Rattle.linear_algebra.specs.Rows.{entry};
     ghost use Rattle.fp_rows.specs.Numbers.{numbers_of};
-    ghost use Rattle.fp_rows.specs.Parts.{IsZero};
+    ghost use Rattle.fp_rows.specs.Parts.{IsZero, IsNextPlace};
 
     pub(crate) fn len(&self) -> usize
         ensures { result ≡ length (numbers_of self.now) }
@@ -107,6 +141,17 @@ impl<'a> Numbers<'a> {
         match self {
             Numbers::Bytes(s) => s.iter().all(|x| *x == 0),
             Numbers::Bits(b) => are_zero(*b),
+        }
+    }
+
+    /// The first place from place `from` on at which the number is not 0, and the length where there is none.
+    pub(crate) fn next_place(&self, from: usize) -> usize
+        requires { from ≤ length (numbers_of self.now) }
+        ensures { IsNextPlace (numbers_of self.now) from result }
+    {
+        match self {
+            Numbers::Bytes(s) => next_byte(s, from),
+            Numbers::Bits(b) => next_bit(*b, from),
         }
     }
 }

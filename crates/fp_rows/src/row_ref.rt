@@ -25,7 +25,7 @@ impl<'a> RowRef<'a> {
     ghost use Rattle.linear_algebra.specs.Rows.{entry, pairing, IsRow};
     ghost use Rattle.fp_rows.specs.Numbers.{numbers_of};
     ghost use Rattle.fp_rows.specs.Refs.{entries_of, modulus_of};
-    ghost use Rattle.fp_rows.specs.Parts.{IsZero};
+    ghost use Rattle.fp_rows.specs.Parts.{IsZero, IsNextPlace};
     ghost use Rattle.fp_rows.specs.Entries.{entries_left};
     ghost use Rattle.std.specs.Int.{bit_at};
 
@@ -84,6 +84,15 @@ impl<'a> RowRef<'a> {
         ensures { IsTrue result ↔ IsZero (entries_of self.now) }
     {
         self.entries.is_zero()
+    }
+
+    /// The first place from place `from` on, which is at most the length, at which the number is not 0, and the
+    /// length where there is none.
+    pub fn next_place(&self, from: usize) -> usize
+        requires { from ≤ length (entries_of self.now) }
+        ensures { IsNextPlace (entries_of self.now) from result }
+    {
+        self.entries.next_place(from)
     }
 
     /// The sum of the products of its numbers and the numbers of the other row at their places, modulo p.

@@ -35,7 +35,9 @@ fn preimage_of(
     let mut u = Row::zero(alloc, p, n)?;
     for i in 0..s.image.rows() {
         let c = target.get(s.image.pivot(i));
-        u.add(c, s.preimages.row(i));
+        if c != 0 {
+            u.add(c, s.preimages.row(i));
+        }
     }
     Ok(u)
 }

@@ -1,4 +1,4 @@
-ghost use Rattle.std.specs.Prelude.{◌≡◌, ◌≤◌, ◌*◌, length, IfOk};
+ghost use Rattle.std.specs.Prelude.{◌≡◌, ◌≤◌, ◌<◌, ◌*◌, length, IfOk};
 ghost use Rattle.group_table.specs.Prime.{prime_value};
 ghost use Rattle.fp_rows.specs.Refs.{entries_of};
 
@@ -257,4 +257,117 @@ fn shows_bytes_as_a_row(rt: HostRuntime) {
     let row = RowRef::of_bytes(Prime::P3, &bytes);
     assert!(rt; shows(row, &[0, 2, 1]));
     assert_eq!(rt; row.pairing(row), 2);
+}
+
+// Bytes below m, which is not 0.
+fn pattern(m: u8) -> [u8; 264]
+    requires { 0 < m }
+{
+    let mut bytes = [0; 264];
+    let mut x = 1u8;
+    for y in bytes.iter_mut() {
+        *y = (x >> 2) % m;
+        x = x.wrapping_mul(5).wrapping_add(3);
+    }
+    bytes
+}
+
+// Whether `len` numbers from place `from` on are read, copied and added as the bytes are.
+fn adds_part(
+    rt: &impl Abort,
+    alloc: Global,
+    p: Prime,
+    from: usize,
+    len: usize,
+) -> Result<bool, Memory> {
+    assert!(rt; from <= 64 && len <= 200);
+    let bytes = pattern(p.value());
+    let row = row_of(rt, alloc, p, &bytes)?;
+    assert_eq!(rt; row.len(), 264);
+    let part = row.view().part(from, len);
+    let expected = &bytes[from..from + len];
+    let mut sum = Row::zero(alloc, p, from + len)?;
+    sum.add_part(from, 1, part);
+    let mut short = ShortRow::zero(p, len);
+    short.add(1, part);
+    let first = expected.iter().position(|x| *x != 0).unwrap_or(len);
+    Ok(
+        shows(part, expected)
+            && sum.view().part(0, from).is_zero()
+            && shows(sum.view().part(from, len), expected)
+            && shows(short.view(), expected)
+            && part.next_place(0) == first,
+    )
+}
+
+fn adds_parts(rt: &impl Abort, alloc: Global, p: Prime, from: usize) -> Result<bool, Memory> {
+    for len in 0..201 {
+        if !adds_part(rt, alloc, p, from, len)? {
+            return Ok(false);
+        }
+    }
+    Ok(true)
+}
+
+#[test]
+fn adds_parts_of_all_lengths(rt: HostRuntime) -> Result<(), Fail> {
+    for (p, from) in [
+        (Prime::P2, 0),
+        (Prime::P2, 1),
+        (Prime::P2, 63),
+        (Prime::P2, 64),
+        (Prime::P7, 0),
+        (Prime::P7, 1),
+        (Prime::P7, 63),
+        (Prime::P7, 64),
+    ] {
+        assert!(rt; adds_parts(&rt, rt.alloc(), p, from)?);
+    }
+    Ok(())
+}
+
+#[test]
+fn adds_to_parts_and_short_rows(rt: HostRuntime) -> Result<(), Fail> {
+    let alloc = rt.alloc();
+    let mut row = row_of(&rt, alloc, Prime::P3, &[1, 2, 0, 1])?;
+    let part = row_of(&rt, alloc, Prime::P3, &[2, 1])?;
+    assert_eq!(rt; (row.len(), part.len()), (4, 2));
+    row.add_part(1, 2, part.view());
+    assert!(rt; shows(row.view(), &[1, 0, 2, 1]));
+    assert_eq!(rt;
+        (row.view().next_place(1), row.view().next_place(4)),
+        (2, 4)
+    );
+    let mut short = ShortRow::zero(Prime::P3, 2);
+    short.add(2, part.view());
+    short.add(2, part.view());
+    assert!(rt; shows(short.view(), &[2, 1]));
+    Ok(())
+}
+
+#[test]
+fn adds_words(rt: HostRuntime) -> Result<(), Fail> {
+    let mut row = row_of(&rt, rt.alloc(), Prime::P2, &[1, 0, 1, 1, 0])?;
+    assert_eq!(rt; (row.len(), row.view().word(1, 3)), (5, 6));
+    row.add_word(2, 2, 7);
+    assert!(rt; shows(row.view(), &[1, 0, 0, 0, 0]));
+    Ok(())
+}
+
+#[test]
+fn finds_kernel_and_preimages_at_once(rt: HostRuntime) -> Result<(), Fail> {
+    let alloc = rt.alloc();
+    let m = matrix_of(&rt, alloc, Prime::P3, 2, &[1, 2, 2, 1, 0, 1])?;
+    let e = echelon(alloc, &m)?;
+    assert!(rt; shows(e.row(0), &[1, 0]) && shows(e.row(1), &[0, 1]));
+    let solved = kernel_and_preimages(alloc, &m, &e)?;
+    assert_eq!(rt; (solved.kernel.rows(), solved.preimages.rows()), (1, 2));
+    assert!(rt; shows(solved.kernel.row(0), &[1, 1, 0]));
+    assert!(rt; shows(solved.preimages.row(0), &[0, 2, 1]));
+    assert!(rt; shows(solved.preimages.row(1), &[0, 0, 1]));
+    let solution = solve(alloc, &m)?;
+    assert_eq!(rt; (solution.image.rows(), solution.preimages.rows()), (2, 2));
+    assert!(rt; shows(solution.image.row(1), &[0, 1]));
+    assert!(rt; shows(solution.preimages.row(1), &[0, 0, 1]));
+    Ok(())
 }

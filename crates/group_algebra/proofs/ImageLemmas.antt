@@ -1,5 +1,6 @@
 -- The action of the group and the products, block by block.
-use Rattle.std.proofs.Common.{◌≡◌, ℕ, suc, ◌+◌, ◌*◌, ◌<◌, ◌≤◌, List, length, replicate, arith, ap, sym, ◌∙◌, refl}
+use Rattle.std.proofs.Common.{◌≡◌, ℕ, zero, suc, ◌+◌, ◌*◌, ◌<◌, ◌≤◌, List, length, replicate, arith, ap, sym}
+use Rattle.std.proofs.Common.{◌∙◌, refl}
 use Rattle.std.proofs.lemmas.Grind.{same_number_lists}
 use Rattle.std.proofs.lemmas.List.{length-replicate, get_or-replicate}
 use Rattle.std.proofs.Math.Nat.{mul-le-mul_right}
@@ -19,7 +20,8 @@ use Rattle.radical_layers.specs.Placing.{place_of, size_of}
 use Rattle.radical_layers.proofs.Bridge.{at-zero}
 use Rattle.p_groups.specs.PGroups.{PGroup, largest_residue, group}
 use Rattle.p_groups.proofs.Fields.{residues}
-use Rattle.group_algebra.specs.Coordinates.{layer_coordinates, free_module, row_of, table_of, member, product_with, sizes}
+use Rattle.group_algebra.specs.Coordinates.{layer_coordinates, free_module, row_of, table_of, member}
+use Rattle.group_algebra.specs.Coordinates.{product_with, sizes}
 use Rattle.group_algebra.specs.Gains.{stepped, GainsImage}
 use Rattle.group_algebra.specs.Tables.{IsTranslateRow, IsProductRow, EachRow}
 use Rattle.group_algebra.proofs.Members.{residue-row}
@@ -181,3 +183,23 @@ module _ (G : PGroup) where
       inside : (j : ℕ) → j < n → k + j * n < length T
       inside j m = let z : (j + 1) * n ≤ n * n =
           mul-le-mul_right n (let y : j + 1 ≤ n = omega (arith, m) in y) in omega (arith, z, l, len)
+
+  -- products with zeros
+  pub no-products : (b : ℕ) (a : List ℕ) (w : (M b).of) (k : ℕ) → ((i : ℕ) → i < k → entry a i ≡ 0)
+      → first_products b a w k ≡ (M b).zero
+  no-products b a w zero h = refl
+  no-products b a w (suc k) h = ap (first_products b a w) (let z : suc k ≡ k + 1 = omega arith in z)
+      ∙ products-next b a w k
+      ∙ ap (λ c. (M b).add (times (M b).add (M b).zero c (product_with G b (member G k) w)) (first_products b a w k))
+      (h k (omega arith))
+      ∙ ap ((M b).add (M b).zero) (no-products b a w k (λ i l. h i (omega arith)))
+      ∙ (M b).add-zero (M b).zero
+
+  pub nothing-gained : (b : ℕ) (a out : List ℕ) (w : (M b).of) → IsRow G.table.p n a
+      → IsRow G.table.p (n * b) out
+      → ((i : ℕ) → i < n → entry a i ≡ 0)
+      → out ≡ row_of G b ((M b).add (table_of G b out) (product_with G b (table_of G 1 a) w))
+  nothing-gained b a out w ra ro h = row-back b out
+      ((M b).add (table_of G b out) (product_with G b (table_of G 1 a) w)) ro
+      (sym (ap ((M b).add (table_of G b out)) (sym (products-all b a w ra) ∙ no-products b a w n h)
+      ∙ (M b).add-zero (table_of G b out)))

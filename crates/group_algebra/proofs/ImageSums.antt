@@ -1,5 +1,6 @@
 -- Sums of images, one member at a time.
-use Rattle.std.proofs.Common.{◌≡◌, ℕ, ◌+◌, ◌*◌, ◌%◌, ◌<◌, List, length, arith, ap, sym, ◌∙◌, refl, add-one}
+use Rattle.std.proofs.Common.{◌≡◌, ℕ, zero, suc, ◌+◌, ◌-◌, ◌*◌, ◌%◌, ◌<◌, ◌≤◌, List, length, arith, ap, sym, ◌∙◌, refl, add-one}
+use mathlib.Core.Path.{subst}
 use Rattle.linear_algebra.specs.Modular.{IsCongruent, sum_below}
 use Rattle.linear_algebra.specs.Rows.{entry, add_multiple}
 use Rattle.linear_algebra.proofs.Congruences.{congruent_trans, congruent_eq, congruent_mod, congruent_add}
@@ -48,3 +49,21 @@ images-next p old g k x r mid new A len e h = record {
       (let z : entry old j + sum_below k (λ i. g i j) + g k j ≡ entry old j + (sum_below k (λ i. g i j) + g k j) =
       omega arith in z)))));
 }
+
+-- terms of 0 may be passed over
+pub images-pass : (p : ℕ) (old : List ℕ) (g : ℕ → ℕ → ℕ) (k d : ℕ) (sum : RowValue)
+    → AreImagesAdded p old g k sum
+    → ((i : ℕ) → k ≤ i → i < k + d → (j : ℕ) → g i j ≡ 0) → AreImagesAdded p old g (k + d) sum
+images-pass p old g k zero sum A h = subst (λ n. AreImagesAdded p old g n sum)
+    (let z : k ≡ k + 0 = omega arith in z) A
+images-pass p old g k (suc d) sum A h = subst (λ n. AreImagesAdded p old g n sum)
+    (let z : k + d + 1 ≡ k + suc d = omega arith in z)
+    (images-skip p old g (k + d) sum (images-pass p old g k d sum A (λ i a b. h i a (omega (arith, b))))
+    (h (k + d) (omega arith) (omega arith)))
+
+pub images-to : (p : ℕ) (old : List ℕ) (g : ℕ → ℕ → ℕ) (k m : ℕ) (sum : RowValue) → k ≤ m
+    → AreImagesAdded p old g k sum
+    → ((i : ℕ) → k ≤ i → i < m → (j : ℕ) → g i j ≡ 0) → AreImagesAdded p old g m sum
+images-to p old g k m sum l A h = let e : k + (m - k) ≡ m = omega (arith, l) in
+    subst (λ n. AreImagesAdded p old g n sum) e
+    (images-pass p old g k (m - k) sum A (λ i a b. h i a (omega (arith, b, e))))

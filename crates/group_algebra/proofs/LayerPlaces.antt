@@ -1,17 +1,19 @@
 -- The places of a layer of one block are one part of a row.
-use Rattle.std.proofs.Common.{◌≡◌, ◌≢◌, ℕ, zero, suc, ◌+◌, ◌-◌, ◌*◌, ◌%◌, ◌<◌, ◌≤◌, ◌⊎◌, List, [], ◌∷◌, length, take, drop, get_or, slice_range, inl, inr, cond, ltb, arith, ap, sym, ◌∙◌, refl}
+use Rattle.std.proofs.Common.{◌≡◌, ◌≢◌, ℕ, zero, suc, ◌+◌, ◌-◌, ◌*◌, ◌%◌, ◌<◌, ◌≤◌, ◌⊎◌, List, [], ◌∷◌}
+use Rattle.std.proofs.Common.{length, take, drop, get_or, slice_range, inl, inr, cond, ltb, arith, ap, sym}
+use Rattle.std.proofs.Common.{◌∙◌, refl}
 use Rattle.std.proofs.lemmas.Bool.{cases_lt, cases_eq}
 use Rattle.std.proofs.lemmas.List.{get_or-take, get_or-drop, length-take, length-drop}
-use Rattle.std.proofs.Math.Nat.{mul-le-mul_left, mul-le-mul_right}
+use Rattle.std.proofs.Math.Nat.{mul-le-mul_left, mul-le-mul_right, mod-eq_of_lt}
 use mathlib.Core.Path.{subst}
 use Rattle.linear_algebra.specs.Modular.{IsCongruent, sum_below}
 use Rattle.linear_algebra.specs.Rows.{entry, IsRow}
 use Rattle.linear_algebra.proofs.Congruences.{congruent_trans, congruent_eq, congruent_mod, congruent_add}
 use Rattle.linear_algebra.proofs.Sums.{sum_below-same}
 use Rattle.radical_layers.specs.Placing.{place_of, size_of}
-use Rattle.fp_rows.specs.Parts.{GainsPart}
+use Rattle.fp_rows.specs.Parts.{GainsPart, IsZero}
 use Rattle.fp_rows.proofs.PartLemmas.{part_is_row}
-use Rattle.group_algebra.specs.Gains.{BlockGains}
+use Rattle.group_algebra.specs.Gains.{BlockGains, IsZeroBlock}
 use Rattle.group_algebra.specs.Places.{start_at}
 use Rattle.group_algebra.proofs.PlaceLemmas.{yes, otherwise, place-inside-of, place-differs-of}
 
@@ -134,7 +136,8 @@ layers-none p ss b m f old r = record {
   others = λ n k l o d. refl;
 }
 
-pub layers-next : (p : ℕ) (ss : List ℕ) (b m c : ℕ) (r old mid new : List ℕ) (i : ℕ) → 0 < p → m < b → i < length ss
+pub layers-next : (p : ℕ) (ss : List ℕ) (b m c : ℕ) (r old mid new : List ℕ) (i : ℕ) → 0 < p → m < b
+    → i < length ss
     → AreLayersGained p ss b m (λ k. c * entry r k) old i mid
     → length r ≡ size_of ss
     → GainsPart p (b * start_at ss i + m * get_or ss i 0) c
@@ -182,7 +185,8 @@ layers-next p ss b m c r old mid new i o inside layer A len G = record {
         ∙ ap (λ y. entry old (place_of ss b m k) + c * y)
         (entry-part r (start_at ss i) (get_or ss i 0) (k - start_at ss i) q ∙ ap (entry r) e)))
 
-pub layers-all : (p : ℕ) (ss : List ℕ) (b m : ℕ) (f : ℕ → ℕ) (old out : List ℕ) (i : ℕ) → m < b → length ss ≤ i
+pub layers-all : (p : ℕ) (ss : List ℕ) (b m : ℕ) (f : ℕ → ℕ) (old out : List ℕ) (i : ℕ) → m < b
+    → length ss ≤ i
     → AreLayersGained p ss b m f old i out → BlockGains p ss b m f old out
 layers-all p ss b m f old out i inside e A = record {
   is_row = A.is_row;
@@ -216,4 +220,79 @@ gains-congruent p ss b m f g old new h B = record {
   gained = λ j l. congruent_trans (B.gained j l)
       (congruent_add (congruent_eq refl) (h j l));
   kept = B.kept;
+}
+
+-- ---- blocks of zeros
+pub zero-next : (ss : List ℕ) (b m i : ℕ) (v : List ℕ) → i < length ss
+    → b * start_at ss i + m * get_or ss i 0 + get_or ss i 0 ≤ length v
+    → ((k : ℕ) → k < start_at ss i → entry v (place_of ss b m k) ≡ 0)
+    → IsZero (slice_range v (b * start_at ss i + m * get_or ss i 0)
+    (b * start_at ss i + m * get_or ss i 0 + get_or ss i 0))
+    → (k : ℕ) → k < start_at ss (i + 1) → entry v (place_of ss b m k) ≡ 0
+zero-next ss b m i v layer w before here k l = go (cases_lt k (start_at ss i))
+  where
+    go : (k < start_at ss i) ⊎ (start_at ss i ≤ k) → entry v (place_of ss b m k) ≡ 0
+    go (inl x) = before k x
+    go (inr x) =
+        let e : start_at ss i + (k - start_at ss i) ≡ k = omega (arith, x) in
+        let q : k - start_at ss i < get_or ss i 0 =
+        (let n : start_at ss (i + 1) ≡ start_at ss i + get_or ss i 0 = start-next ss i layer in
+        omega (arith, l, n, x)) in
+        ap (λ y. entry v (place_of ss b m y)) (sym e)
+        ∙ ap (entry v) (place-in-layer ss b m i (k - start_at ss i) layer q)
+        ∙ sym (entry-part v (b * start_at ss i + m * get_or ss i 0) (get_or ss i 0) (k - start_at ss i) q)
+        ∙ here (k - start_at ss i)
+        (let n : length (slice_range v (b * start_at ss i + m * get_or ss i 0)
+        (b * start_at ss i + m * get_or ss i 0 + get_or ss i 0)) ≡ get_or ss i 0 =
+        length-part v (b * start_at ss i + m * get_or ss i 0) (get_or ss i 0) w in
+        omega (arith, q, n))
+
+pub zero-part : (ss : List ℕ) (b m i : ℕ) (v : List ℕ) → i < length ss
+    → b * start_at ss i + m * get_or ss i 0 + get_or ss i 0 ≤ length v
+    → IsZeroBlock ss b m v
+    → IsZero (slice_range v (b * start_at ss i + m * get_or ss i 0)
+    (b * start_at ss i + m * get_or ss i 0 + get_or ss i 0))
+zero-part ss b m i v layer w h j l =
+    let q : j < get_or ss i 0 =
+    (let n : length (slice_range v (b * start_at ss i + m * get_or ss i 0)
+    (b * start_at ss i + m * get_or ss i 0 + get_or ss i 0)) ≡ get_or ss i 0 =
+    length-part v (b * start_at ss i + m * get_or ss i 0) (get_or ss i 0) w in
+    omega (arith, l, n)) in
+    entry-part v (b * start_at ss i + m * get_or ss i 0) (get_or ss i 0) j q
+    ∙ ap (entry v) (sym (place-in-layer ss b m i j layer q))
+    ∙ h (start_at ss i + j)
+    (let u : start_at ss i + get_or ss i 0 ≤ size_of ss = start_within ss i layer in omega (arith, q, u))
+
+-- the members before layer i have places before those of the layer
+pub place-before : (ss : List ℕ) (b m i k : ℕ) → m < b → k < start_at ss i
+    → place_of ss b m k < b * start_at ss i
+place-before [] b m i k l h = let z : start_at [] i ≡ 0 = start-end [] i (omega arith) in absurd (omega (arith, z, h))
+place-before (s ∷ ss) b m zero k l h = absurd (omega arith)
+place-before (s ∷ ss) b m (suc i) k l h =
+    let d : b * (s + start_at ss i) ≡ b * s + b * start_at ss i = omega arith in
+    elim (cases_lt k s) [
+      | inl x ↦
+          let e : place_of (s ∷ ss) b m k ≡ m * s + k =
+          yes k s (m * s + k) (b * s + place_of ss b m (k - s)) x in
+          let y : (m + 1) * s ≤ b * s = mul-le-mul_right s (let z : m + 1 ≤ b = omega (arith, l) in z) in
+          let f : (m + 1) * s ≡ m * s + s = omega arith in
+          rw e (omega (arith, d, y, f, x))
+      | inr x ↦
+          let e : place_of (s ∷ ss) b m k ≡ b * s + place_of ss b m (k - s) =
+          otherwise k s (m * s + k) (b * s + place_of ss b m (k - s)) x in
+          let y : place_of ss b m (k - s) < b * start_at ss i =
+          place-before ss b m i (k - s) l (omega (arith, h, x)) in
+          rw e (omega (arith, d, y))
+    ]
+
+-- a part of zeros may be passed over
+pub zeros-gain : (p start c : ℕ) (part old : List ℕ) → ((j : ℕ) → j < length old → entry old j < p)
+    → start + length part ≤ length old → IsZero part → GainsPart p start c part old old
+zeros-gain p start c part old h w z = record {
+  same_length = refl;
+  inside = λ j l. sym (ap (λ x. (entry old (start + j) + c * x) % p) (z j l)
+      ∙ ap (λ x. x % p) (let e : entry old (start + j) + c * 0 ≡ entry old (start + j) = omega arith in e)
+      ∙ mod-eq_of_lt (h (start + j) (omega (arith, l, w))));
+  before = λ j l. refl;
+  after = λ j l. refl;
 }

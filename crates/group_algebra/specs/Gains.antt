@@ -1,8 +1,9 @@
 -- Rows of free modules of which one block, or each, gains multiples of rows.
-use Rattle.std.specs.Prelude.{◌≡◌, ◌≢◌, ℕ, List, ◌+◌, ◌*◌, ◌<◌, length}
+use Rattle.std.specs.Prelude.{◌≡◌, ◌≢◌, ℕ, List, ◌+◌, ◌*◌, ◌<◌, ◌≤◌, length}
 use Rattle.linear_algebra.specs.Modular.{IsCongruent, sum_below}
 use Rattle.linear_algebra.specs.Rows.{entry, row, IsRow}
 use Rattle.radical_layers.specs.Placing.{size_of, place_of}
+use Rattle.group_algebra.specs.Places.{start_at}
 
 -- every step-th row, from the first on
 abbrev pub stepped : List (List ℕ) → ℕ → ℕ → ℕ → List ℕ
@@ -28,3 +29,13 @@ pub record GainsImage (p : ℕ) (sizes : List ℕ) (rank : ℕ) (R : ℕ
   pub each : (i j : ℕ) → i < rank → j < size_of sizes
       → IsCongruent p (entry new (place_of sizes rank i j))
       (entry old (place_of sizes rank i j) + image_entry sizes rank R c v i j)
+
+-- each entry of block i is 0
+abbrev pub IsZeroBlock : List ℕ → ℕ → ℕ → List ℕ → Type 0
+IsZeroBlock sizes rank i v = (k : ℕ) → k < size_of sizes → entry v (place_of sizes rank i k) ≡ 0
+
+-- each block is 0 at the `start` members before this layer
+pub record BeginsAt (sizes : List ℕ) (rank layer start : ℕ) (v : List ℕ) : Type 0 where
+  pub within : layer ≤ length sizes
+  pub start_is : start ≡ start_at sizes layer
+  pub zero : (i k : ℕ) → i < rank → k < start → entry v (place_of sizes rank i k) ≡ 0

@@ -5,10 +5,11 @@ ghost use Rattle.group_modules.specs.Tables.{block-sum};
 ghost use Rattle.radical_layers.specs.Placing.{place_of};
 ghost use Rattle.fp_rows.specs.Refs.{entries_of, modulus_of};
 ghost use Rattle.p_groups.specs.PGroups.{largest_residue, group as group_of, order_of, prime_of};
-ghost use Rattle.group_algebra.specs.Coordinates.{free_module, layers, sizes, row_of, table_of, product_with, AreCoefficients};
+ghost use Rattle.group_algebra.specs.Coordinates.{free_module, layers, sizes, row_of, table_of, product_with};
+ghost use Rattle.group_algebra.specs.Coordinates.{AreCoefficients};
 ghost use Rattle.group_algebra.specs.RowMaps.{map_row, IsBlock};
 
-use crate::combinations::{Images, add_image};
+use crate::combinations::{Images, add_image, is_zero_block};
 use crate::layers::layer_basis;
 use crate::p_group::PGroup;
 use crate::places::Places;
@@ -19,16 +20,18 @@ use std::alloc::Global;
 use std::marker::Model;
 
 /// The group algebra kG of a p-group G over the field of p elements, seen as G.
-/// Its elements and those of the free modules kG^rank are rows in layer coordinates: the coefficients in the layer basis,
-/// at the places given by `place`.
+/// Its elements and those of the free modules kG^rank are rows in layer coordinates: the coefficients in the
+/// layer basis, at the places given by `place`.
 #[derive(Drop)]
 pub struct Algebra {
     group: PGroup,
     places: Places,
-    // The coefficients of the members of the layer basis, and the layer coordinates of the elements of the group.
+    // The coefficients of the members of the layer basis, and the layer coordinates of the elements of the
+    // group.
     members: Matrix,
     elements: Matrix,
-    // The layer coordinates of g times member k at the position k n + g, and of member k times member l at k n + l.
+    // The layer coordinates of g times member k at the position k n + g, and of member k times member l at k
+    // n + l.
     translates: Matrix,
     products: Matrix,
 }
@@ -85,7 +88,8 @@ impl Algebra {
         &self.group
     }
 
-    /// How many radical layers there are: the least number of factors of the augmentation ideal with the product 0.
+    /// How many radical layers there are: the least number of factors of the augmentation ideal with the
+    /// product 0.
     pub fn layers(&self) -> usize
         ensures { result ≡ (layers self.now).count }
     {
@@ -100,8 +104,8 @@ impl Algebra {
         self.places.size(i)
     }
 
-    /// The place of a member of the layer basis in a block of kG^rank: layer by layer, in a layer block by block,
-    /// in a block by position. Blocks and members count from 0.
+    /// The place of a member of the layer basis in a block of kG^rank: layer by layer, in a layer block by
+    /// block, in a block by position. Blocks and members count from 0.
     pub fn place(&self, rank: usize, block: usize, member: usize) -> usize
         requires block { block < rank }
         requires member { member < order_of self.now }
@@ -246,6 +250,9 @@ impl Algebra {
         let _length = v.len();
         prove!(out.len() == v.len());
         let n = self.group.order() as usize;
+        if is_zero_block(&self.places, a.count, a.index, a.row) {
+            return;
+        }
         for k in 0..n {
             let images = Images {
                 rows: &self.products,

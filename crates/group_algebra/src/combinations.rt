@@ -1,11 +1,11 @@
 //! The images of the blocks of a row.
 
-ghost use Rattle.std.specs.Prelude.{◌≡◌, ◌+◌, ◌*◌, ◌^◌, ◌<◌, ◌≤◌, ℕ, length};
+ghost use Rattle.std.specs.Prelude.{◌≡◌, ◌↔◌, ◌+◌, ◌*◌, ◌^◌, ◌<◌, ◌≤◌, ℕ, length, IsTrue};
 ghost use Rattle.linear_algebra.specs.Modular.{IsCongruent, sum_below};
 ghost use Rattle.linear_algebra.specs.Rows.{entry, IsRow};
 ghost use Rattle.radical_layers.specs.Placing.{size_of, place_of};
 ghost use Rattle.fp_rows.specs.Refs.{entries_of, modulus_of};
-ghost use Rattle.group_algebra.specs.Gains.{stepped, BlockGains, image_entry, GainsImage};
+ghost use Rattle.group_algebra.specs.Gains.{stepped, BlockGains, image_entry, GainsImage, IsZeroBlock, BeginsAt};
 
 use crate::places::Places;
 use fp_rows::{Matrix, Row, RowRef, ShortRow};
@@ -22,16 +22,40 @@ fn add_to_block(places: &Places, rank: usize, block: usize, c: u8, r: RowRef<'_>
     ensures gains { BlockGains out.old.p places.now rank block (λ j. c * entry (entries_of r.entry) j) out.old.entries out.new.entries }
 {
     prove!(r.len() <= out.len());
+    let first = r.next_place(0);
     let mut start = 0;
     for i in 0..places.layers() {
         let size = places.size(i);
-        let at = places.layer_place(rank, block, i, start);
-        out.add_part(at, c, r.part(start, size));
+        if first < start + size {
+            let at = places.layer_place(rank, block, i, start);
+            out.add_part(at, c, r.part(start, size));
+        }
         start += size;
     }
 }
 
-/// Where a linear map of the group algebra takes the members of the layer basis: to every step-th row, from the first on.
+/// Whether each entry of a block of v is 0.
+pub(crate) fn is_zero_block(places: &Places, rank: usize, block: usize, v: RowRef<'_>) -> bool
+    requires block { block < rank }
+    requires length { length (entries_of v) ≡ size_of places.now * rank }
+    requires small { size_of places.now * rank < 2 ^ 64 }
+    ensures { IsTrue result ↔ IsZeroBlock places.now rank block (entries_of v.entry) }
+{
+    let _length = v.len();
+    let mut start = 0;
+    for i in 0..places.layers() {
+        let size = places.size(i);
+        let at = places.layer_place(rank, block, i, start);
+        if !v.part(at, size).is_zero() {
+            return false;
+        }
+        start += size;
+    }
+    true
+}
+
+/// Where a linear map of the group algebra takes the members of the layer basis: to every step-th row, from
+/// the first on.
 #[derive(Clone, Copy)]
 pub(crate) struct Images<'a> {
     pub(crate) rows: &'a Matrix,
@@ -68,11 +92,47 @@ fn add_images(images: Images<'_>, start: usize, coefficients: RowRef<'_>, sum: &
         (λ k. entry (entries_of coefficients.entry) k
         * entry (stepped images.entry.rows.now.rows images.entry.first images.entry.step (start + k)) j)) }
 {
-    for k in 0..coefficients.len() {
-        let x = coefficients.get(k);
-        if x != 0 {
-            sum.add(x, images.image(start + k));
+    let mut k = coefficients.next_place(0);
+    while k < coefficients.len() {
+        sum.add(coefficients.get(k), images.image(start + k));
+        k = coefficients.next_place(k + 1);
+    }
+}
+
+/// A row with the first layer at which it is not 0, and the number of members before that layer.
+#[derive(Clone, Copy)]
+struct Tail<'a> {
+    row: RowRef<'a>,
+    layer: usize,
+    start: usize,
+}
+
+// Where a row begins.
+fn tail_of<'a>(places: &Places, rank: usize, v: RowRef<'a>) -> Tail<'a>
+    requires length { length (entries_of v) ≡ size_of places.now * rank }
+    requires small { size_of places.now * rank < 2 ^ 64 }
+    requires short { size_of places.now ≤ 256 }
+    ensures entries { entries_of result.row ≡ entries_of v.entry }
+    ensures modulus { modulus_of result.row ≡ modulus_of v.entry }
+    ensures begins { BeginsAt places.now rank result.layer result.start (entries_of v.entry) }
+{
+    let first = v.next_place(0);
+    let mut start = 0;
+    for layer in 0..places.layers() {
+        let next = start + places.size(layer);
+        if first < rank * next {
+            return Tail {
+                row: v,
+                layer,
+                start,
+            };
         }
+        start = next;
+    }
+    Tail {
+        row: v,
+        layer: places.layers(),
+        start,
     }
 }
 
@@ -82,29 +142,31 @@ fn block_image(
     images: Images<'_>,
     rank: usize,
     block: usize,
-    v: RowRef<'_>,
+    v: Tail<'_>,
 ) -> ShortRow
-    requires prime { images.rows.now.p ≡ modulus_of v }
+    requires prime { images.rows.now.p ≡ modulus_of v.row }
     requires block { block < rank }
-    requires length { length (entries_of v) ≡ size_of places.now * rank }
+    requires length { length (entries_of v.row) ≡ size_of places.now * rank }
+    requires begins { BeginsAt places.now rank v.layer v.start (entries_of v.row) }
     requires small { size_of places.now * rank < 2 ^ 64 }
     requires width { images.rows.now.width ≡ size_of places.now }
     requires short { size_of places.now ≤ 256 }
-    requires inside { (k : ℕ) → k < size_of places.now → images.first + k * images.step < length images.rows.now.rows }
+    requires inside { (k : ℕ) → k < size_of places.now
+        → images.first + k * images.step < length images.rows.now.rows }
     requires few { length images.rows.now.rows ≤ 65536 }
-    ensures prime { result.p ≡ modulus_of v.entry }
+    ensures prime { result.p ≡ modulus_of v.entry.row }
     ensures length { length result.entries ≡ size_of places.now }
     ensures image { (j : ℕ) → j < size_of places.now → IsCongruent result.p (entry result.entries j)
-        (sum_below (size_of places.now) (λ k. entry (entries_of v.entry) (place_of places.now rank block k)
+        (sum_below (size_of places.now) (λ k. entry (entries_of v.entry.row) (place_of places.now rank block k)
         * entry (stepped images.entry.rows.now.rows images.entry.first images.entry.step k) j)) }
 {
-    let _length = v.len();
+    let _length = v.row.len();
     let mut sum = ShortRow::zero(images.rows.prime(), images.rows.width());
-    let mut start = 0;
-    for i in 0..places.layers() {
+    let mut start = v.start;
+    for i in v.layer..places.layers() {
         let size = places.size(i);
         let at = places.layer_place(rank, block, i, start);
-        add_images(images, start, v.part(at, size), &mut sum);
+        add_images(images, start, v.row.part(at, size), &mut sum);
         start += size;
     }
     sum
@@ -117,24 +179,27 @@ fn add_block_image(
     rank: usize,
     block: usize,
     c: u8,
-    v: RowRef<'_>,
+    v: Tail<'_>,
     out: &mut Row,
 )
-    requires primes { (modulus_of v ≡ out.old.p) × (images.rows.now.p ≡ out.old.p) }
+    requires primes { (modulus_of v.row ≡ out.old.p) × (images.rows.now.p ≡ out.old.p) }
     requires block { block < rank }
     requires factor { c < out.old.p }
-    requires lengths { (length (entries_of v) ≡ size_of places.now * rank) × (length out.old.entries ≡ size_of places.now * rank) }
+    requires lengths { (length (entries_of v.row) ≡ size_of places.now * rank)
+        × (length out.old.entries ≡ size_of places.now * rank) }
+    requires begins { BeginsAt places.now rank v.layer v.start (entries_of v.row) }
     requires small { size_of places.now * rank < 2 ^ 64 }
     requires width { images.rows.now.width ≡ size_of places.now }
-    requires inside { (k : ℕ) → k < size_of places.now → images.first + k * images.step < length images.rows.now.rows }
+    requires inside { (k : ℕ) → k < size_of places.now
+        → images.first + k * images.step < length images.rows.now.rows }
     requires few { length images.rows.now.rows ≤ 65536 }
     requires short { size_of places.now ≤ 256 }
     ensures prime { out.new.p ≡ out.old.p }
     ensures gains { BlockGains out.old.p places.now rank block
-        (image_entry places.now rank (stepped images.entry.rows.now.rows images.entry.first images.entry.step) c (entries_of v.entry) block)
+        (image_entry places.now rank (stepped images.entry.rows.now.rows images.entry.first images.entry.step) c (entries_of v.entry.row) block)
         out.old.entries out.new.entries }
 {
-    prove!(out.len() == v.len());
+    prove!(out.len() == v.row.len());
     let sum = block_image(places, images, rank, block, v);
     add_to_block(places, rank, block, c, sum.view(), out);
 }
@@ -150,10 +215,12 @@ pub(crate) fn add_image(
 )
     requires primes { (modulus_of v ≡ out.old.p) × (images.rows.now.p ≡ out.old.p) }
     requires factor { c < out.old.p }
-    requires lengths { (length (entries_of v) ≡ size_of places.now * rank) × (length out.old.entries ≡ size_of places.now * rank) }
+    requires lengths { (length (entries_of v) ≡ size_of places.now * rank)
+        × (length out.old.entries ≡ size_of places.now * rank) }
     requires small { size_of places.now * rank < 2 ^ 64 }
     requires width { images.rows.now.width ≡ size_of places.now }
-    requires inside { (k : ℕ) → k < size_of places.now → images.first + k * images.step < length images.rows.now.rows }
+    requires inside { (k : ℕ) → k < size_of places.now
+        → images.first + k * images.step < length images.rows.now.rows }
     requires few { length images.rows.now.rows ≤ 65536 }
     requires short { size_of places.now ≤ 256 }
     ensures prime { out.new.p ≡ out.old.p }
@@ -164,7 +231,8 @@ pub(crate) fn add_image(
     if c == 0 {
         return;
     }
+    let tail = tail_of(places, rank, v);
     for block in 0..rank {
-        add_block_image(places, images, rank, block, c, v, out);
+        add_block_image(places, images, rank, block, c, tail, out);
     }
 }

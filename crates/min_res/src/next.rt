@@ -12,7 +12,7 @@ use crate::fault::ResFault;
 use crate::matrices::{chosen_rows, matrix_of};
 use crate::moves::moves;
 use crate::stage::Stage;
-use fp_rows::{Echelon, Positions, echelon, greedy, kernel, preimages};
+use fp_rows::{Echelon, Positions, echelon, greedy, kernel_and_preimages};
 use group_algebra::Algebra;
 use group_table::Memory;
 use std::alloc::Global;
@@ -59,19 +59,18 @@ fn stage_with(
     let source = last.list().clone()?;
     let rows = chosen_rows(alloc, &source, &positions)?;
     let matrix = matrix_of(alloc, algebra, last.rank(), &rows)?;
-    let list = kernel(alloc, &matrix)?;
-    let sections = preimages(alloc, &matrix, &source, &list)?;
+    let solved = kernel_and_preimages(alloc, &matrix, &source)?;
     let rank = positions.len();
     let boundary = Boundary {
         source,
         positions,
         matrix,
-        sections,
+        sections: solved.preimages,
     };
     Ok(Stage {
         degree: last.degree() + 1,
         rank,
-        kernel: Rc::new(alloc, list)?,
+        kernel: Rc::new(alloc, solved.kernel)?,
         boundary: Some(boundary),
     })
 }

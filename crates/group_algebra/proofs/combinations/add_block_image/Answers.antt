@@ -13,7 +13,7 @@ returns-clause-gains c = gains-congruent c.args.out.now.p c.args.places.now c.ar
     (λ j. c.args.c * entry (entries_of c.view.result) j)
     (image_entry c.args.places.now c.args.rank
     (stepped c.args.images.rows.now.rows c.args.images.first c.args.images.step) c.args.c
-    (entries_of c.args.v) c.args.block)
+    (entries_of c.args.v.row) c.args.block)
     c.args.out.now.entries c.add_to_block.new.out.entries
     (λ j l. congruent_mul_left c.args.c (rw c.view.ensures.entries
     (rw (c.block_image-sum.ensures.prime

@@ -13,7 +13,7 @@ invariant-loop-block l =
     × ((i j : ℕ) → i < l.block → j < size_of l.places
     → IsCongruent l.fn.out.p (entry l.out.entries (place_of l.places l.rank i j))
     (entry l.fn.out.entries (place_of l.places l.rank i j) + image_entry l.places l.rank
-    (stepped l.images.rows.now.rows l.images.first l.images.step) l.c (entries_of l.v) i j))
+    (stepped l.images.rows.now.rows l.images.first l.images.step) l.c (entries_of l.fn.v) i j))
     × ((i j : ℕ) → l.block ≤ i → i < l.rank → j < size_of l.places
     → entry l.out.entries (place_of l.places l.rank i j) ≡ entry l.fn.out.entries
     (place_of l.places l.rank i j))

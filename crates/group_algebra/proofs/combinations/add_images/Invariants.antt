@@ -1,4 +1,4 @@
-use Rattle.std.proofs.Common.{◌+◌, ◌*◌}
+use Rattle.std.proofs.Common.{◌+◌, ◌-◌, ◌*◌, ◌≤◌, length}
 use Rattle.linear_algebra.specs.Rows.{entry}
 use Rattle.fp_rows.specs.Refs.{entries_of}
 use Rattle.group_algebra.specs.Gains.{stepped}
@@ -6,5 +6,11 @@ use Rattle.group_algebra.proofs.ImageSums.{AreImagesAdded}
 use Rattle.group_algebra.proofs.combinations.add_images.Given as goal
 
 abbrev pub invariant-loop-k : goal.invariant-loop-k
-invariant-loop-k l = AreImagesAdded l.fn.sum.p l.fn.sum.entries (λ k j. entry (entries_of l.coefficients) k
-    * entry (stepped l.images.rows.now.rows l.images.first l.images.step (l.start + k)) j) l.k l.sum
+invariant-loop-k l = record {
+  within : l.k ≤ length (entries_of l.coefficients);
+  added : AreImagesAdded l.fn.sum.p l.fn.sum.entries (λ k j. entry (entries_of l.coefficients) k
+      * entry (stepped l.images.rows.now.rows l.images.first l.images.step (l.start + k)) j) l.k l.sum;
+}
+
+abbrev pub decreases-loop-k : goal.decreases-loop-k
+decreases-loop-k l = length (entries_of l.coefficients) - l.k

@@ -9,10 +9,10 @@ use Rattle.group_algebra.proofs.combinations.block_image.Given as goal
 
 abbrev pub invariant-loop-i : goal.invariant-loop-i
 invariant-loop-i l = record {
-  prime : l.sum.p ≡ modulus_of l.v;
+  prime : l.sum.p ≡ modulus_of l.v.row;
   count : length l.sum.entries ≡ size_of l.places;
   start : l.start ≡ start_at l.places l.i;
   image : (j : ℕ) → j < size_of l.places → IsCongruent l.sum.p (entry l.sum.entries j)
-      (sum_below (start_at l.places l.i) (λ k. entry (entries_of l.v) (place_of l.places l.rank l.block k)
+      (sum_below (start_at l.places l.i) (λ k. entry (entries_of l.v.row) (place_of l.places l.rank l.block k)
       * entry (stepped l.images.rows.now.rows l.images.first l.images.step k) j));
 }

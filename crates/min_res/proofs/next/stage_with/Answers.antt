@@ -40,14 +40,14 @@ matrix_of-requires-clause-fits c =
     (let small : order_of c.args.algebra.now * length c.args.positions ≤ 2 ^ 28 = c.requires.small in omega
     (arith, small))
 
-pub preimages-requires-clause-same_prime : goal.preimages-requires-clause-same_prime
-preimages-requires-clause-same_prime c =
+pub kernel_and_preimages-requires-clause-same_prime : goal.kernel_and_preimages-requires-clause-same_prime
+kernel_and_preimages-requires-clause-same_prime c =
     ap (λ (m : MatrixValue). m.p) (c.deref-2.ensures ∙ sym c.deref.ensures)
     ∙ sym (ap (λ (m : MatrixValue). m.p) c.in_ok-rows.ensures)
     ∙ sym c.in_ok-matrix.ensures.prime
 
-pub preimages-requires-clause-in_span : goal.preimages-requires-clause-in_span
-preimages-requires-clause-in_span c =
+pub kernel_and_preimages-requires-clause-in_span : goal.kernel_and_preimages-requires-clause-in_span
+kernel_and_preimages-requires-clause-in_span c =
     let same : c.deref.result.now.rows ≡ c.deref-2.result.now.rows =
     ap (λ (m : MatrixValue). m.rows) (c.deref.ensures ∙ sym c.deref-2.ensures) in
     let list : c.deref.result.now ≡ kernel_value c.args.algebra.now c.args.last.now.degree =
@@ -80,9 +80,9 @@ invariant_of-boundary c =
       matrix_prime = prime;
       matrix_width = c.in_ok-matrix.ensures.width ∙ ap (λ (m : MatrixValue). m.width) c.in_ok-rows.ensures
           ∙ ap (λ (m : MatrixValue). m.width) c.deref.ensures;
-      sections_prime = c.in_ok-sections.ensures.prime ∙ prime;
-      sections_width = c.in_ok-sections.ensures.width;
-      section_count = c.in_ok-sections.ensures.rows.count
+      sections_prime = c.in_ok-solved.ensures.primes.1 ∙ prime;
+      sections_width = c.in_ok-solved.ensures.widths.1;
+      section_count = c.in_ok-solved.ensures.preimages.count
           ∙ ap (λ (m : MatrixValue). length m.rows) c.deref-2.ensures;
     }
 
@@ -93,8 +93,8 @@ invariant_of-result c =
     ∙ ap (λ (m : MatrixValue). m.p) c.deref.ensures in
     record {
       rank = c.len-rank.ensures;
-      prime = ap (λ (m : MatrixValue). m.p) c.in_ok-new.ensures.ok ∙ c.in_ok-list.ensures.prime ∙ prime;
-      width = ap (λ (m : MatrixValue). m.width) c.in_ok-new.ensures.ok ∙ c.in_ok-list.ensures.width;
+      prime = ap (λ (m : MatrixValue). m.p) c.in_ok-new.ensures.ok ∙ c.in_ok-solved.ensures.primes.0 ∙ prime;
+      width = ap (λ (m : MatrixValue). m.width) c.in_ok-new.ensures.ok ∙ c.in_ok-solved.ensures.widths.0;
       degree = omega arith;
     }
 
@@ -103,7 +103,7 @@ returns-clause-width c =
     let count : length c.in_ok-rows.rows.rows ≡ length c.args.positions =
     ap (λ (m : MatrixValue). length m.rows) c.in_ok-rows.ensures
     ∙ length-map c.args.positions (row c.deref.result.now.rows) in
-    ap (λ (m : MatrixValue). m.width) c.in_ok-new.ensures.ok ∙ c.in_ok-list.ensures.width
+    ap (λ (m : MatrixValue). m.width) c.in_ok-new.ensures.ok ∙ c.in_ok-solved.ensures.widths.0
     ∙ c.in_ok-matrix.ensures.count
     ∙ ap (λ n. order_of c.args.algebra.now * n) count
 
@@ -114,7 +114,7 @@ returns-clause-stage c =
     let G : PGroup = c.args.algebra.now in
     let M : MatrixValue = c.in_ok-matrix.matrix in
     let list : MatrixValue = c.in_ok-new.field-0.value in
-    let list-rows : c.in_ok-list.list.rows ≡ list.rows =
+    let list-rows : c.in_ok-solved.solved.kernel.rows ≡ list.rows =
     sym (ap (λ (m : MatrixValue). m.rows) c.in_ok-new.ensures.ok) in
     let chosen : c.in_ok-rows.rows.rows ≡ rows_at c.args.last.now.kernel.rows c.args.positions =
     ap (λ (m : MatrixValue). m.rows) c.in_ok-rows.ensures
@@ -126,7 +126,7 @@ returns-clause-stage c =
       source = c.in_ok-source.source.value;
       positions = c.args.positions;
       matrix = M;
-      sections = c.in_ok-sections.sections;
+      sections = c.in_ok-solved.solved.preimages;
     })
     c.requires.last (ap (λ n. n + 1) c.degree.ensures) refl c.len-rank.ensures source c.requires.positions
     (c.in_ok-matrix.ensures.prime ∙ ap (λ (m : MatrixValue). m.p) c.in_ok-rows.ensures
@@ -135,11 +135,11 @@ returns-clause-stage c =
     ∙ ap (λ (m : MatrixValue). m.width) (c.deref.ensures ∙ source))
     (subst (λ b. HoldsValues G b (rows_at c.args.last.now.kernel.rows c.args.positions) M.rows) c.rank.ensures
     (subst (λ E. HoldsValues G c.rank.result E M.rows) chosen values))
-    (ap (λ (m : MatrixValue). m.p) c.in_ok-new.ensures.ok ∙ c.in_ok-list.ensures.prime)
-    (ap (λ (m : MatrixValue). m.width) c.in_ok-new.ensures.ok ∙ c.in_ok-list.ensures.width)
-    (subst (λ E. IsKernelOf M.p M.rows E) list-rows c.in_ok-list.ensures.rows)
-    c.in_ok-sections.ensures.prime c.in_ok-sections.ensures.width
-    (subst (λ E. ArePreimages M.p M.rows E c.args.last.now.kernel.rows c.in_ok-sections.sections.rows)
+    (ap (λ (m : MatrixValue). m.p) c.in_ok-new.ensures.ok ∙ c.in_ok-solved.ensures.primes.0)
+    (ap (λ (m : MatrixValue). m.width) c.in_ok-new.ensures.ok ∙ c.in_ok-solved.ensures.widths.0)
+    (subst (λ E. IsKernelOf M.p M.rows E) list-rows c.in_ok-solved.ensures.kernel)
+    c.in_ok-solved.ensures.primes.1 c.in_ok-solved.ensures.widths.1
+    (subst (λ E. ArePreimages M.p M.rows E c.args.last.now.kernel.rows c.in_ok-solved.solved.preimages.rows)
     list-rows
-    (subst (λ E. ArePreimages M.p M.rows c.in_ok-list.list.rows E c.in_ok-sections.sections.rows)
-    (ap (λ (m : MatrixValue). m.rows) (c.deref-2.ensures ∙ source)) c.in_ok-sections.ensures.rows))
+    (subst (λ E. ArePreimages M.p M.rows c.in_ok-solved.solved.kernel.rows E c.in_ok-solved.solved.preimages.rows)
+    (ap (λ (m : MatrixValue). m.rows) (c.deref-2.ensures ∙ source)) c.in_ok-solved.ensures.preimages))

@@ -8,12 +8,12 @@ use Rattle.fp_rows.specs.Refs.{entries_of}
 use Rattle.p_groups.specs.PGroups.{PGroup}
 use Rattle.group_algebra.specs.Coordinates.{free_module, row_of, table_of, sizes, product_with}
 use Rattle.group_algebra.specs.RowMaps.{IsBlock}
-use Rattle.group_algebra.specs.Gains.{stepped, GainsImage}
+use Rattle.group_algebra.specs.Gains.{stepped, GainsImage, IsZeroBlock}
 use Rattle.group_algebra.proofs.BlockSums.{block, entry-block, block-is, block-is-row}
 use Rattle.group_algebra.proofs.LayerRows.{size-is}
 use Rattle.group_algebra.proofs.Members.{residue-row}
 use Rattle.group_algebra.proofs.ImageLemmas.{row-of-ref, inside-steps, row-back, first_products, products-all}
-use Rattle.group_algebra.proofs.ImageLemmas.{product-gained}
+use Rattle.group_algebra.proofs.ImageLemmas.{product-gained, nothing-gained}
 use Rattle.group_algebra.proofs.algebra.Algebra.add_product.Goals as goal
 
 pub loop-k-init : goal.loop-k-init
@@ -150,3 +150,45 @@ add_image-requires-clause-short c =
     let size : size_of c.self.inside.places ≡ order c.self.inside.group.table =
     ap size_of c.self.invariant.sizes_are ∙ size-is c.self.inside.group in
     rw size c.self.invariant.small
+
+pub is_zero_block-requires-clause-length : goal.is_zero_block-requires-clause-length
+is_zero_block-requires-clause-length c =
+    let size : size_of c.self.inside.places ≡ order c.self.inside.group.table =
+    ap size_of c.self.invariant.sizes_are ∙ size-is c.self.inside.group in
+    (rw (← c.self.view_is) at c.requires.factor_length) ∙ ap (λ k. k * c.args.a.count) (sym size)
+
+pub is_zero_block-requires-clause-small : goal.is_zero_block-requires-clause-small
+is_zero_block-requires-clause-small c =
+    let size : size_of c.self.inside.places ≡ order c.self.inside.group.table =
+    ap size_of c.self.invariant.sizes_are ∙ size-is c.self.inside.group in
+    rw size (rw (← c.self.view_is) at c.requires.fits)
+
+pub returns-then-is_zero_block-clause-gained : goal.returns-then-is_zero_block-clause-gained
+returns-then-is_zero_block-clause-gained c a' B' =
+    let G : PGroup = c.self.inside.group in
+    let b : ℕ = c.args.rank in
+    let x : List ℕ = entries_of c.args.a.row in
+    let A : List ℕ = block G c.args.a.count x c.args.a.index in
+    let size : size_of c.self.inside.places ≡ order G.table = ap size_of c.self.invariant.sizes_are
+    ∙ size-is G in
+    let wide : IsRow G.table.p (order G.table * c.args.a.count) x =
+    row-of-ref x (rw (← c.self.view_is) at c.requires.factor_length)
+    (rw (← c.self.view_is) at c.requires.moduli.0) c.args.a.row.below in
+    let a : IsRow G.table.p (order G.table) A = subst (λ p. IsRow p (order G.table) A) (residues G)
+    (block-is-row G c.args.a.count x (residue-row G wide) c.args.a.index) in
+    let same : a' ≡ A = block-is G c.args.a.count x c.args.a.index a'
+    (subst (λ (X : PGroup). IsBlock X c.args.a.count c.args.a.index x a') (sym c.self.view_is) B') in
+    let out : IsRow G.table.p (order G.table * b) c.args.out.now.entries =
+    rw (← c.self.view_is) at (rw (c.requires.prime, c.requires.out_length) at c.len.ensures.row) in
+    let zero : IsZeroBlock (sizes G) c.args.a.count c.args.a.index x =
+    subst (λ ss. IsZeroBlock ss c.args.a.count c.args.a.index x) c.self.invariant.sizes_are
+    (c.if-is_zero_block.ensures.0 refl) in
+    subst (λ (X : PGroup). c.args.out.now.entries
+    ≡ row_of X b ((free_module X b).add (table_of X b c.args.out.now.entries)
+    (product_with X b (table_of X 1 a') (table_of X b (entries_of c.args.v))))) c.self.view_is
+    (subst (λ y. c.args.out.now.entries
+    ≡ row_of G b ((free_module G b).add (table_of G b c.args.out.now.entries)
+    (product_with G b (table_of G 1 y) (table_of G b (entries_of c.args.v))))) (sym same)
+    (nothing-gained G b A c.args.out.now.entries (table_of G b (entries_of c.args.v)) a out
+    (λ k l. entry-block G c.args.a.count x c.args.a.index k l
+    ∙ zero k (subst (λ m. k < m) (sym (size-is G)) l))))
