@@ -1,5 +1,7 @@
 -- The command of the words, by its name and the words after it.
-use Rattle.std.proofs.Common.{◌≡◌, ◌∙◌, ◌⊎◌, inl, inr, Bool, true, false, not, ◌&&◌, ◌==◌, ℕ, List, [], ◌∷◌, length, slice_index_or, drop, string_bytes, String, Global, ◌<◌, ◌≤◌, cond, sym, ap, subst, refl, codes, arith, true≢false}
+use Rattle.std.proofs.Common.{◌≡◌, ◌∙◌, ◌⊎◌, inl, inr, Bool, true, false, not, ◌&&◌, ◌==◌, ℕ, List, [], ◌∷◌}
+use Rattle.std.proofs.Common.{length, slice_index_or, drop, string_bytes, String, Global, ◌<◌, ◌≤◌, cond, sym}
+use Rattle.std.proofs.Common.{ap, subst, refl, codes, arith, true≢false}
 use Rattle.std.proofs.lemmas.Slice.Eq.{bytes_eq-Decides}
 use Rattle.std.proofs.lemmas.Bool.Decides.{nat_tests}
 use Rattle.std.specs.declared.option.Option.{Option}
@@ -22,7 +24,8 @@ use Rattle.coho_main.specs.Steps.{OrRefuse}
 use Rattle.coho_main.specs.Stops.{IsWordsStop, Settles, parse_stop}
 use Rattle.coho_main.specs.Refusals.{words_refused}
 use Rattle.coho_main.specs.Outcome.{Ask}
-use Rattle.coho_main.specs.Words.{Command, Group, Resolve, Ring, Sample, asked, command, file_and_degree, is_path}
+use Rattle.coho_main.specs.Words.{Command, Group, Resolve, Ring, Sample, asked, command, file_and_degree}
+use Rattle.coho_main.specs.Words.{is_path}
 use Rattle.coho_main.specs.Words.{one_operand, sample_number, texts, two_operands, with_degree}
 
 abbrev Text : Type 0
@@ -282,7 +285,8 @@ module _ (words rest : List Text) (plain : list_all is_path words ≡ true) (nam
   at_ring e = subst (λ ws. command ws ≡ of_degree Ring (file_and_degree ws)) (sym first)
       (ring_is name rest (subst (λ ws. list_all is_path ws ≡ true) first plain) e)
 
-  pub at_sample : bytes_eq name (codes "sample") ≡ true → command words ≡ option_map Sample (sample_number words)
+  pub at_sample : bytes_eq name (codes "sample") ≡ true
+      → command words ≡ option_map Sample (sample_number words)
   at_sample e = subst (λ ws. command ws ≡ option_map Sample (sample_number ws)) (sym first)
       (sample_is name rest (subst (λ ws. list_all is_path ws ≡ true) first plain) e)
 

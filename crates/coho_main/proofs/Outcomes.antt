@@ -18,17 +18,22 @@ use Rattle.power_commutator.specs.Presentations.{Presentation, first_fault}
 use Rattle.coho_report.specs.Lines.{report_lines}
 use Rattle.coho_main.specs.declared.status.Status.TheVariants as status
 use Rattle.coho_main.specs.Groups.{IsTableOf}
-use Rattle.coho_main.specs.Outcome.{Ask, ReadFront, ReadText, FitLength, OrFault, FitOrder, UnlessFalse, Accept, Load}
-use Rattle.coho_main.specs.Outcome.{Layers, Stages, FitStages, Report, Given, Answer, AnswerGroup, AnswerResolve}
-use Rattle.coho_main.specs.Outcome.{AnswerRing, AnswerSample, Reply, Comes, group_lines, stage_lines, Ending, ending, Outcome}
+use Rattle.coho_main.specs.Outcome.{Ask, ReadFront, ReadText, FitLength, OrFault, FitOrder, UnlessFalse}
+use Rattle.coho_main.specs.Outcome.{Accept, Load}
+use Rattle.coho_main.specs.Outcome.{Layers, Stages, FitStages, Report, Given, Answer, AnswerGroup}
+use Rattle.coho_main.specs.Outcome.{AnswerResolve}
+use Rattle.coho_main.specs.Outcome.{AnswerRing, AnswerSample, Reply, Comes, group_lines, stage_lines, Ending}
+use Rattle.coho_main.specs.Outcome.{ending, Outcome}
 use Rattle.coho_main.specs.Refusals.{read_refused, words_refused}
 use Rattle.coho_main.specs.Steps.{Refusal, ◌>>=◌, OrRefuse, OnGroup}
 use Rattle.coho_main.specs.Samples.{sample, sample_lines}
 use Rattle.coho_main.specs.Words.{Command, Group, Resolve, Ring, Sample, command}
 use Rattle.coho_main.proofs.Loads.{after_length, after_order, after_text}
 use Rattle.coho_main.proofs.OneResolution.{fit_decided, stages_decided}
-use Rattle.coho_main.proofs.Proper.{Ends, IsDecided, IsFunctional, IsProper, gives, on_group, or_refuse, refuse_if, refuses, then, then_ends, then_one}
-use Rattle.coho_main.proofs.Replies.{after_fit, after_sample_fit, group_answer, report_answer, sample_answer, stage_answer}
+use Rattle.coho_main.proofs.Proper.{Ends, IsDecided, IsFunctional, IsProper, gives, on_group, or_refuse}
+use Rattle.coho_main.proofs.Proper.{refuse_if, refuses, then, then_ends, then_one}
+use Rattle.coho_main.proofs.Replies.{after_fit, after_sample_fit, group_answer, report_answer, sample_answer}
+use Rattle.coho_main.proofs.Replies.{stage_answer}
 use Rattle.coho_main.proofs.Ringing.{report_decided}
 use Rattle.coho_main.proofs.SampleGroups.{sample_given}
 use Rattle.coho_main.proofs.TableExists.{table_exists}
@@ -108,7 +113,8 @@ given (Resolve path n) = load path
 given (Ring path n) = load path
 given (Sample k) = accept (sample k)
 
-given_loaded : (asked : Command) (P : Presentation) (old new : Content) → Given asked old (Ok P) new → IsLoaded P
+given_loaded : (asked : Command) (P : Presentation) (old new : Content) → Given asked old (Ok P) new
+    → IsLoaded P
 given_loaded (Group path) = loaded path
 given_loaded (Resolve path n) = loaded path
 given_loaded (Ring path n) = loaded path

@@ -1,5 +1,5 @@
 -- The answers to commands, as the calls make them.
-use Rattle.std.proofs.Common.{◌≡◌, ◌∙◌, List, ℕ, Vec, Global, refl, ap, sym, subst, inl, inr}
+use Rattle.std.proofs.Common.{◌≡◌, List, ℕ, Vec, Global, refl, ap, sym, subst, inl, inr}
 use Rattle.std.specs.List.{Contains}
 use Rattle.std.specs.declared.option.Option.{Option}
 use Rattle.std.specs.declared.option.Option.TheVariants.{None, Some}
@@ -13,7 +13,8 @@ use Rattle.power_commutator.specs.Presentations.{Presentation}
 use Rattle.coho_main.specs.declared.stop.Stop.{Stop}
 use Rattle.coho_main.specs.declared.words.Command.{Command as Named}
 use Rattle.coho_main.specs.Groups.{ForGroupOf}
-use Rattle.coho_main.specs.Outcome.{Ask, Load, Given, Report, Answer, AnswerGroup, AnswerResolve, AnswerRing, AnswerSample}
+use Rattle.coho_main.specs.Outcome.{Ask, Load, Given, Report, Answer, AnswerGroup, AnswerResolve, AnswerRing}
+use Rattle.coho_main.specs.Outcome.{AnswerSample}
 use Rattle.coho_main.specs.Outcome.{Reply, Comes, group_lines, stage_lines}
 use Rattle.coho_main.specs.Ringing.{IsReportTo, IsReportRefusal}
 use Rattle.coho_main.specs.Run.{OfFiles}
@@ -21,7 +22,8 @@ use Rattle.coho_main.specs.Stages.{Summary, AreStagesTo, Fit, IsStageRefusal}
 use Rattle.coho_main.specs.Steps.{Refusal, Step, ◌>>=◌, Gives}
 use Rattle.coho_main.specs.Stops.{IsRefused, Meets, Settles}
 use Rattle.coho_main.specs.Samples.{sample_lines}
-use Rattle.coho_main.specs.Words.{Command, Group, Resolve, Ring, Sample, IsRead, asked, command, contents, path_of, read_paths}
+use Rattle.coho_main.specs.Words.{Command, Group, Resolve, Ring, Sample, IsRead, asked, command, contents}
+use Rattle.coho_main.specs.Words.{path_of, read_paths}
 use Rattle.coho_main.proofs.Chain.{after_ok, at_stop, refused_settles, settled_meets}
 use Rattle.coho_main.proofs.Seen.{some_files}
 
@@ -96,12 +98,14 @@ module _ (P : Presentation) (n : ℕ) where
     )
 
 module _ (P : Presentation) (k : ℕ) where
-  pub sample_refused : (s : Stop) → IsRefused (StageRefusal P 4) s → Settles lines_of (AnswerSample P k) (Err s)
+  pub sample_refused : (s : Stop) → IsRefused (StageRefusal P 4) s
+      → Settles lines_of (AnswerSample P k) (Err s)
   sample_refused s h = refused_settles lines_of (AnswerSample P k) (StageRefusal P 4) s h
       (λ r q files. inr (r, (q, refl), refl))
 
   module _ (fit : ForGroupOf P (λ G. Fit G 4)) where
-    pub sample_too_many : (s : Stop) → IsRefused (λ refusal. ForGroupOf P (λ G. IsReportRefusal G 4 refusal)) s
+    pub sample_too_many : (s : Stop)
+        → IsRefused (λ refusal. ForGroupOf P (λ G. IsReportRefusal G 4 refusal)) s
         → Settles lines_of (AnswerSample P k) (Err s)
     sample_too_many s h =
         refused_settles lines_of (AnswerSample P k)
@@ -155,10 +159,12 @@ module _ (known : Option Content) where
   )
 
   -- the file of a command was read
-  pub given_load : (named : Command) (path : List ℕ) (r : Result Presentation Stop) → path_of named ≡ Some path
+  pub given_load : (named : Command) (path : List ℕ) (r : Result Presentation Stop)
+      → path_of named ≡ Some path
       → MeetsOf itself (Load path) known r → MeetsOf itself (Given named) known r
   given_load (Group p) path r e h = subst (λ p. MeetsOf itself (Load p) known r) (sym (same_path p path e)) h
-  given_load (Resolve p n) path r e h = subst (λ p. MeetsOf itself (Load p) known r) (sym (same_path p path e)) h
+  given_load (Resolve p n) path r e h = subst (λ p. MeetsOf itself (Load p) known r)
+      (sym (same_path p path e)) h
   given_load (Ring p n) path r e h = subst (λ p. MeetsOf itself (Load p) known r) (sym (same_path p path e)) h
   given_load (Sample k) path r e h = absurd (let no : ◌≡◌ {A = Option (List ℕ)} None (Some path) = e in cc)
 

@@ -102,4 +102,5 @@ not_answered stop.Memory e = cc
 pub stop_not_answered : {P : Type 0} (s : Stop) (ended : Status) (err err_now : Option (List ℕ)) (k m : ℕ)
     → Reported s ended err err_now k m → ended ≡ status.Answered → P
 stop_not_answered s ended err err_now k m r e =
-    absurd (not_answered s (sym (r (λ is. let no : status.Answered ≡ status.Memory = sym e ∙ is in cc)).0 ∙ e))
+    absurd (not_answered s (sym (r (λ is. let no : status.Answered ≡ status.Memory = sym e ∙ is in cc)).0
+    ∙ e))

@@ -3,11 +3,13 @@ ghost use Rattle.std.specs.List.{Contains};
 ghost use Rattle.coho_io.specs.Content.{Content};
 ghost use Rattle.coho_io.specs.Causes.{Rose};
 ghost use Rattle.coho_main.specs.Words.{IsRead, IsWithin, asked, command, contents, read_paths, texts};
-ghost use Rattle.coho_main.specs.Outcome.{Answer, AnswerGroup, AnswerResolve, AnswerRing, AnswerSample, Comes, Ending, Given, Outcome};
+ghost use Rattle.coho_main.specs.Outcome.{Answer, AnswerGroup, AnswerResolve, AnswerRing, AnswerSample};
+ghost use Rattle.coho_main.specs.Outcome.{Comes, Ending, Given, Outcome};
 ghost use Rattle.coho_main.specs.Refusals.{read_refused, write_refused};
 ghost use Rattle.coho_main.specs.RingAnswers.{TellsRingOf};
 ghost use Rattle.coho_main.specs.Stops.{Meets, Settles, HasReadCause, OnlyReads};
-ghost use Rattle.coho_main.specs.Run.{OfFiles, IsSettled, MayWrite, Tells, EndsAs, AnswersFront, WantsMemory, NoReadFault, Stays};
+ghost use Rattle.coho_main.specs.Run.{OfFiles, IsSettled, MayWrite, Tells, EndsAs, AnswersFront, WantsMemory};
+ghost use Rattle.coho_main.specs.Run.{NoReadFault, Stays};
 
 use crate::{
     Command, Status, Stop, accept, group_lines, load, radical_dimensions, read_words, report,
@@ -55,12 +57,21 @@ fn answer_ring<'a>(alloc: Global, consistent: &Consistent, n: u32) -> Result<Vec
 }
 
 // The lines of the answer to `sample`.
-fn answer_sample<'a>(alloc: Global, consistent: &Consistent, k: u32) -> Result<Vec<Vec<u8>>, Stop<'a>>
+fn answer_sample<'a>(
+    alloc: Global,
+    consistent: &Consistent,
+    k: u32,
+) -> Result<Vec<Vec<u8>>, Stop<'a>>
     ensures { Settles (λ lines. contents lines.items) (AnswerSample consistent.now k) result }
 {
     let resolution = resolution_of(alloc, consistent, SAMPLE_DEGREE)?;
-    let report =
-        compose(alloc, &resolution, SAMPLE_DEGREE, MOST_MONOMIALS, GREATEST_DIMENSION)?;
+    let report = compose(
+        alloc,
+        &resolution,
+        SAMPLE_DEGREE,
+        MOST_MONOMIALS,
+        GREATEST_DIMENSION,
+    )?;
     Ok(sample_lines(alloc, k, &report)?)
 }
 

@@ -1,10 +1,13 @@
 ghost use Rattle.std.specs.Prelude.{◌≡◌, ◌≤◌, IfErr, IfOk, None, Some, true};
 ghost use Rattle.std.specs.List.{list_all};
-ghost use Rattle.coho_main.specs.Words.{IsWithin, asked, command, file_and_degree, is_path, sample_number, texts};
+ghost use Rattle.coho_main.specs.Words.{IsWithin, asked, command, file_and_degree, is_path, sample_number};
+ghost use Rattle.coho_main.specs.Words.{texts};
 ghost use Rattle.coho_main.specs.Outcome.{Ask};
 ghost use Rattle.coho_main.specs.Stops.{IsWordsStop, Settles};
 
-use crate::{Cause, GREATEST_SAMPLE, Stop, all_plain, one_operand, read_degree, read_sample, two_operands};
+use crate::{
+    Cause, GREATEST_SAMPLE, Stop, all_plain, one_operand, read_degree, read_sample, two_operands,
+};
 use limits::GREATEST_DEGREE;
 use std::alloc::Global;
 
@@ -69,7 +72,9 @@ pub fn read_words<'a>(alloc: Global, words: &'a [String]) -> Result<Command<'a>,
             let (path, degree) = file_and_degree(alloc, words)?;
             Ok(Command::Ring(path, degree))
         }
-        [name, ..] if name.as_str() == "sample" => Ok(Command::Sample(sample_number(alloc, words)?)),
+        [name, ..] if name.as_str() == "sample" => {
+            Ok(Command::Sample(sample_number(alloc, words)?))
+        }
         _ => Err(Stop::Refused(Cause::Words)),
     }
 }

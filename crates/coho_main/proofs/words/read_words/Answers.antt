@@ -5,9 +5,11 @@ use Rattle.clap.specs.Values.{kind_of}
 use Rattle.std.specs.Option.{option_map}
 use Rattle.coho_main.specs.Words.{Resolve, Ring, Sample, file_and_degree, sample_number, texts}
 use Rattle.coho_main.specs.declared.words.Command.TheVariants as given
-use Rattle.coho_main.proofs.Commands.{named, reads, unread, stopped, group_found, group_none, at_resolve, at_ring, at_sample, of_degree, no_words, refuses, unnamed}
+use Rattle.coho_main.proofs.Commands.{named, reads, unread, stopped, group_found, group_none, at_resolve}
+use Rattle.coho_main.proofs.Commands.{at_ring, at_sample, of_degree, no_words, refuses, unnamed}
 use Rattle.coho_main.proofs.words.read_words.Goals as goal
-use Rattle.coho_main.proofs.words.read_words.Goals.{in_default-via-then-words-lt1, in_default-via-in-len1-up-4+else-eq-4}
+use Rattle.coho_main.proofs.words.read_words.Goals.{in_default-via-then-words-lt1}
+use Rattle.coho_main.proofs.words.read_words.Goals.{in_default-via-in-len1-up-4+else-eq-4}
 
 pub returns-in_err-one_operand-in-len1-up-clause-step :
     goal.returns-in_err-one_operand-in-len1-up-clause-step
@@ -161,7 +163,8 @@ returns-in_ok-sample_number-in-len1-up-4-clause-command c =
     at_sample words (drop 1 words) plain name first is_named
     ∙ ap (option_map Sample) c.in_ok-sample_number-in-len1-up-4.ensures.found
 
-pub returns-in_ok-sample_number-in-len1-up-4-clause-step : goal.returns-in_ok-sample_number-in-len1-up-4-clause-step
+pub returns-in_ok-sample_number-in-len1-up-4-clause-step :
+    goal.returns-in_ok-sample_number-in-len1-up-4-clause-step
 returns-in_ok-sample_number-in-len1-up-4-clause-step c =
     let words = texts c.args.words.now in
     let first = named c.args.words.now c.name-item-4.result c.in-len1-up.len_at_least c.name-item-4.is in
@@ -179,15 +182,18 @@ returns-in_default-clause-step c =
     let given = c.args.words.now in
     let words = texts given in
     elim c.in_default.branch [
-      in_default-via-then-words-lt1 w ↦ refuses words (no_words given (search rules))
-    | in_default-via-in-len1-up-4+else-eq-4 w ↦
-      refuses words (unnamed words _ _ _ _
-      (named given w.name-item.result w.in-len1-up.len_at_least w.name-item.is)
-      (named given w.name-item-2.result w.in-len1-up.len_at_least w.name-item-2.is)
-      (named given w.name-item-3.result w.in-len1-up.len_at_least w.name-item-3.is)
-      (named given w.name-item-4.result w.in-len1-up.len_at_least w.name-item-4.is)
-      (ap (λ t. bytes_eq t (codes "group")) (sym w.as_str.ensures.value) ∙ sym w.eq.ensures ∙ w.if-eq.false)
-      (ap (λ t. bytes_eq t (codes "resolve")) (sym w.as_str-2.ensures.value) ∙ sym w.eq-2.ensures ∙ w.if-eq-2.false)
-      (ap (λ t. bytes_eq t (codes "ring")) (sym w.as_str-3.ensures.value) ∙ sym w.eq-3.ensures ∙ w.if-eq-3.false)
-      (ap (λ t. bytes_eq t (codes "sample")) (sym w.as_str-4.ensures.value) ∙ sym w.eq-4.ensures ∙ w.if-eq-4.false))
+      | in_default-via-then-words-lt1 w ↦ refuses words (no_words given (search rules))
+      | in_default-via-in-len1-up-4+else-eq-4 w ↦
+          refuses words (unnamed words _ _ _ _
+          (named given w.name-item.result w.in-len1-up.len_at_least w.name-item.is)
+          (named given w.name-item-2.result w.in-len1-up.len_at_least w.name-item-2.is)
+          (named given w.name-item-3.result w.in-len1-up.len_at_least w.name-item-3.is)
+          (named given w.name-item-4.result w.in-len1-up.len_at_least w.name-item-4.is)
+          (ap (λ t. bytes_eq t (codes "group")) (sym w.as_str.ensures.value) ∙ sym w.eq.ensures ∙ w.if-eq.false)
+          (ap (λ t. bytes_eq t (codes "resolve")) (sym w.as_str-2.ensures.value) ∙ sym w.eq-2.ensures
+          ∙ w.if-eq-2.false)
+          (ap (λ t. bytes_eq t (codes "ring")) (sym w.as_str-3.ensures.value) ∙ sym w.eq-3.ensures
+          ∙ w.if-eq-3.false)
+          (ap (λ t. bytes_eq t (codes "sample")) (sym w.as_str-4.ensures.value) ∙ sym w.eq-4.ensures
+          ∙ w.if-eq-4.false))
     ]
