@@ -3,7 +3,7 @@ use Rattle.std.proofs.Common.{◌≡◌, ◌↔◌, ℕ, suc, ◌*◌, ◌<◌, 
 use mathlib.Core.Path.{subst}
 use Rattle.std.proofs.lemmas.List.{get_or_past}
 use Rattle.std.proofs.lemmas.Bool.{cases_lt}
-use Rattle.std.proofs.Common.{inl, inr, ◌⊎◌, ◌≤◌, ◌≢◌, Bool, IsTrue, slice_index}
+use Rattle.std.proofs.Common.{inl, inr, ◌≢◌, Bool, IsTrue, slice_index}
 use Rattle.group_modules.specs.Field.{Below, residue}
 use Rattle.group_modules.proofs.MapLaws.{terms-linear}
 use Rattle.linear_algebra.specs.Rows.{entry, row, combination_row, IsRow, IsMatrix, IsEchelon}

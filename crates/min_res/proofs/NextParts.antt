@@ -1,7 +1,7 @@
 -- The six checks row by row are those that decide, and parts that pass are those of the next stage.
-use Rattle.std.proofs.Common.{◌≡◌, ◌↔◌, ℕ, suc, ◌+◌, ◌*◌, ◌<◌, ◌≤◌, List, length, arith, ap, sym, ◌∙◌}
+use Rattle.std.proofs.Common.{◌≡◌, ℕ, ◌+◌, ◌*◌, ◌<◌, ◌≤◌, List, length, arith, sym}
 use mathlib.Core.Path.{subst}
-use Rattle.linear_algebra.specs.Rows.{row, IsEchelon}
+use Rattle.linear_algebra.specs.Rows.{IsEchelon}
 use Rattle.resolution_stages.specs.Checks.{StageParts, IsNextStage}
 use Rattle.resolution_stages.specs.Chain.{parts_of}
 use Rattle.resolution_stages.proofs.CheckClaims.{checks-next, next-checks}

@@ -1,5 +1,5 @@
 -- The six checks of the parts of a stage that comes from outside, a row at a time, and the first that fails.
-use Rattle.std.specs.Prelude.{◌≡◌, ◌≢◌, ℕ, suc, ◌<◌, List, length, slice_index}
+use Rattle.std.specs.Prelude.{◌≡◌, ◌≢◌, ℕ, ◌<◌, List, length, slice_index}
 use Rattle.group_modules.specs.Field.{Below, residue}
 use Rattle.group_modules.specs.Tables.{block-sum}
 use Rattle.linear_algebra.specs.Rows.{entry, row, pivot}

@@ -7,7 +7,7 @@ ghost use Rattle.limits.specs.declared.TheConstants.{GREATEST_DEGREE};
 ghost use Rattle.p_groups.specs.PGroups.{PGroup};
 ghost use Rattle.stage_file.specs.Honest.{IsShapeAt, IsVerdict};
 ghost use Rattle.stage_file.specs.Headers.{ranged};
-ghost use Rattle.stage_file.specs.Views.{reading_of};
+ghost use Rattle.stage_file.specs.Views.{IsOver, reading_of};
 ghost use Rattle.stage_records.specs.Readings.{fits, read_fields, read_parts, read_record};
 ghost use Rattle.stage_records.specs.declared.TheConstants.{GREATEST_WIDTH};
 ghost use Rattle.stage_records.specs.Records.{record_length};
@@ -46,6 +46,7 @@ pub fn record_len(first: &[u8; 4]) -> Option<u32>
 /// stages of a group this and the six checks decide as the walk does. It takes no memory.
 pub fn next_record<'a>(bytes: &'a [u8], shape: &Shape) -> Record<'a>
     ensures reading { reading_of result ≡ read_record shape.now bytes.now }
+    ensures prime { IsOver (prime_value shape.now.p) result }
     ensures verdict { (G : PGroup) (d : ℕ) → suc d ≤ GREATEST_DEGREE → IsShapeAt G d shape.now
         → IsVerdict G d shape.now bytes.now }
 {
@@ -55,7 +56,8 @@ pub fn next_record<'a>(bytes: &'a [u8], shape: &Shape) -> Record<'a>
 // The record at the front of the bytes.
 #[tactic(auto, unfolding(stage_records::specs::Readings::read_record))]
 fn read_front<'a>(bytes: &'a [u8], shape: &Shape) -> Record<'a>
-    ensures { reading_of result ≡ read_record shape.now bytes.now }
+    ensures reading { reading_of result ≡ read_record shape.now bytes.now }
+    ensures prime { IsOver (prime_value shape.now.p) result }
 {
     if bytes.len() < 4 {
         return Record::Cut;
@@ -84,7 +86,8 @@ fn read_fields<'a>(bytes: &'a [u8], size: usize, shape: &Shape) -> Record<'a>
     requires size { size ≡ length_at bytes.now }
     requires least { 36 ≤ size }
     requires enough { 4 + size ≤ length bytes.now }
-    ensures { reading_of result ≡ read_fields shape.now bytes.now }
+    ensures reading { reading_of result ≡ read_fields shape.now bytes.now }
+    ensures prime { IsOver (prime_value shape.now.p) result }
 {
     if number_at(bytes, 2) != shape.degree {
         return Record::Malformed(Field::Degree);
@@ -105,7 +108,8 @@ fn read_parts(bytes: &[u8], p: Prime, previous: usize, rank: usize, width: usize
     requires few { rank ≤ 65535 }
     requires room { previous ≤ width }
     requires enough { 4 + record_length rank width ≤ length bytes.now }
-    ensures { reading_of result ≡ read_parts (prime_value p) previous rank width bytes.now }
+    ensures reading { reading_of result ≡ read_parts (prime_value p) previous rank width bytes.now }
+    ensures prime { IsOver (prime_value p) result }
 {
     let positions = part(bytes, 8, 2 * rank);
     if !are_places(positions, rank, previous) {

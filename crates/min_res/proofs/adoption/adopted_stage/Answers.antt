@@ -1,4 +1,4 @@
-use Rattle.std.proofs.Common.{◌≡◌, ◌+◌, List, ℕ, IfErr, length, ap, sym, ◌∙◌, refl, rules}
+use Rattle.std.proofs.Common.{◌+◌, List, ℕ, IfErr, length, ap, sym, ◌∙◌, refl, rules}
 use mathlib.Core.Path.{subst}
 use Rattle.resolution_stages.specs.Checks.{StageParts}
 use Rattle.min_res.specs.RecordChecks.{IsNotAdopted}

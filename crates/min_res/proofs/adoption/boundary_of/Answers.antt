@@ -2,10 +2,9 @@ use Rattle.std.proofs.Common.{◌≡◌, ◌<◌, ◌*◌, ℕ, List, length, ap
 use Rattle.std.specs.Prelude.{slice_index}
 use Rattle.std.proofs.lemmas.List.{length-map}
 use mathlib.Core.Path.{subst}
-use Rattle.linear_algebra.specs.Choices.{rows_at}
 use Rattle.linear_algebra.specs.Rows.{row}
 use Rattle.fp_rows.specs.Values.{MatrixValue}
-use Rattle.p_groups.specs.PGroups.{PGroup, order_of, prime_of}
+use Rattle.p_groups.specs.PGroups.{PGroup, order_of}
 use Rattle.min_res.specs.Defined.{kernel_value}
 use Rattle.min_res.proofs.MapRows.{HoldsValues}
 use Rattle.min_res.proofs.AdoptedStage.{matrix-by}

@@ -1,4 +1,4 @@
-use Rattle.std.proofs.Common.{◌≡◌, ap}
+use Rattle.std.proofs.Common.{ap}
 use Rattle.fp_rows.specs.Values.{MatrixValue}
 use Rattle.min_res.specs.declared.check.Check.TheVariants as check_of
 use Rattle.min_res.proofs.NextParts.{first-bad}

@@ -1,4 +1,4 @@
-use Rattle.std.proofs.Common.{◌≡◌, ◌↔◌, ◌<◌, ◌≤◌, ℕ, IsTrue, refl, arith, below_more, length, slice_index, sym, ◌∙◌}
+use Rattle.std.proofs.Common.{◌<◌, ◌≤◌, ℕ, refl, arith, below_more, length, slice_index, sym, ◌∙◌}
 use Rattle.fp_rows.specs.Refs.{entries_of}
 use Rattle.min_res.specs.RecordChecks.{HasSumZero}
 use Rattle.min_res.proofs.BlockSums.{sums-at}

@@ -13,8 +13,8 @@ invariant_of-result c = record {
       ∙ c.if-not-are_below.false);
 }
 
-pub returns : goal.returns
-returns c =
+pub returns-clause-reading : goal.returns-clause-reading
+returns-clause-reading c =
     whole-made (prime_value c.args.p) c.args.previous c.args.rank c.args.width c.args.bytes.now
     c.part-positions.result.now c.part-4.result.now c.part-5.result.now c.part.result.now
     c.part-2.result.now c.part-3.result.now

@@ -3,10 +3,8 @@ use mathlib.Core.Path.{subst}
 use Rattle.std.proofs.lemmas.Bool.{lt-ltb}
 use Rattle.linear_algebra.specs.Rows.{entry, row, pivot}
 use Rattle.group_modules.specs.Field.{Below}
-use Rattle.fp_rows.specs.Refs.{entries_of}
 use Rattle.min_res.specs.RecordChecks.{HasSumZero}
 use Rattle.min_res.specs.declared.check.Check.{Check}
-use Rattle.min_res.specs.declared.check.Check.TheVariants as check_of
 use Rattle.min_res.specs.Held.{Holds, rows_of}
 use Rattle.min_res.proofs.Candidates.{reduced}
 use Rattle.min_res.proofs.candidate.Candidate.holds.Goals as goal

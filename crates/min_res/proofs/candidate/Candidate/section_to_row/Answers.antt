@@ -1,9 +1,8 @@
-use Rattle.std.proofs.Common.{◌≡◌, ◌*◌, List, ℕ, length, ap, sym, ◌∙◌}
+use Rattle.std.proofs.Common.{◌≡◌, List, ℕ, length, ap, sym, ◌∙◌}
 use Rattle.linear_algebra.specs.Rows.{row}
 use Rattle.fp_rows.specs.Refs.{entries_of}
 use Rattle.fp_rows.specs.Values.{MatrixValue}
 use Rattle.group_algebra.specs.Coordinates.{row_of}
-use Rattle.p_groups.specs.PGroups.{order_of}
 use Rattle.min_res.specs.Candidates.{IsValueRow}
 use Rattle.min_res.specs.Stages.{rank_of, stage_rows}
 use Rattle.min_res.specs.RecordChecks.{boundary_at}
