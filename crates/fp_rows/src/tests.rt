@@ -359,6 +359,7 @@ fn finds_kernel_and_preimages_at_once(rt: HostRuntime) -> Result<(), Fail> {
     let alloc = rt.alloc();
     let m = matrix_of(&rt, alloc, Prime::P3, 2, &[1, 2, 2, 1, 0, 1])?;
     let e = echelon(alloc, &m)?;
+    assert_eq!(rt; e.rows(), 2);
     assert!(rt; shows(e.row(0), &[1, 0]) && shows(e.row(1), &[0, 1]));
     let solved = kernel_and_preimages(alloc, &m, &e)?;
     assert_eq!(rt; (solved.kernel.rows(), solved.preimages.rows()), (1, 2));

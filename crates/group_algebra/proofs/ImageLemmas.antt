@@ -28,7 +28,7 @@ use Rattle.group_algebra.proofs.Members.{residue-row}
 use Rattle.group_algebra.proofs.LayerRows.{block, each_block, image-added, size-is, expand-one}
 use Rattle.group_algebra.proofs.ElementRows.{product-expand}
 
-zeros-are-row : (p w : ℕ) → 0 < p → IsRow p w (replicate w 0)
+pub zeros-are-row : (p w : ℕ) → 0 < p → IsRow p w (replicate w 0)
 zeros-are-row p w l = record {
   length_is = length-replicate w 0;
   below = λ j m. subst (λ x. x < p) (sym (get_or-replicate w j 0 0 m)) l;
@@ -130,7 +130,7 @@ module _ (G : PGroup) where
       ((M b).act g w))))
       ∙ ap (λ u. block G b u i) (sym (product-expand G b a w)))))
 
-  product-additive : (b : ℕ) (a : (M 1).of) → IsAdditive (M b) (M b) (product_with G b a)
+  pub product-additive : (b : ℕ) (a : (M 1).of) → IsAdditive (M b) (M b) (product_with G b a)
   product-additive b a x y = lin-add (M b) (λ i. x) (λ i. y) (terms q (group G) 1 a)
 
   -- the sum of the first products

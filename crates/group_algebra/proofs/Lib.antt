@@ -1,6 +1,7 @@
 pub mod LayerLaws
 pub mod CoefficientLemmas
 pub mod Members
+pub mod UnitImages
 pub mod Descending
 pub mod ListLemmas
 pub mod PowerLemmas

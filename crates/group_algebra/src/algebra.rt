@@ -2,6 +2,7 @@
 
 ghost use Rattle.std.specs.Prelude.{◌≡◌, ◌*◌, ◌^◌, ◌<◌, ℕ, List, length, slice_index, IfOk};
 ghost use Rattle.group_modules.specs.Tables.{block-sum};
+ghost use Rattle.linear_algebra.specs.Kernels.{unit_row};
 ghost use Rattle.radical_layers.specs.Placing.{place_of};
 ghost use Rattle.fp_rows.specs.Refs.{entries_of, modulus_of};
 ghost use Rattle.p_groups.specs.PGroups.{largest_residue, group as group_of, order_of, prime_of};
@@ -227,6 +228,31 @@ impl Algebra {
             };
             self.add_product(rank, block, row.view(), out);
         }
+    }
+
+    /// Writes the value at the unit row of place j of the linear map to kG^rank that takes basis element k to
+    /// row k, from the free module with one basis element for each row.
+    pub fn apply_to_unit(&self, rank: usize, rows: &Matrix, j: usize, out: &mut Row)
+        requires rows_prime { rows.now.p ≡ prime_of self.now }
+        requires prime { out.old.p ≡ prime_of self.now }
+        requires rows_width { rows.now.width ≡ order_of self.now * rank }
+        requires fits { order_of self.now * length rows.now.rows < 2 ^ 64 }
+        requires place { j < order_of self.now * length rows.now.rows }
+        requires out_length { length out.old.entries ≡ order_of self.now * rank }
+        ensures prime { out.new.p ≡ out.old.p }
+        ensures value { out.new.entries
+            ≡ map_row self.now rank rows.now.rows (unit_row (order_of self.now * length rows.now.rows) j) }
+    {
+        let location = self.places.location(rows.rows(), j);
+        let row = rows.row(location.block);
+        let _length = row.len();
+        let images = Images {
+            rows: &self.products,
+            first: location.member,
+            step: self.group.order() as usize,
+        };
+        out.clear();
+        add_image(&self.places, images, rank, 1, row, out);
     }
 
     // Adds the product of a block of a row, read in place as a member of kG, and a member v of kG^rank.

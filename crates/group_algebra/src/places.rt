@@ -51,6 +51,13 @@ fn spot_of(sizes: &[usize], member: usize) -> Spot
     unreachable!()
 }
 
+/// A block and a member.
+#[derive(Clone, Copy)]
+pub(crate) struct Location {
+    pub(crate) block: usize,
+    pub(crate) member: usize,
+}
+
 impl Places {
     /// The places by layers of these sizes, `count` in sum.
     pub(crate) fn new(alloc: Global, sizes: Vec<usize>, count: usize) -> Result<Places, Memory>
@@ -112,5 +119,29 @@ impl Places {
     {
         let start = self.starts[member];
         rank * start + block * self.spans[member] + (member - start)
+    }
+
+    /// The block, of `rank` blocks, and the member at a place.
+    pub(crate) fn location(&self, rank: usize, place: usize) -> Location
+        requires inside { place < size_of self.now * rank }
+        requires small { size_of self.now * rank < 2 ^ 64 }
+        requires few { size_of self.now ≤ 256 }
+        ensures block { result.block < rank }
+        ensures member { result.member < size_of self.now }
+        ensures place { place_of self.now rank result.block result.member ≡ place }
+    {
+        let mut start = 0;
+        for layer in 0..self.layers() {
+            let size = self.size(layer);
+            if place < rank * (start + size) {
+                let inside = place - rank * start;
+                return Location {
+                    block: inside / size,
+                    member: start + inside % size,
+                };
+            }
+            start += size;
+        }
+        unreachable!()
     }
 }

@@ -48,12 +48,10 @@ pub(crate) fn matrix_of(
         (unit_row (order_of algebra.now * length rows.now.rows) j)) }
 {
     let dimension = algebra.group().order() as usize * rows.rows();
-    let mut unit = Row::zero(alloc, rows.prime(), dimension)?;
     let mut value = Row::zero(alloc, rows.prime(), rows.width())?;
     let mut matrix = Matrix::new(alloc, rows.prime(), rows.width());
     for j in 0..dimension {
-        unit.set_unit(j);
-        algebra.apply(target, rows, unit.view(), &mut value);
+        algebra.apply_to_unit(target, rows, j, &mut value);
         matrix.push(value.view())?;
     }
     Ok(matrix)

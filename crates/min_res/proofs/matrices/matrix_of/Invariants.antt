@@ -7,8 +7,6 @@ use Rattle.min_res.proofs.matrices.matrix_of.Given as goal
 
 abbrev pub invariant-loop-j : goal.invariant-loop-j
 invariant-loop-j l = record {
-  unit_prime : l.unit.p ≡ prime_of l.algebra;
-  unit_length : length l.unit.entries ≡ l.dimension;
   value_prime : l.value.p ≡ prime_of l.algebra;
   value_length : length l.value.entries ≡ l.rows.width;
   matrix_prime : l.matrix.p ≡ l.rows.p;
