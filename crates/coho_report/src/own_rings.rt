@@ -100,7 +100,7 @@ fn place_of(known: &[Rc<OwnRing>], rank: usize) -> Option<usize>
 }
 
 // The same stages and ring.
-fn shared(own: &Rc<OwnRing>) -> Result<Rc<OwnRing>, Memory>
+pub(crate) fn shared(own: &Rc<OwnRing>) -> Result<Rc<OwnRing>, Memory>
     ensures { IfOk result (λ o. o.value ≡ own.now.value) }
 {
     Ok(own.clone()?)

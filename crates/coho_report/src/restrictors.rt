@@ -28,19 +28,18 @@ pub(crate) struct Restrictor {
 pub(crate) fn restrictor_of(
     alloc: Global,
     e: &ElemAb,
-    own: &Rc<OwnRing>,
+    own: Rc<OwnRing>,
     res: &Resolution,
     n: u32,
 ) -> Result<Restrictor, Memory>
     requires subgroup { IsSubgroupOf res.now.group.table e.now }
-    requires own { IsOwnRing res.now.group n (length e.now.basis) own.now.value }
+    requires own { IsOwnRing res.now.group n (length e.now.basis) own.value }
     requires within { n ≤ res.now.last }
     ensures restrictor { IfOk result (IsRestrictor res.now.group n) }
     ensures basis { IfOk result (λ x. x.map.basis ≡ e.now.basis) }
 {
     let mut map = EmbedMap::new(alloc, e, &own.resolution, res)?;
     map.extend_to(&own.resolution, res, n)?;
-    let own = own.clone()?;
     Ok(Restrictor { own, map })
 }
 

@@ -20,7 +20,7 @@ ghost use Rattle.coho_report.specs.Subgroups.{IsImage, IsToldOf};
 
 use crate::ReportFault;
 use crate::fault::of_subgroup;
-use crate::own_rings::{OwnRing, shared_ring};
+use crate::own_rings::{OwnRing, shared, shared_ring};
 use crate::restrictors::{Restrictor, restrictor_of};
 use chain_lift::EmbedMap;
 use fp_rows::Row;
@@ -121,50 +121,33 @@ fn image(
 }
 
 // The restrictions of the generators to the subgroup.
-fn images(
-    alloc: Global,
-    e: &ElemAb,
-    own: &OwnRing,
-    res: &Resolution,
-    ring: &Ring,
-) -> Result<Vec<Poly>, Memory>
-    requires subgroup { IsSubgroupOf res.now.group.table e.now }
-    requires own { IsOwnRing res.now.group ring.now.degree (length e.now.basis) own.now }
-    requires ring { IsRingThrough res.now.group ring.now.degree ring.now }
-    requires within { ring.now.degree ≤ res.now.last }
+fn images(alloc: Global, map: &EmbedMap, own: &OwnRing, ring: &Ring) -> Result<Vec<Poly>, Memory>
+    requires own { IsOwnRing map.now.group ring.now.degree (length map.now.basis) own.now }
+    requires ring { IsRingThrough map.now.group ring.now.degree ring.now }
+    requires height { ring.now.degree ≤ map.now.height }
     ensures { IfOk result (λ v. AreRelated
-        (IsImage res.now.group e.now.basis
-        (generators_of (largest_residue res.now.group) own.now.ring.generators))
-        (generators_of (largest_residue res.now.group) ring.now.generators) v.items) }
+        (IsImage map.now.group map.now.basis
+        (generators_of (largest_residue map.now.group) own.now.ring.generators))
+        (generators_of (largest_residue map.now.group) ring.now.generators) v.items) }
 {
-    let mut map = EmbedMap::new(alloc, e, &own.resolution, res)?;
-    map.extend_to(&own.resolution, res, ring.degree())?;
     let mut images = Vec::new(alloc);
     for i in 0..ring.gens().len() {
-        images.push(image(alloc, &map, own, ring, i)?)?;
+        images.push(image(alloc, map, own, ring, i)?)?;
     }
     Ok(images)
 }
 
 // What is told of the subgroup.
-fn told_of(
-    alloc: Global,
-    e: &ElemAb,
-    own: Rc<OwnRing>,
-    res: &Resolution,
-    ring: &Ring,
-) -> Result<SubgroupReport, Memory>
-    requires subgroup { IsSubgroupOf res.now.group.table e.now }
-    requires own { IsOwnRing res.now.group ring.now.degree (length e.now.basis) own.value }
-    requires ring { IsRingThrough res.now.group ring.now.degree ring.now }
-    requires within { ring.now.degree ≤ res.now.last }
-    ensures { IfOk result (IsToldOf res.now.group ring.now.degree
-        (generators_of (largest_residue res.now.group) ring.now.generators) e.now) }
+fn told_of(alloc: Global, e: &ElemAb, x: &Restrictor, ring: &Ring) -> Result<SubgroupReport, Memory>
+    requires restrictor { IsRestrictorOf x.now.map.group ring.now.degree e.now x.now }
+    requires ring { IsRingThrough x.now.map.group ring.now.degree ring.now }
+    ensures { IfOk result (IsToldOf x.now.map.group ring.now.degree
+        (generators_of (largest_residue x.now.map.group) ring.now.generators) e.now) }
 {
-    let images = images(alloc, e, &own, res, ring)?;
+    let images = images(alloc, &x.map, &x.own, ring)?;
     Ok(SubgroupReport {
         subgroup: e.try_clone(alloc)?,
-        own,
+        own: shared(&x.own)?,
         images,
     })
 }
@@ -206,8 +189,9 @@ fn told_of_each(
         let e = list.get(i);
         match shared_ring(alloc, e, res, n, limit, &mut known) {
             Ok(own) => {
-                restrictors.push(restrictor_of(alloc, e, &own, res, n)?)?;
-                reports.push(told_of(alloc, e, own, res, ring)?)?;
+                let restrictor = restrictor_of(alloc, e, own, res, n)?;
+                reports.push(told_of(alloc, e, &restrictor, ring)?)?;
+                restrictors.push(restrictor)?;
             }
             Err(fault) => return Err(of_subgroup(i, fault)),
         }

@@ -7,5 +7,5 @@ use Rattle.coho_report.proofs.subgroups.images.Given as goal
 
 abbrev pub invariant-loop-i : goal.invariant-loop-i
 invariant-loop-i l = AreRelated
-    (IsImage l.res.group l.e.basis (generators_of (largest_residue l.res.group) l.own.ring.generators))
-    (take l.i (generators_of (largest_residue l.res.group) l.ring.generators)) l.images.items
+    (IsImage l.map.group l.map.basis (generators_of (largest_residue l.map.group) l.own.ring.generators))
+    (take l.i (generators_of (largest_residue l.map.group) l.ring.generators)) l.images.items
