@@ -13,6 +13,7 @@ use Rattle.std.specs.declared.result.Result.TheVariants.{Ok, Err}
 use Rattle.limits.specs.declared.TheConstants.{GREATEST_DEGREE}
 use Rattle.clap.specs.declared.error.kind.ErrorKind.{ErrorKind}
 use Rattle.clap.specs.declared.error.kind.ErrorKind.TheVariants as kind
+use Rattle.coho_main.specs.declared.numbers.TheConstants.{GREATEST_NUMBER, MOST_ELEMENTS}
 use Rattle.coho_main.specs.declared.cause.Cause.TheVariants as cause
 use Rattle.coho_main.specs.declared.stop.Stop.{Stop}
 use Rattle.coho_main.specs.declared.stop.Stop.TheVariants as stop
@@ -21,7 +22,7 @@ use Rattle.coho_main.specs.Steps.{OrRefuse}
 use Rattle.coho_main.specs.Stops.{IsWordsStop, Settles, parse_stop}
 use Rattle.coho_main.specs.Refusals.{words_refused}
 use Rattle.coho_main.specs.Outcome.{Ask}
-use Rattle.coho_main.specs.Words.{Command, Group, Resolve, Ring, asked, command, file_and_degree, is_path, one_operand, texts, two_operands, with_degree}
+use Rattle.coho_main.specs.Words.{Command, Group, Resolve, Ring, Value, asked, command, elements_of, file_and_degree, file_and_place, is_path, numbers, place, one_operand, texts, two_operands, with_degree}
 
 abbrev Text : Type 0
 Text = List ℕ
@@ -69,6 +70,25 @@ ring_at (a ∷ []) h = refl
 ring_at (a ∷ b ∷ []) h = rw (both (is_path a) _ h).0 (same_degree Ring a (numeral 1 GREATEST_DEGREE b))
 ring_at (a ∷ b ∷ c ∷ rest) h = refl
 
+-- what `value` asks for
+abbrev pub placed : Text → ℕ × List ℕ → Command
+placed path p = Value path p.0 p.1
+
+abbrev pub of_place : Option (Text × ℕ × List ℕ) → Option Command
+of_place o = option_map (λ p. Value p.0 p.1 p.2) o
+
+same_place : (a : Text) (o : Option (ℕ × List ℕ))
+    → option_map (placed a) o ≡ of_place (option_map (λ p. (a, p.0, p.1)) o)
+same_place a None = refl
+same_place a (Some p) = refl
+
+value_at : (rest : List Text) → list_all is_path rest ≡ true
+    → command (codes "value" ∷ rest) ≡ of_place (file_and_place (codes "value" ∷ rest))
+value_at [] h = refl
+value_at (a ∷ []) h = refl
+value_at (a ∷ b ∷ []) h = refl
+value_at (a ∷ b ∷ c ∷ rest) h = rw (both (is_path a) _ h).0 (same_place a (place b c rest))
+
 pub group_is : (name : Text) (rest : List Text) → list_all is_path (name ∷ rest) ≡ true
     → bytes_eq name (codes "group") ≡ true
     → command (name ∷ rest) ≡ option_map Group (one_operand (name ∷ rest))
@@ -93,24 +113,32 @@ ring_is name rest h e =
     → command (n ∷ rest) ≡ of_degree Ring (file_and_degree (n ∷ rest)))
     (sym (is_name name (codes "ring") e)) (ring_at rest) h
 
+pub value_is : (name : Text) (rest : List Text) → list_all is_path (name ∷ rest) ≡ true
+    → bytes_eq name (codes "value") ≡ true
+    → command (name ∷ rest) ≡ of_place (file_and_place (name ∷ rest))
+value_is name rest h e =
+    subst (λ n. list_all is_path (n ∷ rest) ≡ true
+    → command (n ∷ rest) ≡ of_place (file_and_place (n ∷ rest)))
+    (sym (is_name name (codes "value") e)) (value_at rest) h
+
 -- ---- words of no command
 
 pub other_is : (name : Text) (rest : List Text) → bytes_eq name (codes "group") ≡ false
     → bytes_eq name (codes "resolve") ≡ false → bytes_eq name (codes "ring") ≡ false
-    → command (name ∷ rest) ≡ None
-other_is name [] g r s = refl
-other_is name (a ∷ []) g r s = rw g refl
-other_is name (a ∷ b ∷ []) g r s = rw (r, s) refl
-other_is name (a ∷ b ∷ c ∷ rest) g r s = refl
+    → bytes_eq name (codes "value") ≡ false → command (name ∷ rest) ≡ None
+other_is name [] g r s v = refl
+other_is name (a ∷ []) g r s v = rw g refl
+other_is name (a ∷ b ∷ []) g r s v = rw (r, s) refl
+other_is name (a ∷ b ∷ c ∷ rest) g r s v = rw v refl
 
-dash_first : (word : Text) → is_path word ≡ false → numeral 1 GREATEST_DEGREE word ≡ None
-dash_first [] h = refl
-dash_first (b ∷ bs) h = subst (λ b. numeral 1 GREATEST_DEGREE (b ∷ bs) ≡ None) (sym dash) (at bs)
+dash_first : (low high : ℕ) (word : Text) → is_path word ≡ false → numeral low high word ≡ None
+dash_first low high [] h = refl
+dash_first low high (b ∷ bs) h = subst (λ b. numeral low high (b ∷ bs) ≡ None) (sym dash) (at bs)
   where
     dash : b ≡ 45
     dash = let e = negated (b == 45) h in grind (arith, nat_tests)
 
-    at : (bs : Text) → numeral 1 GREATEST_DEGREE (45 ∷ bs) ≡ None
+    at : (bs : Text) → numeral low high (45 ∷ bs) ≡ None
     at [] = refl
     at (c ∷ bs) = refl
 
@@ -136,6 +164,52 @@ ends b h = go (is_path b) h
     go true e = e
     go false e = refl
 
+split : (a b : Bool) → (a && b) ≡ false → (a ≡ false) ⊎ ((a ≡ true) × (b ≡ false))
+split true b e = inr (refl, e)
+split false b e = inl refl
+
+none_after : {A B : Type 0} (f : A → Option B) (o : Option A) → ((x : A) → f x ≡ None)
+    → option_and_then f o ≡ None
+none_after f None h = refl
+none_after f (Some x) h = h x
+
+numbers_dashed : (words : List Text) → list_all is_path words ≡ false → numbers words ≡ None
+numbers_dashed [] h = absurd (true≢false h)
+numbers_dashed (word ∷ words) h =
+    go (split (is_path word) (list_all is_path words) h) (λ e. numbers_dashed words e)
+  where
+    go : (is_path word ≡ false) ⊎ ((is_path word ≡ true) × (list_all is_path words ≡ false))
+        → (list_all is_path words ≡ false → numbers words ≡ None) → numbers (word ∷ words) ≡ None
+    go (inl e) rest = ap (option_and_then (λ n. option_map (λ ns. n ∷ ns) (numbers words)))
+        (dash_first 0 GREATEST_NUMBER word e)
+    go (inr e) rest = none_after _ (numeral 0 GREATEST_NUMBER word)
+        (λ n. ap (option_map (λ ns. n ∷ ns)) (rest e.1))
+
+place_dashed : (b c : Text) (rest : List Text) → list_all is_path (b ∷ c ∷ rest) ≡ false
+    → place b c rest ≡ None
+place_dashed b c rest h = go (split (is_path b) (list_all is_path (c ∷ rest)) h)
+  where
+    of_class : ℕ → ℕ → Option (ℕ × List ℕ)
+    of_class d k = option_map (λ es. (k, es)) (elements_of d rest)
+
+    of_number : ℕ → Option (ℕ × List ℕ)
+    of_number d = option_and_then (of_class d) (numeral 1 GREATEST_NUMBER c)
+
+    no_elements : list_all is_path rest ≡ false → (d k : ℕ) → of_class d k ≡ None
+    no_elements e d k = ap (λ o. option_map (λ es. (k, es))
+        (option_and_then (λ es. cond (length es == d) (Some es) None) o)) (numbers_dashed rest e)
+
+    no_number : (is_path c ≡ false) ⊎ ((is_path c ≡ true) × (list_all is_path rest ≡ false)) → (d : ℕ)
+        → of_number d ≡ None
+    no_number (inl e) d = ap (option_and_then (of_class d)) (dash_first 1 GREATEST_NUMBER c e)
+    no_number (inr e) d = none_after (of_class d) (numeral 1 GREATEST_NUMBER c) (no_elements e.1 d)
+
+    go : (is_path b ≡ false) ⊎ ((is_path b ≡ true) × (list_all is_path (c ∷ rest) ≡ false))
+        → place b c rest ≡ None
+    go (inl e) = ap (option_and_then of_number) (dash_first 1 MOST_ELEMENTS b e)
+    go (inr e) = none_after of_number (numeral 1 MOST_ELEMENTS b)
+        (no_number (split (is_path c) (list_all is_path rest) e.1))
+
 pub dashed_is : (words : List Text) → list_all is_path words ≡ false → command words ≡ None
 dashed_is [] h = refl
 dashed_is (name ∷ []) h = refl
@@ -144,14 +218,17 @@ dashed_is (name ∷ a ∷ []) h =
     (λ e p. absurd (true≢false (after_file a [] (after_name name (codes "group") (a ∷ []) h refl e) p)))
     refl
 dashed_is (name ∷ a ∷ b ∷ []) h =
-    let no_degree = λ (known : Text) (k : is_path known ≡ true) (e : bytes_eq name known ≡ true) (p : is_path a ≡ true). dash_first b (ends b (after_file a (b ∷ []) (after_name name known (a ∷ b ∷ []) h k e) p)) in
+    let no_degree = λ (known : Text) (k : is_path known ≡ true) (e : bytes_eq name known ≡ true) (p : is_path a ≡ true). dash_first 1 GREATEST_DEGREE b (ends b (after_file a (b ∷ []) (after_name name known (a ∷ b ∷ []) h k e) p)) in
     unless (bytes_eq name (codes "resolve")) (is_path a)
     (option_map (Resolve a) (numeral 1 GREATEST_DEGREE b)) _
     (λ e p. ap (option_map (Resolve a)) (no_degree (codes "resolve") refl e p))
     (unless (bytes_eq name (codes "ring")) (is_path a)
     (option_map (Ring a) (numeral 1 GREATEST_DEGREE b)) None
     (λ e p. ap (option_map (Ring a)) (no_degree (codes "ring") refl e p)) refl)
-dashed_is (name ∷ a ∷ b ∷ c ∷ rest) h = refl
+dashed_is (name ∷ a ∷ b ∷ c ∷ rest) h =
+    unless (bytes_eq name (codes "value")) (is_path a) (option_map (placed a) (place b c rest)) None
+    (λ e p. ap (option_map (placed a)) (place_dashed b c rest
+    (after_file a (b ∷ c ∷ rest) (after_name name (codes "value") (a ∷ b ∷ c ∷ rest) h refl e) p))) refl
 
 -- ---- so the words are read as their command says
 
@@ -246,6 +323,10 @@ module _ (words rest : List Text) (plain : list_all is_path words ≡ true) (nam
   at_ring e = subst (λ ws. command ws ≡ of_degree Ring (file_and_degree ws)) (sym first)
       (ring_is name rest (subst (λ ws. list_all is_path ws ≡ true) first plain) e)
 
+  pub at_value : bytes_eq name (codes "value") ≡ true → command words ≡ of_place (file_and_place words)
+  at_value e = subst (λ ws. command ws ≡ of_place (file_and_place ws)) (sym first)
+      (value_is name rest (subst (λ ws. list_all is_path ws ≡ true) first plain) e)
+
   pub other_none : bytes_eq name (codes "group") ≡ false → bytes_eq name (codes "resolve") ≡ false
-      → bytes_eq name (codes "ring") ≡ false → command words ≡ None
-  other_none g r s = ap command first ∙ other_is name rest g r s
+      → bytes_eq name (codes "ring") ≡ false → bytes_eq name (codes "value") ≡ false → command words ≡ None
+  other_none g r s v = ap command first ∙ other_is name rest g r s v

@@ -17,3 +17,5 @@ pub mod TableExists
 pub mod StagesExist
 pub mod Outcomes
 pub mod RingAnswers
+pub mod OneValue
+pub mod ClassAnswers

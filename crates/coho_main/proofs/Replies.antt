@@ -1,5 +1,5 @@
 -- The answers to commands, as the calls make them.
-use Rattle.std.proofs.Common.{◌≡◌, ◌∙◌, List, ℕ, Vec, Global, refl, ap, sym, subst, inl, inr, arith}
+use Rattle.std.proofs.Common.{◌≡◌, ◌∙◌, List, [], ◌∷◌, codes, length, ℕ, Vec, Global, refl, ap, sym, subst, inl, inr, arith}
 use Rattle.std.specs.declared.option.Option.{Option}
 use Rattle.std.specs.declared.option.Option.TheVariants.{Some}
 use Rattle.std.specs.declared.result.Result.{Result}
@@ -12,14 +12,15 @@ use Rattle.power_commutator.specs.Presentations.{Presentation}
 use Rattle.coho_main.specs.declared.stop.Stop.{Stop}
 use Rattle.coho_main.specs.declared.words.Command.{Command as Named}
 use Rattle.coho_main.specs.Groups.{ForGroupOf}
-use Rattle.coho_main.specs.Outcome.{Ask, Load, Report, Answer, AnswerGroup, AnswerResolve, AnswerRing, Reply, Comes, group_lines, stage_lines}
+use Rattle.coho_main.specs.Outcome.{Ask, Load, Report, FitStages, FitElements, FitClass, Evaluate, Answer, AnswerGroup, AnswerResolve, AnswerRing, AnswerValue, Reply, Comes, group_lines, line, stage_lines}
+use Rattle.coho_main.specs.Evaluating.{HasClass, IsClassRefusal, IsValue}
 use Rattle.coho_main.specs.Ringing.{IsReportTo, IsReportRefusal}
 use Rattle.coho_main.specs.Run.{OfFiles}
 use Rattle.coho_main.specs.Stages.{Summary, AreStagesTo, Fit, IsStageRefusal}
 use Rattle.coho_main.specs.Steps.{Refusal, Step, ◌>>=◌, Gives}
 use Rattle.coho_main.specs.Stops.{IsRefused, Meets, Settles}
 use Rattle.coho_main.specs.Words.{Command, IsRead, asked, command, contents, path_of}
-use Rattle.coho_main.proofs.Chain.{after_ok, at_stop, refused_settles, settled_meets}
+use Rattle.coho_main.proofs.Chain.{after_ok, at_stop, refused_settles, settled_after_ok, settled_at_stop, settled_meets}
 use Rattle.coho_main.proofs.Seen.{some_files}
 
 abbrev pub Lines : Type 0
@@ -42,6 +43,19 @@ report_answer report = Gives (report_lines report)
 
 abbrev pub after_fit : Presentation → ℕ → Unit {0} → Step (List (List ℕ))
 after_fit P n _ = Report P n >>= report_answer
+
+abbrev pub value_answer : ℕ → Step (List (List ℕ))
+value_answer v = Gives (line (codes "value ") v ∷ [])
+
+module _ (P : Presentation) (k : ℕ) (es : List ℕ) where
+  abbrev pub after_class : Unit {0} → Step (List (List ℕ))
+  after_class _ = Evaluate P k es >>= value_answer
+
+  abbrev pub after_stages : Unit {0} → Step (List (List ℕ))
+  after_stages _ = FitClass P (length es) k >>= after_class
+
+  abbrev pub after_elements : Unit {0} → Step (List (List ℕ))
+  after_elements _ = FitStages P (length es) >>= after_stages
 
 pub group_then : (P : Presentation) (dimensions : List ℕ) (lines : Lines)
     → ForGroupOf P (λ G. dimensions ≡ sizes G) → contents lines.items ≡ group_lines P dimensions
@@ -85,6 +99,48 @@ module _ (P : Presentation) (n : ℕ) where
       (fit, refl),
       inl (report, files, (is, refl), (ap (λ ls. Ok ls) e, refl)),
     )
+
+module _ (P : Presentation) (k : ℕ) (es : List ℕ) where
+  abbrev unit : Unit {0} → Unit {0}
+  unit _ = tt
+
+  pub element_stop : (s : Stop) → Settles unit (FitElements P es) (Err s)
+      → Settles lines_of (AnswerValue P k es) (Err s)
+  element_stop s h = settled_at_stop unit lines_of (FitElements P es) (after_elements P k es) s h
+
+  module _ (elements : Settles unit (FitElements P es) (Ok tt)) where
+    then_stages : (r : Result Lines Stop) → Settles lines_of (after_elements P k es tt) r
+        → Settles lines_of (AnswerValue P k es) r
+    then_stages r h = settled_after_ok unit lines_of (FitElements P es) (after_elements P k es) tt r elements h
+
+    pub stage_stop : (s : Stop) → IsRefused (λ refusal. ForGroupOf P (λ G. IsStageRefusal G (length es) refusal)) s
+        → Settles lines_of (AnswerValue P k es) (Err s)
+    stage_stop s h =
+        then_stages (Err s)
+        (refused_settles lines_of (after_elements P k es tt)
+        (λ refusal. ForGroupOf P (λ G. IsStageRefusal G (length es) refusal)) s h
+        (λ r q files. inr (r, (q, refl), refl)))
+
+    module _ (fit : ForGroupOf P (λ G. Fit G (length es))) where
+      pub class_stop : (s : Stop)
+          → IsRefused (λ refusal. ForGroupOf P (λ G. IsClassRefusal G (length es) k refusal)) s
+          → Settles lines_of (AnswerValue P k es) (Err s)
+      class_stop s h =
+          then_stages (Err s)
+          (refused_settles lines_of (after_elements P k es tt)
+          (λ refusal. ForGroupOf P (λ G. IsClassRefusal G (length es) k refusal)) s h
+          (λ r q files. inl (tt, files, (fit, refl), inr (r, (q, refl), refl))))
+
+      pub value_then : (v : ℕ) (lines : Lines) → ForGroupOf P (λ G. HasClass G (length es) k)
+          → ForGroupOf P (λ G. IsValue G k es v) → contents lines.items ≡ line (codes "value ") v ∷ []
+          → Settles lines_of (AnswerValue P k es) (Ok lines)
+      value_then v lines has is e =
+          then_stages (Ok lines) (λ files. inl (
+            tt,
+            files,
+            (fit, refl),
+            inl (tt, files, (has, refl), inl (v, files, (is, refl), (ap (λ ls. Ok ls) e, refl))),
+          ))
 
 -- a call met its step, over files that agree
 abbrev pub MeetsOf : {T A : Type 0} → (T → A) → Step A → Option Content → Result T Stop → Type 0

@@ -3,6 +3,7 @@ pub mod Words
 pub mod Refusals
 pub mod Groups
 pub mod Ringing
+pub mod Evaluating
 pub mod Outcome
 pub mod Stops
 pub mod Reading
@@ -11,3 +12,4 @@ pub mod Statuses
 pub mod Stages
 pub mod Resolving
 pub mod RingAnswers
+pub mod ClassAnswers

@@ -1,15 +1,16 @@
 ghost use Rattle.std.specs.Prelude.{◌≡◌, ◌≢◌, ◌≤◌, ◌⊎◌, ℕ, List, None, Some};
 ghost use Rattle.coho_io.specs.Content.{Content};
 ghost use Rattle.coho_io.specs.Causes.{Rose};
-ghost use Rattle.coho_main.specs.Words.{IsRead, IsWithin, asked, command, contents, texts};
-ghost use Rattle.coho_main.specs.Outcome.{Answer, AnswerGroup, AnswerResolve, AnswerRing, Comes, Ending, Outcome};
+ghost use Rattle.coho_main.specs.Words.{AskForValue, IsPlace, IsRead, IsWithin, asked, command, contents, texts};
+ghost use Rattle.coho_main.specs.Outcome.{Answer, AnswerGroup, AnswerResolve, AnswerRing, AnswerValue, Comes, Ending, Outcome};
 ghost use Rattle.coho_main.specs.Refusals.{read_refused, write_refused};
 ghost use Rattle.coho_main.specs.RingAnswers.{TellsRingOf};
+ghost use Rattle.coho_main.specs.ClassAnswers.{HasCocycleClassesOf};
 ghost use Rattle.coho_main.specs.Stops.{Meets, Settles, HasReadCause, OnlyReads};
 ghost use Rattle.coho_main.specs.Run.{OfFiles, IsSettled, MayWrite, Tells, EndsAs, AnswersFront, WantsMemory, NoReadFault, Stays};
 
 use crate::{
-    Command, Status, Stop, group_lines, load, radical_dimensions, read_words, report,
+    Command, Status, Stop, basis_value, fit_elements, group_lines, load, radical_dimensions, read_words, report,
     resolution_of, stage_lines, write_lines,
 };
 use coho_io::{Files, Sink};
@@ -50,6 +51,24 @@ fn answer_ring<'a>(alloc: Global, consistent: &Consistent, n: u32) -> Result<Vec
     Ok(report_lines(alloc, &report)?)
 }
 
+// The line of the answer to `value`.
+fn answer_value<'a>(
+    alloc: Global,
+    consistent: &Consistent,
+    class: u16,
+    elements: &[u16],
+) -> Result<Vec<Vec<u8>>, Stop<'a>>
+    requires { IsPlace class elements.now }
+    ensures { Settles (λ lines. contents lines.items) (AnswerValue consistent.now class elements.now) result }
+{
+    fit_elements(consistent, elements)?;
+    let resolution = resolution_of(alloc, consistent, elements.len() as u32)?;
+    let value = basis_value(alloc, &resolution, class, elements)?;
+    let mut lines = Vec::new(alloc);
+    lines.push(format!(in alloc; "value {value}\n")?.into_bytes())?;
+    Ok(lines)
+}
+
 // The lines of the answer to a command on the presentation of its file.
 fn answer_on<'a>(
     alloc: Global,
@@ -63,6 +82,9 @@ fn answer_on<'a>(
         Command::Group(_) => answer_group(alloc, consistent),
         Command::Resolve(_, n) => answer_resolve(alloc, consistent, n),
         Command::Ring(_, n) => answer_ring(alloc, consistent, n),
+        Command::Value(_, class, elements) => {
+            answer_value(alloc, consistent, class, &elements)
+        }
     }
 }
 
@@ -106,8 +128,15 @@ pub fn run<F: Files, O: Sink, E: Sink>(
     ensures ring { result ≡ Status.Answered → OfFiles (F.content files.old)
         (TellsRingOf (texts words.now) (O.written out.old) (O.written out.new)) }
 
-    // Whether files are told or not, the words decide alone whether they are refused.
-    ensures usage { result ≡ Status.Usage → command (texts words.now) ≡ None }
+    // Where `resolve` or `ring` is answered, the classes of the file's group in each degree through the last
+    // are the cocycles of its bar complex up to coboundaries.
+    ensures classes { result ≡ Status.Answered → OfFiles (F.content files.old)
+        (HasCocycleClassesOf (texts words.now)) }
+
+    // Whether files are told or not, the words decide alone whether they are refused, but for those of `value`,
+    // where the group decides too.
+    ensures usage { result ≡ Status.Usage
+        → (command (texts words.now) ≡ None) ⊎ AskForValue (texts words.now) }
     ensures words { command (texts words.now) ≡ None
         → (result ≡ Status.Usage) ⊎ (result ≡ Status.Memory) }
 

@@ -1,15 +1,15 @@
 ghost use Rattle.std.specs.Prelude.{◌≡◌, ◌≤◌, IfErr, IfOk, None, Some, true};
 ghost use Rattle.std.specs.List.{list_all};
-ghost use Rattle.coho_main.specs.Words.{IsWithin, asked, command, file_and_degree, is_path, path_of, texts};
+ghost use Rattle.coho_main.specs.Words.{IsPlace, IsWithin, asked, command, file_and_degree, file_and_place, is_path, path_of, texts};
 ghost use Rattle.coho_main.specs.Outcome.{Ask};
 ghost use Rattle.coho_main.specs.Stops.{IsWordsStop, Settles};
 
-use crate::{Cause, Stop, all_plain, one_operand, read_degree, two_operands};
+use crate::{Cause, Stop, all_plain, one_operand, read_degree, read_place, two_operands};
 use limits::GREATEST_DEGREE;
 use std::alloc::Global;
 
 /// What a run is asked for.
-#[derive(Clone, Copy)]
+#[derive(Drop)]
 pub enum Command<'a> {
     /// To describe the group of the file at this path.
     Group(&'a str),
@@ -18,15 +18,21 @@ pub enum Command<'a> {
     /// To find generators and relations of the cohomology ring of the group of the file at this path, through
     /// this degree.
     Ring(&'a str, u32),
+    /// To find the value of the cocycle of a basis class of the group of the file at this path, by its number,
+    /// counted from 1, at elements, of which there are as many as the degree of the class.
+    Value(&'a str, u16, Vec<u16>),
 }
 
 impl<'a> Command<'a> {
     /// The path of its file.
-    pub fn path(self) -> &'a str
-        ensures { result.now ≡ path_of (asked self.entry) }
+    pub fn path(&self) -> &'a str
+        ensures { result.now ≡ path_of (asked self.now) }
     {
         match self {
-            Command::Group(path) | Command::Resolve(path, _) | Command::Ring(path, _) => path,
+            Command::Group(path)
+            | Command::Resolve(path, _)
+            | Command::Ring(path, _)
+            | Command::Value(path, _, _) => path,
         }
     }
 }
@@ -43,6 +49,24 @@ fn file_and_degree<'a>(alloc: Global, words: &'a [String]) -> Result<(&'a str, u
         Some(degree) => Ok((path, degree)),
         None => Err(Stop::Refused(Cause::Words)),
     }
+}
+
+// The words after the command's name: a file, the degree and the number of a class, and as many elements as
+// the degree.
+fn file_and_place<'a>(
+    alloc: Global,
+    words: &'a [String],
+) -> Result<(&'a str, u16, Vec<u16>), Stop<'a>>
+    ensures found { IfOk result
+        (λ found. file_and_place (texts words.now) ≡ Some (found.0.now, found.1, found.2.items)) }
+    ensures within { IfOk result (λ found. IsPlace found.1 found.2.items) }
+    ensures refused { IfErr result (IsWordsStop (file_and_place (texts words.now) ≡ None)) }
+{
+    let [_, path, degree, class, elements @ ..] = words else {
+        return Err(Stop::Refused(Cause::Words));
+    };
+    let (class, elements) = read_place(alloc, degree, class, elements)?;
+    Ok((path, class, elements))
 }
 
 /// The command of the words.
@@ -63,6 +87,10 @@ pub fn read_words<'a>(alloc: Global, words: &'a [String]) -> Result<Command<'a>,
         [name, ..] if name.as_str() == "ring" => {
             let (path, degree) = file_and_degree(alloc, words)?;
             Ok(Command::Ring(path, degree))
+        }
+        [name, ..] if name.as_str() == "value" => {
+            let (path, class, elements) = file_and_place(alloc, words)?;
+            Ok(Command::Value(path, class, elements))
         }
         _ => Err(Stop::Refused(Cause::Words)),
     }

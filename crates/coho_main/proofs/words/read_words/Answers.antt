@@ -2,9 +2,9 @@ use Rattle.std.proofs.Common.{◌≡◌, ◌∙◌, None, drop, sym, ap, codes, 
 use Rattle.std.specs.Str.{bytes_eq}
 use Rattle.std.proofs.lemmas.Result.{err_from_is_err_and}
 use Rattle.clap.specs.Values.{kind_of}
-use Rattle.coho_main.specs.Words.{Resolve, Ring, file_and_degree, texts}
+use Rattle.coho_main.specs.Words.{Resolve, Ring, file_and_degree, file_and_place, texts}
 use Rattle.coho_main.specs.declared.words.Command.TheVariants as given
-use Rattle.coho_main.proofs.Commands.{named, reads, unread, stopped, group_found, group_none, at_resolve, at_ring, of_degree}
+use Rattle.coho_main.proofs.Commands.{named, reads, unread, stopped, group_found, group_none, at_resolve, at_ring, at_value, dashed_is, of_degree, of_place, refuses}
 use Rattle.coho_main.proofs.words.read_words.Goals as goal
 
 pub returns-in_err-one_operand-in-len1-up-clause-step :
@@ -129,3 +129,51 @@ returns-in_ok-path-in-len1-up-3-clause-step c =
     reads words (given.Ring c.in_ok-path-in-len1-up-3.path c.in_ok-path-in-len1-up-3.degree)
     (at_ring words (drop 1 words) plain name first is_named
     ∙ ap (of_degree Ring) c.in_ok-path-in-len1-up-3.ensures.found)
+
+pub returns-in_err-path-in-len1-up-4-clause-step :
+    goal.returns-in_err-path-in-len1-up-4-clause-step
+returns-in_err-path-in-len1-up-4-clause-step c =
+    let words = texts c.args.words.now in
+    let first = named c.args.words.now c.name-item-4.result c.in-len1-up.len_at_least c.name-item-4.is in
+    let name = string_bytes c.name-item-4.result in
+    let is_named : bytes_eq name (codes "value") ≡ true =
+    ap (λ t. bytes_eq t (codes "value")) (sym c.as_str-4.ensures.value) ∙ sym c.eq-4.ensures
+    ∙ c.if-eq-4.true in
+    let plain = sym c.all_plain.ensures ∙ c.if-not-all_plain.false in
+    let r = c.from_residual-in_err-path-in-len1-up-4 in
+    let p = err_from_is_err_and r.result r.ensures.1 in
+    rw (p.1, p.2) (stopped words (file_and_place words
+    ≡ None) c.in_err-path-in-len1-up-4.field-0.0 c.in_err-path-in-len1-up-4.ensures.refused
+    (λ none. at_value words (drop 1 words) plain name first is_named ∙ ap of_place none))
+
+pub returns-in_ok-path-in-len1-up-4-clause-command :
+    goal.returns-in_ok-path-in-len1-up-4-clause-command
+returns-in_ok-path-in-len1-up-4-clause-command c =
+    let words = texts c.args.words.now in
+    let first = named c.args.words.now c.name-item-4.result c.in-len1-up.len_at_least c.name-item-4.is in
+    let name = string_bytes c.name-item-4.result in
+    let is_named : bytes_eq name (codes "value") ≡ true =
+    ap (λ t. bytes_eq t (codes "value")) (sym c.as_str-4.ensures.value) ∙ sym c.eq-4.ensures
+    ∙ c.if-eq-4.true in
+    let plain = sym c.all_plain.ensures ∙ c.if-not-all_plain.false in
+    at_value words (drop 1 words) plain name first is_named
+    ∙ ap of_place c.in_ok-path-in-len1-up-4.ensures.found
+
+pub returns-in_ok-path-in-len1-up-4-clause-step : goal.returns-in_ok-path-in-len1-up-4-clause-step
+returns-in_ok-path-in-len1-up-4-clause-step c =
+    let words = texts c.args.words.now in
+    let first = named c.args.words.now c.name-item-4.result c.in-len1-up.len_at_least c.name-item-4.is in
+    let name = string_bytes c.name-item-4.result in
+    let is_named : bytes_eq name (codes "value") ≡ true =
+    ap (λ t. bytes_eq t (codes "value")) (sym c.as_str-4.ensures.value) ∙ sym c.eq-4.ensures
+    ∙ c.if-eq-4.true in
+    let plain = sym c.all_plain.ensures ∙ c.if-not-all_plain.false in
+    reads words (given.Value c.in_ok-path-in-len1-up-4.path c.in_ok-path-in-len1-up-4.class
+    c.in_ok-path-in-len1-up-4.elements)
+    (at_value words (drop 1 words) plain name first is_named
+    ∙ ap of_place c.in_ok-path-in-len1-up-4.ensures.found)
+
+pub returns-then-not-all_plain-clause-step : goal.returns-then-not-all_plain-clause-step
+returns-then-not-all_plain-clause-step c =
+    let words = texts c.args.words.now in
+    refuses words (dashed_is words (sym c.all_plain.ensures ∙ c.if-not-all_plain.true))

@@ -1,0 +1,111 @@
+//! The numbers of `value`: its degree, the number of its class, and its elements.
+
+ghost use Rattle.std.specs.Prelude.{◌≡◌, ◌<◌, ◌≤◌, IfErr, IfOk, None, Some, if◌then◌else◌, length, nat_le, true};
+ghost use Rattle.pc_text.specs.Numerals.{is_digit, is_numeral, numeral, value};
+ghost use Rattle.std.specs.List.{list_all};
+ghost use Rattle.coho_main.specs.Stops.{IsWordsStop};
+ghost use Rattle.coho_main.specs.Words.{IsPlace, elements_of, numbers, place, texts};
+
+use crate::{Cause, Stop};
+use pc_text::numeral;
+use std::alloc::Global;
+
+/// The greatest number of a class or an element that may be asked for.
+pub const GREATEST_NUMBER: u32 = 65_535;
+
+/// The greatest degree in which `value` is answered.
+pub const MOST_ELEMENTS: u32 = 8;
+
+// Each byte is a digit.
+fn all_digits(bytes: &[u8]) -> bool
+    ensures { result ≡ list_all is_digit bytes.now }
+{
+    bytes.iter().all(|b| b'0' <= *b && *b <= b'9')
+}
+
+// The bytes are a numeral.
+fn is_numeral(bytes: &[u8]) -> bool
+    ensures { result ≡ is_numeral bytes.now }
+{
+    match bytes {
+        [] => false,
+        [first, rest @ ..] => (rest.is_empty() || *first != b'0') && all_digits(bytes),
+    }
+}
+
+// The number of digits, where it is at most `GREATEST_NUMBER`.
+fn read_digits(digits: &[u8]) -> Option<u32>
+    requires { list_all is_digit digits.now ≡ true }
+    ensures { result ≡ (if nat_le (value digits.now) GREATEST_NUMBER then Some (value digits.now) else None) }
+{
+    let mut number = 0;
+    for digit in digits {
+        number = 10 * number + u32::from(*digit - b'0');
+        if number > GREATEST_NUMBER {
+            return None;
+        }
+    }
+    Some(number)
+}
+
+// The number from `low` on that a word is the numeral of.
+fn read_number(low: u32, word: &str) -> Option<u16>
+    ensures { result ≡ numeral low GREATEST_NUMBER word.now }
+{
+    let digits = word.as_bytes();
+    if !is_numeral(digits) {
+        return None;
+    }
+    match read_digits(digits) {
+        Some(number) if low <= number => Some(number as u16),
+        _ => None,
+    }
+}
+
+// The numbers that the words are the numerals of.
+fn read_numbers<'a>(alloc: Global, words: &[String]) -> Result<Vec<u16>, Stop<'a>>
+    ensures found { IfOk result (λ ns. numbers (texts words.now) ≡ Some ns.items) }
+    ensures refused { IfErr result (IsWordsStop (numbers (texts words.now) ≡ None)) }
+{
+    let mut found = Vec::new(alloc);
+    for word in words {
+        match read_number(0, word.as_str()) {
+            Some(number) => found.push(number)?,
+            None => return Err(Stop::Refused(Cause::Words)),
+        }
+    }
+    Ok(found)
+}
+
+// The elements of the words, where there are as many as the degree.
+fn read_elements<'a>(alloc: Global, degree: u32, words: &[String]) -> Result<Vec<u16>, Stop<'a>>
+    ensures found { IfOk result (λ es. elements_of degree (texts words.now) ≡ Some es.items) }
+    ensures count { IfOk result (λ es. length es.items ≡ degree) }
+    ensures refused { IfErr result (IsWordsStop (elements_of degree (texts words.now) ≡ None)) }
+{
+    let elements = read_numbers(alloc, words)?;
+    if elements.len() as u64 != u64::from(degree) {
+        return Err(Stop::Refused(Cause::Words));
+    }
+    Ok(elements)
+}
+
+/// The number of a class, and as many elements as its degree.
+pub fn read_place<'a>(
+    alloc: Global,
+    degree: &str,
+    class: &str,
+    elements: &[String],
+) -> Result<(u16, Vec<u16>), Stop<'a>>
+    ensures found { IfOk result
+        (λ found. place degree.now class.now (texts elements.now) ≡ Some (found.0, found.1.items)) }
+    ensures within { IfOk result (λ found. IsPlace found.0 found.1.items) }
+    ensures refused { IfErr result (IsWordsStop (place degree.now class.now (texts elements.now) ≡ None)) }
+{
+    let (Some(degree), Some(class)) =
+        (numeral(1, MOST_ELEMENTS, degree.as_bytes()), read_number(1, class))
+    else {
+        return Err(Stop::Refused(Cause::Words));
+    };
+    Ok((class, read_elements(alloc, degree, elements)?))
+}
