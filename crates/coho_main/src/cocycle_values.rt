@@ -47,14 +47,29 @@ fn ends(
 fn evaluates_cocycles(rt: HostRuntime) -> Result<(), Fail> {
     for (text, texts, line) in [
         (TWO, ["value", "t", "1", "1", "1"].as_slice(), "value 1\n"),
-        (TWO, ["value", "t", "2", "1", "1", "1"].as_slice(), "value 1\n"),
-        (FOUR, ["value", "t", "2", "1", "2", "2"].as_slice(), "value 1\n"),
-        (FOUR, ["value", "t", "2", "1", "1", "1"].as_slice(), "value 0\n"),
+        (
+            TWO,
+            ["value", "t", "2", "1", "1", "1"].as_slice(),
+            "value 1\n",
+        ),
+        (
+            FOUR,
+            ["value", "t", "2", "1", "2", "2"].as_slice(),
+            "value 1\n",
+        ),
+        (
+            FOUR,
+            ["value", "t", "2", "1", "1", "1"].as_slice(),
+            "value 0\n",
+        ),
         (TWO, ["value", "t", "1", "1", "0"].as_slice(), "value 0\n"),
         (THREE, ["value", "t", "1", "1", "2"].as_slice(), "value 2\n"),
         (
             TWO,
-            ["value", "t", "8", "1", "1", "1", "1", "1", "1", "1", "1", "1"].as_slice(),
+            [
+                "value", "t", "8", "1", "1", "1", "1", "1", "1", "1", "1", "1",
+            ]
+            .as_slice(),
             "value 1\n",
         ),
     ] {
@@ -66,12 +81,42 @@ fn evaluates_cocycles(rt: HostRuntime) -> Result<(), Fail> {
 #[test]
 fn refuses_elements_and_classes(rt: HostRuntime) -> Result<(), Fail> {
     for (text, texts, status, line) in [
-        (TWO, ["value", "t", "2", "1", "1"].as_slice(), Status::Usage, USAGE),
-        (TWO, ["value", "t", "1", "1", "1", "1"].as_slice(), Status::Usage, USAGE),
-        (TWO, ["value", "t", "1", "0", "1"].as_slice(), Status::Usage, USAGE),
-        (TWO, ["value", "t", "1", "65536", "1"].as_slice(), Status::Usage, USAGE),
-        (TWO, ["value", "t", "1", "1", "01"].as_slice(), Status::Usage, USAGE),
-        (TWO, ["value", "t", "0", "1"].as_slice(), Status::Usage, USAGE),
+        (
+            TWO,
+            ["value", "t", "2", "1", "1"].as_slice(),
+            Status::Usage,
+            USAGE,
+        ),
+        (
+            TWO,
+            ["value", "t", "1", "1", "1", "1"].as_slice(),
+            Status::Usage,
+            USAGE,
+        ),
+        (
+            TWO,
+            ["value", "t", "1", "0", "1"].as_slice(),
+            Status::Usage,
+            USAGE,
+        ),
+        (
+            TWO,
+            ["value", "t", "1", "65536", "1"].as_slice(),
+            Status::Usage,
+            USAGE,
+        ),
+        (
+            TWO,
+            ["value", "t", "1", "1", "01"].as_slice(),
+            Status::Usage,
+            USAGE,
+        ),
+        (
+            TWO,
+            ["value", "t", "0", "1"].as_slice(),
+            Status::Usage,
+            USAGE,
+        ),
         (
             TWO,
             ["value", "t", "1", "1", "2"].as_slice(),

@@ -19,7 +19,7 @@ use std::alloc::Global;
 fn first_above(order: u16, elements: &[u16]) -> Option<u16>
     ensures { result ≡ find (nat_le order) elements.now }
 {
-    elements.iter().find(|element| order <= **element).copied()
+    elements.iter().copied().find(|element| order <= *element)
 }
 
 /// Each element is below the order of the group.

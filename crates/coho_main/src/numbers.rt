@@ -1,13 +1,12 @@
 //! The numbers of `value`: its degree, the number of its class, and its elements.
 
-ghost use Rattle.std.specs.Prelude.{◌≡◌, ◌<◌, ◌≤◌, IfErr, IfOk, None, Some, if◌then◌else◌, length, nat_le, true};
+ghost use Rattle.std.specs.Prelude.{◌≡◌, ◌<◌, ◌≤◌, IfErr, IfOk, IfSome, None, Some, if◌then◌else◌, length, nat_le, true};
 ghost use Rattle.pc_text.specs.Numerals.{is_digit, is_numeral, numeral, value};
 ghost use Rattle.std.specs.List.{list_all};
 ghost use Rattle.coho_main.specs.Stops.{IsWordsStop};
 ghost use Rattle.coho_main.specs.Words.{IsPlace, elements_of, numbers, place, texts};
 
 use crate::{Cause, Stop};
-use pc_text::numeral;
 use std::alloc::Global;
 
 /// The greatest number of a class or an element that may be asked for.
@@ -48,16 +47,18 @@ fn read_digits(digits: &[u8]) -> Option<u32>
     Some(number)
 }
 
-// The number from `low` on that a word is the numeral of.
-fn read_number(low: u32, word: &str) -> Option<u16>
-    ensures { result ≡ numeral low GREATEST_NUMBER word.now }
+/// The number from `low` to `high` that a word is the numeral of.
+pub fn read_number(low: u32, high: u32, word: &str) -> Option<u32>
+    requires { high ≤ GREATEST_NUMBER }
+    ensures numeral { result ≡ numeral low high word.now }
+    ensures range { IfSome result (λ n. (low ≤ n) × (n ≤ high)) }
 {
     let digits = word.as_bytes();
     if !is_numeral(digits) {
         return None;
     }
     match read_digits(digits) {
-        Some(number) if low <= number => Some(number as u16),
+        Some(number) if low <= number && number <= high => Some(number),
         _ => None,
     }
 }
@@ -69,8 +70,8 @@ fn read_numbers<'a>(alloc: Global, words: &[String]) -> Result<Vec<u16>, Stop<'a
 {
     let mut found = Vec::new(alloc);
     for word in words {
-        match read_number(0, word.as_str()) {
-            Some(number) => found.push(number)?,
+        match read_number(0, GREATEST_NUMBER, word.as_str()) {
+            Some(number) => found.push(number as u16)?,
             None => return Err(Stop::Refused(Cause::Words)),
         }
     }
@@ -102,10 +103,11 @@ pub fn read_place<'a>(
     ensures within { IfOk result (λ found. IsPlace found.0 found.1.items) }
     ensures refused { IfErr result (IsWordsStop (place degree.now class.now (texts elements.now) ≡ None)) }
 {
-    let (Some(degree), Some(class)) =
-        (numeral(1, MOST_ELEMENTS, degree.as_bytes()), read_number(1, class))
-    else {
+    let (Some(degree), Some(class)) = (
+        read_number(1, MOST_ELEMENTS, degree),
+        read_number(1, GREATEST_NUMBER, class),
+    ) else {
         return Err(Stop::Refused(Cause::Words));
     };
-    Ok((class, read_elements(alloc, degree, elements)?))
+    Ok((class as u16, read_elements(alloc, degree, elements)?))
 }
