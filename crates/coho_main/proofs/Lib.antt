@@ -11,6 +11,8 @@ pub mod StageRows
 pub mod OneResolution
 pub mod Ringing
 pub mod ParsedWords
+pub mod ParsedPlaces
+pub mod Places
 pub mod Commands
 pub mod Run
 pub mod TableExists

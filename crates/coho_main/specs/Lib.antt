@@ -1,5 +1,6 @@
 pub mod Steps
 pub mod Words
+pub mod Operands
 pub mod Refusals
 pub mod Groups
 pub mod Ringing

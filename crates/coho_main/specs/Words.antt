@@ -1,5 +1,6 @@
 -- The words of the command line.
 use Rattle.std.specs.Prelude.{◌≡◌, ℕ, ◌≤◌, ◌==◌, All, length, ◌&&◌, Bool, false, not, if◌then◌else◌, List, [], ◌∷◌, map, string_bytes, String, Vec, codes, ⊤, option_and_then}
+use Rattle.std.specs.Borrow.{Bor}
 use Rattle.std.specs.declared.alloc.Global.{Global}
 use Rattle.std.specs.declared.option.Option.{Option}
 use Rattle.std.specs.declared.option.Option.TheVariants.{None, Some}
@@ -15,6 +16,10 @@ use Rattle.coho_main.specs.declared.words.Command.TheVariants as named
 -- the bytes of each word
 abbrev pub texts : List (String Global) → List (List ℕ)
 texts words = map string_bytes words
+
+-- the same of words that are borrowed
+abbrev pub spelled : List (Bor (List ℕ)) → List (List ℕ)
+spelled words = map (λ word. word.now) words
 
 -- the bytes of each line
 abbrev pub contents : List (Vec ℕ Global) → List (List ℕ)
@@ -117,6 +122,13 @@ with_degree p = option_map (λ n. (p.0, n)) (numeral 1 GREATEST_DEGREE p.1)
 
 abbrev pub file_and_degree : List (List ℕ) → Option (List ℕ × ℕ)
 file_and_degree words = option_and_then with_degree (two_operands words)
+
+-- the words after the command's name, a file, the degree and the number of a class, and elements, where there
+-- is one element at least
+abbrev pub place_operands : List (List ℕ) → Option (List ℕ × List ℕ × List ℕ × List (List ℕ))
+place_operands (name ∷ file ∷ degree ∷ class ∷ element ∷ elements) =
+    Some (file, degree, class, element ∷ elements)
+place_operands _ = None
 
 -- a file, the number of a class and as many elements as its degree, from the words after the command's name
 abbrev pub file_and_place : List (List ℕ) → Option (List ℕ × ℕ × List ℕ)

@@ -32,7 +32,7 @@ pub use evaluating::{basis_value, fit_elements};
 pub use layers::{algebra_of, radical_dimensions};
 pub use loading::{accept, load};
 pub use numbers::{GREATEST_NUMBER, MOST_ELEMENTS, read_number, read_place};
-pub use operands::{all_plain, one_operand, two_operands};
+pub use operands::{PlaceWords, all_plain, one_operand, place_operands, two_operands};
 pub use reading::read_front;
 pub use running::{outcome_exists, outcome_is_unique, run};
 pub use stages::resolution_of;

@@ -1,10 +1,11 @@
 //! The numbers of `value`: its degree, the number of its class, and its elements.
 
-ghost use Rattle.std.specs.Prelude.{◌≡◌, ◌<◌, ◌≤◌, IfErr, IfOk, IfSome, None, Some, if◌then◌else◌, length, nat_le, true};
+ghost use Rattle.std.specs.Prelude.{◌≡◌, ◌<◌, ◌≤◌, IfErr, IfOk, IfSome, None, Some, if◌then◌else◌, length};
+ghost use Rattle.std.specs.Prelude.{nat_le, true};
 ghost use Rattle.pc_text.specs.Numerals.{is_digit, is_numeral, numeral, value};
 ghost use Rattle.std.specs.List.{list_all};
 ghost use Rattle.coho_main.specs.Stops.{IsWordsStop};
-ghost use Rattle.coho_main.specs.Words.{IsPlace, elements_of, numbers, place, texts};
+ghost use Rattle.coho_main.specs.Words.{IsPlace, elements_of, numbers, place, spelled};
 
 use crate::{Cause, Stop};
 use std::alloc::Global;
@@ -64,13 +65,13 @@ pub fn read_number(low: u32, high: u32, word: &str) -> Option<u32>
 }
 
 // The numbers that the words are the numerals of.
-fn read_numbers<'a>(alloc: Global, words: &[String]) -> Result<Vec<u16>, Stop<'a>>
-    ensures found { IfOk result (λ ns. numbers (texts words.now) ≡ Some ns.items) }
-    ensures refused { IfErr result (IsWordsStop (numbers (texts words.now) ≡ None)) }
+fn read_numbers<'a>(alloc: Global, words: &[&str]) -> Result<Vec<u16>, Stop<'a>>
+    ensures found { IfOk result (λ ns. numbers (spelled words.now) ≡ Some ns.items) }
+    ensures refused { IfErr result (IsWordsStop (numbers (spelled words.now) ≡ None)) }
 {
     let mut found = Vec::new(alloc);
     for word in words {
-        match read_number(0, GREATEST_NUMBER, word.as_str()) {
+        match read_number(0, GREATEST_NUMBER, word) {
             Some(number) => found.push(number as u16)?,
             None => return Err(Stop::Refused(Cause::Words)),
         }
@@ -79,10 +80,10 @@ fn read_numbers<'a>(alloc: Global, words: &[String]) -> Result<Vec<u16>, Stop<'a
 }
 
 // The elements of the words, where there are as many as the degree.
-fn read_elements<'a>(alloc: Global, degree: u32, words: &[String]) -> Result<Vec<u16>, Stop<'a>>
-    ensures found { IfOk result (λ es. elements_of degree (texts words.now) ≡ Some es.items) }
+fn read_elements<'a>(alloc: Global, degree: u32, words: &[&str]) -> Result<Vec<u16>, Stop<'a>>
+    ensures found { IfOk result (λ es. elements_of degree (spelled words.now) ≡ Some es.items) }
     ensures count { IfOk result (λ es. length es.items ≡ degree) }
-    ensures refused { IfErr result (IsWordsStop (elements_of degree (texts words.now) ≡ None)) }
+    ensures refused { IfErr result (IsWordsStop (elements_of degree (spelled words.now) ≡ None)) }
 {
     let elements = read_numbers(alloc, words)?;
     if elements.len() as u64 != u64::from(degree) {
@@ -96,12 +97,12 @@ pub fn read_place<'a>(
     alloc: Global,
     degree: &str,
     class: &str,
-    elements: &[String],
+    elements: &[&str],
 ) -> Result<(u16, Vec<u16>), Stop<'a>>
     ensures found { IfOk result
-        (λ found. place degree.now class.now (texts elements.now) ≡ Some (found.0, found.1.items)) }
+        (λ found. place degree.now class.now (spelled elements.now) ≡ Some (found.0, found.1.items)) }
     ensures within { IfOk result (λ found. IsPlace found.0 found.1.items) }
-    ensures refused { IfErr result (IsWordsStop (place degree.now class.now (texts elements.now) ≡ None)) }
+    ensures refused { IfErr result (IsWordsStop (place degree.now class.now (spelled elements.now) ≡ None)) }
 {
     let (Some(degree), Some(class)) = (
         read_number(1, MOST_ELEMENTS, degree),

@@ -4,7 +4,7 @@ ghost use Rattle.coho_main.specs.Words.{IsPlace, IsWithin, asked, command, file_
 ghost use Rattle.coho_main.specs.Outcome.{Ask};
 ghost use Rattle.coho_main.specs.Stops.{IsWordsStop, Settles};
 
-use crate::{Cause, Stop, all_plain, one_operand, read_degree, read_place, two_operands};
+use crate::{Cause, Stop, all_plain, one_operand, place_operands, read_degree, read_place, two_operands};
 use limits::GREATEST_DEGREE;
 use std::alloc::Global;
 
@@ -57,16 +57,15 @@ fn file_and_place<'a>(
     alloc: Global,
     words: &'a [String],
 ) -> Result<(&'a str, u16, Vec<u16>), Stop<'a>>
+    requires { list_all is_path (texts words.now) ≡ true }
     ensures found { IfOk result
         (λ found. file_and_place (texts words.now) ≡ Some (found.0.now, found.1, found.2.items)) }
     ensures within { IfOk result (λ found. IsPlace found.1 found.2.items) }
     ensures refused { IfErr result (IsWordsStop (file_and_place (texts words.now) ≡ None)) }
 {
-    let [_, path, degree, class, elements @ ..] = words else {
-        return Err(Stop::Refused(Cause::Words));
-    };
-    let (class, elements) = read_place(alloc, degree, class, elements)?;
-    Ok((path, class, elements))
+    let found = place_operands(alloc, words)?;
+    let (class, elements) = read_place(alloc, found.degree, found.class, &found.elements)?;
+    Ok((found.file, class, elements))
 }
 
 /// The command of the words.

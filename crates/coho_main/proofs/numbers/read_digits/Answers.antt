@@ -1,4 +1,5 @@
-use Rattle.std.proofs.Common.{◌≡◌, ℕ, suc, ◌+◌, ◌-◌, ◌*◌, ◌<◌, List, length, drop, get_or, None, Some, cond, leb, arith, ap, drop-cons}
+use Rattle.std.proofs.Common.{◌≡◌, ℕ, suc, ◌+◌, ◌-◌, ◌*◌, ◌<◌, List, length, drop, get_or, None, Some, cond}
+use Rattle.std.proofs.Common.{leb, arith, ap, drop-cons}
 use Rattle.std.proofs.lemmas.Bool.Decides.{nat_tests}
 use Rattle.pc_text.specs.Numerals.{read_on, value}
 use Rattle.pc_text.proofs.NumeralLemmas.{read_on-le}
