@@ -20,4 +20,5 @@ pub mod StagesExist
 pub mod Outcomes
 pub mod RingAnswers
 pub mod OneValue
+pub mod Evaluated
 pub mod ClassAnswers

@@ -1,19 +1,20 @@
 //! The value of the cocycle of a basis class at group elements.
 
-ghost use Rattle.std.specs.Prelude.{◌≡◌, ◌<◌, ◌≤◌, All, IfErr, IfOk, OnOk, length, nat_le};
+ghost use Rattle.std.specs.Prelude.{◌≡◌, ◌<◌, ◌≤◌, ◌∷◌, [], All, IfErr, IfOk, OnOk, codes, length, nat_le};
 ghost use Rattle.std.specs.List.{find};
 ghost use Rattle.min_res.specs.Stages.{rank_of};
 ghost use Rattle.p_groups.specs.PGroups.{order_of, prime_of};
 ghost use Rattle.coho_main.specs.Evaluating.{HasClass, IsClassRefusal, IsValue, basis_class};
-ghost use Rattle.coho_main.specs.Outcome.{FitElements, order};
+ghost use Rattle.coho_main.specs.Outcome.{FitElements, line, order};
 ghost use Rattle.coho_main.specs.Stops.{IsRefused, Settles};
+ghost use Rattle.coho_main.specs.Words.{contents};
 
 use crate::{Cause, Stop};
 use bar_eval::value;
 use fp_rows::Row;
 use min_res::Resolution;
 use pc_group::Consistent;
-use std::alloc::Global;
+use std::alloc::{AllocError, Global};
 
 // The first element that is not below the order.
 fn first_above(order: u16, elements: &[u16]) -> Option<u16>
@@ -73,6 +74,16 @@ pub fn basis_value<'a>(
     ensures refused { IfErr result
         (IsRefused (IsClassRefusal resolution.now.group (length elements.now) class)) }
 {
+    let _last = resolution.last();
     let row = basis_class(alloc, resolution, elements.len() as u32, class)?;
     Ok(value(alloc, resolution, row.view(), elements)?)
+}
+
+/// The line of the answer to `value`.
+pub fn value_lines(alloc: Global, value: u8) -> Result<Vec<Vec<u8>>, AllocError>
+    ensures { IfOk result (λ lines. contents lines.items ≡ line (codes "value ") value ∷ []) }
+{
+    let mut lines = Vec::new(alloc);
+    lines.push(format!(in alloc; "value {value}\n")?.into_bytes())?;
+    Ok(lines)
 }

@@ -28,7 +28,7 @@ pub use answers::{group_lines, stage_lines};
 pub use cause::Cause;
 use coho_io::{DiskFiles, StdSink};
 pub use degree::read_degree;
-pub use evaluating::{basis_value, fit_elements};
+pub use evaluating::{basis_value, fit_elements, value_lines};
 pub use layers::{algebra_of, radical_dimensions};
 pub use loading::{accept, load};
 pub use numbers::{GREATEST_NUMBER, MOST_ELEMENTS, read_number, read_place};

@@ -11,7 +11,7 @@ ghost use Rattle.coho_main.specs.Run.{OfFiles, IsSettled, MayWrite, Tells, EndsA
 
 use crate::{
     Command, Status, Stop, basis_value, fit_elements, group_lines, load, radical_dimensions, read_words, report,
-    resolution_of, stage_lines, write_lines,
+    resolution_of, stage_lines, value_lines, write_lines,
 };
 use coho_io::{Files, Sink};
 use coho_report::{compose, report_lines};
@@ -64,9 +64,7 @@ fn answer_value<'a>(
     fit_elements(consistent, elements)?;
     let resolution = resolution_of(alloc, consistent, elements.len() as u32)?;
     let value = basis_value(alloc, &resolution, class, elements)?;
-    let mut lines = Vec::new(alloc);
-    lines.push(format!(in alloc; "value {value}\n")?.into_bytes())?;
-    Ok(lines)
+    Ok(value_lines(alloc, value)?)
 }
 
 // The lines of the answer to a command on the presentation of its file.
