@@ -36,16 +36,15 @@ module _ (n : ℕ) where
   below : (e : ℕ) → leb n e ≡ false → e < n
   below e h = grind (arith, nat_tests)
 
+  more_below : (e : ℕ) (es : List ℕ) → e < n → All (λ e. e < n) es → All (λ e. e < n) (e ∷ es)
+  more_below e es less rest zero d h = less
+  more_below e es less rest (suc k) d h = rest k d (omega arith)
+
   pub all_below : (es : List ℕ) → find (leb n) es ≡ None → All (λ e. e < n) es
   all_below [] h = λ k d less. absurd (omega arith)
-  all_below (e ∷ es) h = go
-    where
-      p : (leb n e ≡ false) × (find (leb n) es ≡ None)
-      p = passes (leb n e) e (find (leb n) es) h
-
-      go : All (λ e. e < n) (e ∷ es)
-      go zero d less = below e p.0
-      go (suc k) d less = all_below es p.1 k d (omega arith)
+  all_below (e ∷ es) h =
+      let p = passes (leb n e) e (find (leb n) es) h in
+      more_below e es (below e p.0) (all_below es p.1)
 
 module _ (P : Presentation) (es : List ℕ) (n : ℕ) (same : n ≡ order P) (files : Content) where
   pub element_refused_is : (e : ℕ) → Some e ≡ find (leb n) es
