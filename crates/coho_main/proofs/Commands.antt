@@ -1,5 +1,5 @@
 -- The command of the words, by its name and the words after it.
-use Rattle.std.proofs.Common.{◌≡◌, ◌∙◌, ◌⊎◌, inl, inr, Bool, true, false, not, ◌&&◌, ◌==◌, ℕ, List, [], ◌∷◌, length, slice_index_or, drop, string_bytes, String, Global, ◌≤◌, cond, sym, ap, subst, refl, codes, arith, true≢false}
+use Rattle.std.proofs.Common.{◌≡◌, ◌∙◌, ◌⊎◌, inl, inr, Bool, true, false, not, ◌&&◌, ◌==◌, ℕ, List, [], ◌∷◌, length, slice_index_or, drop, string_bytes, String, Global, ◌<◌, ◌≤◌, cond, sym, ap, subst, refl, codes, arith, true≢false}
 use Rattle.std.proofs.lemmas.Slice.Eq.{bytes_eq-Decides}
 use Rattle.std.proofs.lemmas.Bool.Decides.{nat_tests}
 use Rattle.std.specs.declared.option.Option.{Option}
@@ -14,6 +14,7 @@ use Rattle.limits.specs.declared.TheConstants.{GREATEST_DEGREE}
 use Rattle.clap.specs.declared.error.kind.ErrorKind.{ErrorKind}
 use Rattle.clap.specs.declared.error.kind.ErrorKind.TheVariants as kind
 use Rattle.coho_main.specs.declared.numbers.TheConstants.{GREATEST_NUMBER, MOST_ELEMENTS}
+use Rattle.coho_main.specs.declared.samples.TheConstants.{GREATEST_SAMPLE}
 use Rattle.coho_main.specs.declared.cause.Cause.TheVariants as cause
 use Rattle.coho_main.specs.declared.stop.Stop.{Stop}
 use Rattle.coho_main.specs.declared.stop.Stop.TheVariants as stop
@@ -22,7 +23,9 @@ use Rattle.coho_main.specs.Steps.{OrRefuse}
 use Rattle.coho_main.specs.Stops.{IsWordsStop, Settles, parse_stop}
 use Rattle.coho_main.specs.Refusals.{words_refused}
 use Rattle.coho_main.specs.Outcome.{Ask}
-use Rattle.coho_main.specs.Words.{Command, Group, Resolve, Ring, Value, asked, command, elements_of, file_and_degree, file_and_place, is_path, numbers, place, one_operand, texts, two_operands, with_degree}
+use Rattle.coho_main.specs.Words.{Command, Group, Resolve, Ring, Value, Sample, asked, command, elements_of}
+use Rattle.coho_main.specs.Words.{file_and_degree, file_and_place, is_path, numbers, place, one_operand}
+use Rattle.coho_main.specs.Words.{sample_number, texts, two_operands, with_degree}
 
 abbrev Text : Type 0
 Text = List ℕ
@@ -89,6 +92,13 @@ value_at (a ∷ []) h = refl
 value_at (a ∷ b ∷ []) h = refl
 value_at (a ∷ b ∷ c ∷ rest) h = rw (both (is_path a) _ h).0 (same_place a (place b c rest))
 
+sample_at : (rest : List Text) → list_all is_path rest ≡ true
+    → command (codes "sample" ∷ rest) ≡ option_map Sample (sample_number (codes "sample" ∷ rest))
+sample_at [] h = refl
+sample_at (a ∷ []) h = refl
+sample_at (a ∷ b ∷ []) h = refl
+sample_at (a ∷ b ∷ c ∷ rest) h = refl
+
 pub group_is : (name : Text) (rest : List Text) → list_all is_path (name ∷ rest) ≡ true
     → bytes_eq name (codes "group") ≡ true
     → command (name ∷ rest) ≡ option_map Group (one_operand (name ∷ rest))
@@ -121,15 +131,24 @@ value_is name rest h e =
     → command (n ∷ rest) ≡ of_place (file_and_place (n ∷ rest)))
     (sym (is_name name (codes "value") e)) (value_at rest) h
 
+pub sample_is : (name : Text) (rest : List Text) → list_all is_path (name ∷ rest) ≡ true
+    → bytes_eq name (codes "sample") ≡ true
+    → command (name ∷ rest) ≡ option_map Sample (sample_number (name ∷ rest))
+sample_is name rest h e =
+    subst (λ n. list_all is_path (n ∷ rest) ≡ true
+    → command (n ∷ rest) ≡ option_map Sample (sample_number (n ∷ rest)))
+    (sym (is_name name (codes "sample") e)) (sample_at rest) h
+
 -- ---- words of no command
 
 pub other_is : (name : Text) (rest : List Text) → bytes_eq name (codes "group") ≡ false
     → bytes_eq name (codes "resolve") ≡ false → bytes_eq name (codes "ring") ≡ false
-    → bytes_eq name (codes "value") ≡ false → command (name ∷ rest) ≡ None
-other_is name [] g r s v = refl
-other_is name (a ∷ []) g r s v = rw g refl
-other_is name (a ∷ b ∷ []) g r s v = rw (r, s) refl
-other_is name (a ∷ b ∷ c ∷ rest) g r s v = rw v refl
+    → bytes_eq name (codes "value") ≡ false → bytes_eq name (codes "sample") ≡ false
+    → command (name ∷ rest) ≡ None
+other_is name [] g r s v p = refl
+other_is name (a ∷ []) g r s v p = rw (g, p) refl
+other_is name (a ∷ b ∷ []) g r s v p = rw (r, s) refl
+other_is name (a ∷ b ∷ c ∷ rest) g r s v p = rw v refl
 
 dash_first : (low high : ℕ) (word : Text) → is_path word ≡ false → numeral low high word ≡ None
 dash_first low high [] h = refl
@@ -147,6 +166,10 @@ unless : {A : Type 0} (t p : Bool) (x y : Option A) → (t ≡ true → p ≡ tr
 unless true true x y h k = h refl refl
 unless true false x y h k = k
 unless false p x y h k = k
+
+unless_named : {A : Type 0} (t : Bool) (x y : Option A) → (t ≡ true → x ≡ None) → y ≡ None → cond t x y ≡ None
+unless_named true x y h k = h refl
+unless_named false x y h k = k
 
 -- of the words after a plain name, and after a plain file, the next is not plain
 after_name : (name known : Text) (rest : List Text) → list_all is_path (name ∷ rest) ≡ false
@@ -214,9 +237,11 @@ pub dashed_is : (words : List Text) → list_all is_path words ≡ false → com
 dashed_is [] h = refl
 dashed_is (name ∷ []) h = refl
 dashed_is (name ∷ a ∷ []) h =
-    unless (bytes_eq name (codes "group")) (is_path a) (Some (Group a)) None
-    (λ e p. absurd (true≢false (after_file a [] (after_name name (codes "group") (a ∷ []) h refl e) p)))
-    refl
+    let dashed = λ (known : Text) (k : is_path known ≡ true) (e : bytes_eq name known ≡ true). after_name name known (a ∷ []) h k e in
+    unless (bytes_eq name (codes "group")) (is_path a) (Some (Group a)) _
+    (λ e p. absurd (true≢false (after_file a [] (dashed (codes "group") refl e) p)))
+    (unless_named (bytes_eq name (codes "sample")) (option_map Sample (numeral 0 GREATEST_SAMPLE a)) None
+    (λ e. ap (option_map Sample) (dash_first 0 GREATEST_SAMPLE a (ends a (dashed (codes "sample") refl e)))) refl)
 dashed_is (name ∷ a ∷ b ∷ []) h =
     let no_degree = λ (known : Text) (k : is_path known ≡ true) (e : bytes_eq name known ≡ true) (p : is_path a ≡ true). dash_first 1 GREATEST_DEGREE b (ends b (after_file a (b ∷ []) (after_name name known (a ∷ b ∷ []) h k e) p)) in
     unless (bytes_eq name (codes "resolve")) (is_path a)
@@ -292,6 +317,19 @@ pub operands_none : (words : List Text) (k : ErrorKind) → (k ≡ kind.OutOfMem
 operands_none words k (inl m) = inl m
 operands_none words k (inr none) = inr (ap (option_and_then with_degree) none)
 
+pub number_found : (words : List Text) (word : Text) (k : ℕ) → one_operand words ≡ Some word
+    → numeral 0 GREATEST_SAMPLE word ≡ Some k → sample_number words ≡ Some k
+number_found words word k is number = ap (option_and_then (numeral 0 GREATEST_SAMPLE)) is ∙ number
+
+pub number_none : (words : List Text) (word : Text) → one_operand words ≡ Some word
+    → numeral 0 GREATEST_SAMPLE word ≡ None → sample_number words ≡ None
+number_none words word is number = ap (option_and_then (numeral 0 GREATEST_SAMPLE)) is ∙ number
+
+pub operand_none : (words : List Text) (k : ErrorKind) → (k ≡ kind.OutOfMemory) ⊎ (one_operand words ≡ None)
+    → (k ≡ kind.OutOfMemory) ⊎ (sample_number words ≡ None)
+operand_none words k (inl m) = inl m
+operand_none words k (inr none) = inr (ap (option_and_then (numeral 0 GREATEST_SAMPLE)) none)
+
 -- ---- the same of the words as they are given
 
 pub named : (words : List (String Global)) (name : String Global) → 1 ≤ length words
@@ -327,6 +365,27 @@ module _ (words rest : List Text) (plain : list_all is_path words ≡ true) (nam
   at_value e = subst (λ ws. command ws ≡ of_place (file_and_place ws)) (sym first)
       (value_is name rest (subst (λ ws. list_all is_path ws ≡ true) first plain) e)
 
-  pub other_none : bytes_eq name (codes "group") ≡ false → bytes_eq name (codes "resolve") ≡ false
-      → bytes_eq name (codes "ring") ≡ false → bytes_eq name (codes "value") ≡ false → command words ≡ None
-  other_none g r s v = ap command first ∙ other_is name rest g r s v
+  pub at_sample : bytes_eq name (codes "sample") ≡ true → command words ≡ option_map Sample (sample_number words)
+  at_sample e = subst (λ ws. command ws ≡ option_map Sample (sample_number ws)) (sym first)
+      (sample_is name rest (subst (λ ws. list_all is_path ws ≡ true) first plain) e)
+
+same_name : (words rest : List Text) (a b : Text) → words ≡ a ∷ rest → words ≡ b ∷ rest → a ≡ b
+same_name words rest a b h k = cc
+
+-- words whose name, as it is read for each command, is that of none
+pub unnamed : (words : List Text) (a b c d e : Text) → words ≡ a ∷ drop 1 words → words ≡ b ∷ drop 1 words
+    → words ≡ c ∷ drop 1 words → words ≡ d ∷ drop 1 words → words ≡ e ∷ drop 1 words
+    → bytes_eq a (codes "group") ≡ false → bytes_eq b (codes "resolve") ≡ false
+    → bytes_eq c (codes "ring") ≡ false → bytes_eq d (codes "value") ≡ false
+    → bytes_eq e (codes "sample") ≡ false → command words ≡ None
+unnamed words a b c d e h i j k l g r s v p =
+    let rest = drop 1 words in
+    ap command l ∙ other_is e rest
+    (subst (λ n. bytes_eq n (codes "group") ≡ false) (same_name words rest a e h l) g)
+    (subst (λ n. bytes_eq n (codes "resolve") ≡ false) (same_name words rest b e i l) r)
+    (subst (λ n. bytes_eq n (codes "ring") ≡ false) (same_name words rest c e j l) s)
+    (subst (λ n. bytes_eq n (codes "value") ≡ false) (same_name words rest d e k l) v) p
+
+pub no_words : (words : List (String Global)) → length words < 1 → command (texts words) ≡ None
+no_words [] h = refl
+no_words (x ∷ xs) h = absurd (omega arith)

@@ -16,6 +16,9 @@ pub mod Places
 pub mod Commands
 pub mod Run
 pub mod TableExists
+pub mod ProductWords
+pub mod Agreement
+pub mod SampleGroups
 pub mod StagesExist
 pub mod Outcomes
 pub mod RingAnswers

@@ -20,16 +20,24 @@ use Rattle.power_commutator.specs.Presentations.{Presentation, first_fault}
 use Rattle.coho_report.specs.Lines.{report_lines}
 use Rattle.coho_main.specs.declared.status.Status.TheVariants as status
 use Rattle.coho_main.specs.Groups.{IsTableOf}
-use Rattle.coho_main.specs.Outcome.{Ask, ReadFront, ReadText, FitLength, OrFault, FitOrder, UnlessFalse, Accept, Load, Layers, Stages, FitStages, Report, FitElements, UnlessElement, FitClass, Evaluate, order, line, Answer, AnswerGroup, AnswerResolve, AnswerRing, AnswerValue, Reply, Comes, group_lines, stage_lines, Ending, ending, Outcome}
+use Rattle.coho_main.specs.Outcome.{Ask, ReadFront, ReadText, FitLength, OrFault, FitOrder, UnlessFalse, Accept}
+use Rattle.coho_main.specs.Outcome.{Load, Layers, Stages, FitStages, Report, FitElements, UnlessElement, FitClass}
+use Rattle.coho_main.specs.Outcome.{Evaluate, Given, order, line, Answer, AnswerGroup, AnswerResolve, AnswerRing}
+use Rattle.coho_main.specs.Outcome.{AnswerValue, AnswerSample, Reply, Comes, group_lines, stage_lines}
+use Rattle.coho_main.specs.Outcome.{Ending, ending, Outcome}
 use Rattle.coho_main.specs.Refusals.{read_refused, words_refused}
 use Rattle.coho_main.specs.Steps.{Refusal, ◌>>=◌, OrRefuse, OnGroup}
-use Rattle.coho_main.specs.Words.{AskForValue, Command, Group, Resolve, Ring, Value, command, path_of}
+use Rattle.coho_main.specs.Samples.{sample, sample_lines}
+use Rattle.coho_main.specs.Words.{AskForValue, Command, Group, Resolve, Ring, Value, Sample, command}
 use Rattle.coho_main.proofs.Loads.{after_length, after_order, after_text}
 use Rattle.coho_main.proofs.OneResolution.{fit_decided, stages_decided}
-use Rattle.coho_main.proofs.Proper.{Ends, IsDecided, IsFunctional, IsProper, gives, loose, on_group, or_refuse, refuse_if, refuses, then, then_ends, then_one, weaker}
 use Rattle.coho_main.proofs.OneValue.{class_decided, value_decided}
-use Rattle.coho_main.proofs.Replies.{after_class, after_elements, after_fit, after_stages, group_answer, report_answer, stage_answer, value_answer}
+use Rattle.coho_main.proofs.Proper.{Ends, IsDecided, IsFunctional, IsProper, gives, loose, on_group, or_refuse}
+use Rattle.coho_main.proofs.Proper.{refuse_if, refuses, then, then_ends, then_one, weaker}
+use Rattle.coho_main.proofs.Replies.{after_class, after_elements, after_fit, after_sample_fit, after_stages}
+use Rattle.coho_main.proofs.Replies.{group_answer, report_answer, sample_answer, stage_answer, value_answer}
 use Rattle.coho_main.proofs.Ringing.{report_decided}
+use Rattle.coho_main.proofs.SampleGroups.{sample_given}
 use Rattle.coho_main.proofs.TableExists.{table_exists}
 
 or_fault : (r : Result Presentation Fault) → IsProper ⊥ (OrFault r)
@@ -84,21 +92,36 @@ none_is : (P Q : Presentation) (o : Option TestName) (old new : Content) → Unl
 none_is P Q None old new h = (refl, (let e = h.0 in cc))
 none_is P Q (Some name) old new h = absurd (let no = h.0 in cc)
 
-accepted : (text : List ℕ) (P Q : Presentation) (old new : Content) → read text ≡ Ok P
-    → Accept P old (Ok Q) new → IsLoaded Q
-accepted text P Q old new is (inl h) =
+accepted : (P Q : Presentation) (old new : Content) → IsGiven P → Accept P old (Ok Q) new → IsLoaded Q
+accepted P Q old new is (inl h) =
     let e = none_is P Q (first_fault P) h.1 new h.3 in
-    subst IsLoaded e.1 (record { given = read_given text P is; consistent = e.0 })
-accepted text P Q old new is (inr h) = absurd (let no = h.2 in cc)
+    subst IsLoaded e.1 (record { given = is; consistent = e.0 })
+accepted P Q old new is (inr h) = absurd (let no = h.2 in cc)
 
 after_is : (text : List ℕ) (Q : Presentation) (old new : Content) → after_text text old (Ok Q) new
     → IsLoaded Q
-after_is text Q old new (inl h) = accepted text h.0 Q h.1 new (text_is text h.0 old h.1 h.2) h.3
+after_is text Q old new (inl h) =
+    accepted h.0 Q h.1 new (read_given text h.0 (text_is text h.0 old h.1 h.2)) h.3
 after_is text Q old new (inr h) = absurd (let no = h.2 in cc)
 
 loaded : (path : List ℕ) (Q : Presentation) (old new : Content) → Load path old (Ok Q) new → IsLoaded Q
 loaded path Q old new (inl h) = after_is h.0 Q h.1 new h.3
 loaded path Q old new (inr h) = absurd (let no = h.2 in cc)
+
+-- the presentation that a command is asked about is one
+given : (asked : Command) → IsProper ⊥ (Given asked)
+given (Group path) = load path
+given (Resolve path n) = load path
+given (Ring path n) = load path
+given (Value path k es) = load path
+given (Sample k) = accept (sample k)
+
+given_loaded : (asked : Command) (P : Presentation) (old new : Content) → Given asked old (Ok P) new → IsLoaded P
+given_loaded (Group path) = loaded path
+given_loaded (Resolve path n) = loaded path
+given_loaded (Ring path n) = loaded path
+given_loaded (Value path k es) = loaded path
+given_loaded (Sample k) = λ P old new. accepted (sample k) P old new (sample_given k)
 
 table_of : (P : Presentation) → IsLoaded P → (G : PGroup) × IsTableOf P G
 table_of P is = let four = prime_listed P.prime is.given.prime in
@@ -154,15 +177,22 @@ module _ (P : Presentation) (is : IsLoaded P) where
       then (Evaluate P k es) value_answer (on _ _ (value_decided k es))
       (λ v old mid h. gives (line (codes "value ") v ∷ [])))))
 
+  answer_sample : (k : ℕ) → IsProper ⊥ (AnswerSample P k)
+  answer_sample k =
+      then (FitStages P 4) (after_sample_fit P k) (on _ _ (fit_decided 4)) (λ _ old mid h.
+      then (Report P 4) (sample_answer k) (on _ _ (report_decided 4))
+      (λ report old mid h. gives (sample_lines k report)))
+
   answer : (asked : Command) → IsProper (MayRefuseElements asked) (Answer asked P)
   answer (Group path) = answer_group
   answer (Resolve path n) = answer_resolve n
   answer (Ring path n) = answer_ring n
   answer (Value path k es) = answer_value k es
+  answer (Sample k) = answer_sample k
 
 reply : (asked : Command) → IsProper (MayRefuseElements asked) (Reply asked)
-reply asked = then (Load (path_of asked)) (Answer asked) (weaker (Load (path_of asked)) (load (path_of asked)))
-    (λ P old mid h. answer P (loaded (path_of asked) P old mid h) asked)
+reply asked = then (Given asked) (Answer asked) (weaker (Given asked) (given asked))
+    (λ P old mid h. answer P (given_loaded asked P old mid h) asked)
 
 -- ---- so there is one outcome
 
@@ -211,6 +241,7 @@ value_asked words (Group path) e h = absurd h
 value_asked words (Resolve path n) e h = absurd h
 value_asked words (Ring path n) e h = absurd h
 value_asked words (Value path k es) e h = (path, k, es, e)
+value_asked words (Sample k) e h = absurd h
 
 pub usage_is : (words : List (List ℕ)) (old new : Content) (r : Refusal) → Comes words old (Err r) new
     → r.status ≡ status.Usage → (command words ≡ None) ⊎ AskForValue words

@@ -1,7 +1,9 @@
 -- The answers to commands, as the calls make them.
-use Rattle.std.proofs.Common.{◌≡◌, ◌∙◌, List, [], ◌∷◌, codes, length, ℕ, Vec, Global, refl, ap, sym, subst, inl, inr, arith}
+use Rattle.std.proofs.Common.{◌≡◌, ◌∙◌, List, [], ◌∷◌, codes, length, ℕ, Vec, Global, refl, ap, sym, subst, inl}
+use Rattle.std.proofs.Common.{inr}
+use Rattle.std.specs.List.{Contains}
 use Rattle.std.specs.declared.option.Option.{Option}
-use Rattle.std.specs.declared.option.Option.TheVariants.{Some}
+use Rattle.std.specs.declared.option.Option.TheVariants.{None, Some}
 use Rattle.std.specs.declared.result.Result.{Result}
 use Rattle.std.specs.declared.result.Result.TheVariants.{Ok, Err}
 use Rattle.coho_io.specs.Content.{Content}
@@ -12,15 +14,20 @@ use Rattle.power_commutator.specs.Presentations.{Presentation}
 use Rattle.coho_main.specs.declared.stop.Stop.{Stop}
 use Rattle.coho_main.specs.declared.words.Command.{Command as Named}
 use Rattle.coho_main.specs.Groups.{ForGroupOf}
-use Rattle.coho_main.specs.Outcome.{Ask, Load, Report, FitStages, FitElements, FitClass, Evaluate, Answer, AnswerGroup, AnswerResolve, AnswerRing, AnswerValue, Reply, Comes, group_lines, line, stage_lines}
+use Rattle.coho_main.specs.Outcome.{Ask, Load, Given, Report, FitStages, FitElements, FitClass, Evaluate, Answer}
+use Rattle.coho_main.specs.Outcome.{AnswerGroup, AnswerResolve, AnswerRing, AnswerValue, AnswerSample}
+use Rattle.coho_main.specs.Outcome.{Reply, Comes, group_lines, line, stage_lines}
 use Rattle.coho_main.specs.Evaluating.{HasClass, IsClassRefusal, IsValue}
 use Rattle.coho_main.specs.Ringing.{IsReportTo, IsReportRefusal}
 use Rattle.coho_main.specs.Run.{OfFiles}
 use Rattle.coho_main.specs.Stages.{Summary, AreStagesTo, Fit, IsStageRefusal}
 use Rattle.coho_main.specs.Steps.{Refusal, Step, ◌>>=◌, Gives}
 use Rattle.coho_main.specs.Stops.{IsRefused, Meets, Settles}
-use Rattle.coho_main.specs.Words.{Command, IsRead, asked, command, contents, path_of}
-use Rattle.coho_main.proofs.Chain.{after_ok, at_stop, refused_settles, settled_after_ok, settled_at_stop, settled_meets}
+use Rattle.coho_main.specs.Samples.{sample_lines}
+use Rattle.coho_main.specs.Words.{Command, Group, Resolve, Ring, Value, Sample, IsRead, asked, command}
+use Rattle.coho_main.specs.Words.{contents, path_of, read_paths}
+use Rattle.coho_main.proofs.Chain.{after_ok, at_stop, refused_settles, settled_after_ok, settled_at_stop}
+use Rattle.coho_main.proofs.Chain.{settled_meets}
 use Rattle.coho_main.proofs.Seen.{some_files}
 
 abbrev pub Lines : Type 0
@@ -57,6 +64,12 @@ module _ (P : Presentation) (k : ℕ) (es : List ℕ) where
   abbrev pub after_elements : Unit {0} → Step (List (List ℕ))
   after_elements _ = FitStages P (length es) >>= after_stages
 
+abbrev pub sample_answer : ℕ → ReportValue → Step (List (List ℕ))
+sample_answer k report = Gives (sample_lines k report)
+
+abbrev pub after_sample_fit : Presentation → ℕ → Unit {0} → Step (List (List ℕ))
+after_sample_fit P k _ = Report P 4 >>= sample_answer k
+
 pub group_then : (P : Presentation) (dimensions : List ℕ) (lines : Lines)
     → ForGroupOf P (λ G. dimensions ≡ sizes G) → contents lines.items ≡ group_lines P dimensions
     → Settles lines_of (AnswerGroup P) (Ok lines)
@@ -68,7 +81,7 @@ group_then P dimensions lines are e = λ files. inl (
 )
 
 module _ (P : Presentation) (n : ℕ) where
-  abbrev StageRefusal : Refusal → Type 0
+  abbrev pub StageRefusal : Refusal → Type 0
   StageRefusal refusal = ForGroupOf P (λ G. IsStageRefusal G n refusal)
 
   pub resolve_then : (stages : List Summary) (lines : Lines) → ForGroupOf P (λ G. AreStagesTo G n stages)
@@ -142,9 +155,34 @@ module _ (P : Presentation) (k : ℕ) (es : List ℕ) where
             inl (tt, files, (has, refl), inl (v, files, (is, refl), (ap (λ ls. Ok ls) e, refl))),
           ))
 
+module _ (P : Presentation) (k : ℕ) where
+  pub sample_refused : (s : Stop) → IsRefused (StageRefusal P 4) s → Settles lines_of (AnswerSample P k) (Err s)
+  sample_refused s h = refused_settles lines_of (AnswerSample P k) (StageRefusal P 4) s h
+      (λ r q files. inr (r, (q, refl), refl))
+
+  module _ (fit : ForGroupOf P (λ G. Fit G 4)) where
+    pub sample_too_many : (s : Stop) → IsRefused (λ refusal. ForGroupOf P (λ G. IsReportRefusal G 4 refusal)) s
+        → Settles lines_of (AnswerSample P k) (Err s)
+    sample_too_many s h =
+        refused_settles lines_of (AnswerSample P k)
+        (λ refusal. ForGroupOf P (λ G. IsReportRefusal G 4 refusal)) s h
+        (λ r q files. inl (tt, files, (fit, refl), inr (r, (q, refl), refl)))
+
+    pub sample_then : (report : ReportValue) (lines : Lines) → ForGroupOf P (λ G. IsReportTo G 4 report)
+        → contents lines.items ≡ sample_lines k report → Settles lines_of (AnswerSample P k) (Ok lines)
+    sample_then report lines is e = λ files. inl (
+      tt,
+      files,
+      (fit, refl),
+      inl (report, files, (is, refl), (ap (λ ls. Ok ls) e, refl)),
+    )
+
 -- a call met its step, over files that agree
 abbrev pub MeetsOf : {T A : Type 0} → (T → A) → Step A → Option Content → Result T Stop → Type 0
 MeetsOf view step known r = OfFiles known (λ files. Meets view step files files r)
+
+same_path : (p q : List ℕ) → ◌≡◌ {A = Option (List ℕ)} (Some p) (Some q) → p ≡ q
+same_path p q e = cc
 
 module _ (known : Option Content) where
   pub ask_stop : (words : List (List ℕ)) (s : Stop) → Settles asked (Ask words) (Err s)
@@ -162,24 +200,36 @@ module _ (known : Option Content) where
       → MeetsOf lines_of (Comes words) known r
   ask_then words c r h k = (k.0, k.1, after_ok asked lines_of (Ask words) Reply k.0 k.0 k.0 c r (h k.0) k.2)
 
-  pub load_stop : (named : Command) (path : List ℕ) (s : Stop) → path ≡ path_of named
-      → MeetsOf itself (Load path) known (Err s) → MeetsOf lines_of (Reply named) known (Err s)
-  load_stop named path s e h =
-      let k = subst (λ p. MeetsOf itself (Load p) known (Err s)) e h in
-      (k.0, k.1, at_stop itself lines_of (Load (path_of named)) (Answer named) k.0 k.0 s k.2)
+  pub given_stop : (named : Command) (s : Stop) → MeetsOf itself (Given named) known (Err s)
+      → MeetsOf lines_of (Reply named) known (Err s)
+  given_stop named s h = (h.0, h.1, at_stop itself lines_of (Given named) (Answer named) h.0 h.0 s h.2)
 
-  pub load_then : (named : Command) (path : List ℕ) (P : Presentation) (r : Result Lines Stop)
-      → path ≡ path_of named → MeetsOf itself (Load path) known (Ok P) → Settles lines_of (Answer named P) r
+  pub given_then : (named : Command) (P : Presentation) (r : Result Lines Stop)
+      → MeetsOf itself (Given named) known (Ok P) → Settles lines_of (Answer named P) r
       → MeetsOf lines_of (Reply named) known r
-  load_then named path P r e h a =
-      let k = subst (λ p. MeetsOf itself (Load p) known (Ok P)) e h in (
-        k.0,
-        k.1,
-        after_ok itself lines_of (Load (path_of named)) (Answer named) k.0 k.0 k.0 P r k.2
-            (settled_meets lines_of (Answer named P) k.0 r a),
-      )
+  given_then named P r h a = (
+    h.0,
+    h.1,
+    after_ok itself lines_of (Given named) (Answer named) h.0 h.0 h.0 P r h.2
+        (settled_meets lines_of (Answer named P) h.0 r a),
+  )
 
--- the file of the command is one that the words read
-pub is_read : (words : List (List ℕ)) (named : Command) (path : List ℕ) → command words ≡ Some named
-    → path ≡ path_of named → (p : List ℕ) → p ≡ path → IsRead words p
-is_read words named path is e p same = (named, is, (0, omega arith, sym e ∙ sym same))
+  -- the file of a command was read
+  pub given_load : (named : Command) (path : List ℕ) (r : Result Presentation Stop) → path_of named ≡ Some path
+      → MeetsOf itself (Load path) known r → MeetsOf itself (Given named) known r
+  given_load (Group p) path r e h = subst (λ p. MeetsOf itself (Load p) known r) (sym (same_path p path e)) h
+  given_load (Resolve p n) path r e h = subst (λ p. MeetsOf itself (Load p) known r) (sym (same_path p path e)) h
+  given_load (Ring p n) path r e h = subst (λ p. MeetsOf itself (Load p) known r) (sym (same_path p path e)) h
+  given_load (Value p k es) path r e h = subst (λ p. MeetsOf itself (Load p) known r) (sym (same_path p path e)) h
+  given_load (Sample k) path r e h = absurd (let no : ◌≡◌ {A = Option (List ℕ)} None (Some path) = e in cc)
+
+  -- a call that reads no file met its step
+  pub settled_given : {T A : Type 0} (view : T → A) (step : Step A) (r : Result T Stop) → Settles view step r
+      → MeetsOf view step known r
+  settled_given view step r h =
+      let some = some_files known in (some.0, some.1, settled_meets view step some.0 r h)
+
+-- what the command reads, the words read
+pub is_read : (words : List (List ℕ)) (named : Command) → command words ≡ Some named → (p : List ℕ)
+    → Contains (read_paths named) p → IsRead words p
+is_read words named is p reads = (named, is, reads)

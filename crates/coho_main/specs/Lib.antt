@@ -14,3 +14,5 @@ pub mod Stages
 pub mod Resolving
 pub mod RingAnswers
 pub mod ClassAnswers
+pub mod Products
+pub mod Samples

@@ -15,8 +15,10 @@ use Rattle.pc_text.specs.Texts.{read}
 use Rattle.coho_main.specs.declared.status.Status.{Status}
 use Rattle.coho_main.specs.declared.status.Status.TheVariants as status
 use Rattle.coho_main.specs.Steps.{Refusal, Step, ◌>>=◌, Gives, Refuses, OrRefuse, RefuseIf, OnGroup}
-use Rattle.coho_main.specs.Refusals.{words_refused, read_refused, length_refused, text_refused, order_refused, test_refused, element_refused}
-use Rattle.coho_main.specs.Words.{Command, Group, Resolve, Ring, Value, command, path_of}
+use Rattle.coho_main.specs.Refusals.{words_refused, read_refused, length_refused, text_refused, order_refused}
+use Rattle.coho_main.specs.Refusals.{test_refused, element_refused}
+use Rattle.coho_main.specs.Samples.{sample, sample_lines}
+use Rattle.coho_main.specs.Words.{Command, Group, Resolve, Ring, Value, Sample, command}
 use Rattle.group_algebra.specs.Coordinates.{sizes}
 use Rattle.coho_main.specs.Stages.{Summary, Fit, AreStagesTo, IsStageRefusal}
 use Rattle.coho_main.specs.Evaluating.{HasClass, IsClassRefusal, IsValue}
@@ -153,7 +155,7 @@ stage_line s =
 abbrev pub stage_lines : List Summary → List (List ℕ)
 stage_lines stages = map stage_line stages
 
--- the commands, step by step, on the presentation of their file
+-- the commands, step by step, on their presentation
 abbrev pub AnswerGroup : Presentation → Step (List (List ℕ))
 AnswerGroup P = do
   dimensions ← Layers P
@@ -178,15 +180,31 @@ AnswerValue P k es = do
   v ← Evaluate P k es
   Gives (line (codes "value ") v ∷ [])
 
+-- the ring of the product that k names, through degree 4
+abbrev pub AnswerSample : Presentation → ℕ → Step (List (List ℕ))
+AnswerSample P k = do
+  _ ← FitStages P 4
+  report ← Report P 4
+  Gives (sample_lines k report)
+
 abbrev pub Answer : Command → Presentation → Step (List (List ℕ))
 Answer (Group path) P = AnswerGroup P
 Answer (Resolve path n) P = AnswerResolve P n
 Answer (Ring path n) P = AnswerRing P n
 Answer (Value path k es) P = AnswerValue P k es
+Answer (Sample k) P = AnswerSample P k
+
+-- the consistent presentation that a command is asked about: that of its file, or the one that a number names
+abbrev pub Given : Command → Step Presentation
+Given (Group path) = Load path
+Given (Resolve path n) = Load path
+Given (Ring path n) = Load path
+Given (Value path k es) = Load path
+Given (Sample k) = Accept (sample k)
 
 abbrev pub Reply : Command → Step (List (List ℕ))
 Reply asked = do
-  P ← Load (path_of asked)
+  P ← Given asked
   Answer asked P
 
 abbrev pub Comes : List (List ℕ) → Step (List (List ℕ))

@@ -10,6 +10,7 @@ use Rattle.std.specs.Str.{bytes_eq}
 use Rattle.limits.specs.declared.TheConstants.{GREATEST_DEGREE}
 use Rattle.pc_text.specs.Numerals.{numeral}
 use Rattle.coho_main.specs.declared.numbers.TheConstants.{GREATEST_NUMBER, MOST_ELEMENTS}
+use Rattle.coho_main.specs.declared.samples.TheConstants.{GREATEST_SAMPLE}
 use Rattle.coho_main.specs.declared.words.Command.{Command as Named}
 use Rattle.coho_main.specs.declared.words.Command.TheVariants as named
 
@@ -36,6 +37,8 @@ pub data Command : Type 0 where
   -- to find the value of the cocycle of a class of a file's group, by its number, at elements: the degree of
   -- the class is their number
   Value : List ℕ → ℕ → List ℕ → Command
+  -- to make the product of small groups that a number names, and to describe its cohomology ring
+  Sample : ℕ → Command
 
 -- the command by the program's own value
 abbrev pub asked : Named → Command
@@ -43,13 +46,15 @@ asked (named.Group path) = Group path.now
 asked (named.Resolve path n) = Resolve path.now n
 asked (named.Ring path n) = Ring path.now n
 asked (named.Value path k es) = Value path.now k es.items
+asked (named.Sample k) = Sample k
 
--- the path of its file
-abbrev pub path_of : Command → List ℕ
-path_of (Group path) = path
-path_of (Resolve path n) = path
-path_of (Ring path n) = path
-path_of (Value path k es) = path
+-- the path of its file, where it has one
+abbrev pub path_of : Command → Option (List ℕ)
+path_of (Group path) = Some path
+path_of (Resolve path n) = Some path
+path_of (Ring path n) = Some path
+path_of (Value path k es) = Some path
+path_of (Sample k) = None
 
 -- a class has a number from 1 on, and it is to be evaluated at 1 to 8 elements
 pub record IsPlace (k : ℕ) (es : List ℕ) : Type 0 where
@@ -64,6 +69,7 @@ IsWithin (Group path) = ⊤
 IsWithin (Resolve path n) = (1 ≤ n) × (n ≤ GREATEST_DEGREE)
 IsWithin (Ring path n) = (1 ≤ n) × (n ≤ GREATEST_DEGREE)
 IsWithin (Value path k es) = IsPlace k es
+IsWithin (Sample k) = k ≤ GREATEST_SAMPLE
 
 -- a word that may stand for a file: it is not empty, and begins with no dash
 abbrev pub is_path : List ℕ → Bool
@@ -88,8 +94,10 @@ place degree class elements =
 
 -- the command of the words, and None where they are not those of one
 abbrev pub command : List (List ℕ) → Option Command
-command (name ∷ path ∷ []) =
-    if bytes_eq name (codes "group") && is_path path then Some (Group path) else None
+command (name ∷ word ∷ []) =
+    if bytes_eq name (codes "group") && is_path word
+    then Some (Group word)
+    else (if bytes_eq name (codes "sample") then option_map Sample (numeral 0 GREATEST_SAMPLE word) else None)
 command (name ∷ path ∷ degree ∷ []) =
     if bytes_eq name (codes "resolve") && is_path path
     then option_map (Resolve path) (numeral 1 GREATEST_DEGREE degree)
@@ -136,9 +144,18 @@ file_and_place (name ∷ path ∷ degree ∷ class ∷ elements) =
     option_map (λ p. (path, p.0, p.1)) (place degree class elements)
 file_and_place _ = None
 
+-- the number that names a product, where the one word is its numeral
+abbrev pub sample_number : List (List ℕ) → Option ℕ
+sample_number words = option_and_then (numeral 0 GREATEST_SAMPLE) (one_operand words)
+
+-- the path that is there
+abbrev paths_of : Option (List ℕ) → List (List ℕ)
+paths_of None = []
+paths_of (Some path) = path ∷ []
+
 -- the paths that a command reads, and those that it saves to
 abbrev pub read_paths : Command → List (List ℕ)
-read_paths c = path_of c ∷ []
+read_paths c = paths_of (path_of c)
 
 abbrev pub saved_paths : Command → List (List ℕ)
 saved_paths c = []

@@ -3,8 +3,10 @@ ghost use Rattle.min_res.specs.Values.{boundary_of};
 ghost use Rattle.coho_main.specs.Outcome.{after_space, group_lines, layers_line, rows_words, stage_line};
 ghost use Rattle.coho_main.specs.Stages.{HasRows, summary};
 ghost use Rattle.coho_main.specs.Resolving.{TellsStage, TellsStages};
+ghost use Rattle.coho_main.specs.Samples.{sample_lines};
 ghost use Rattle.coho_main.specs.Words.{contents};
 
+use coho_report::{Report, summary_lines};
 use limits::GREATEST_DEGREE;
 use min_res::{Resolution, Stage};
 use pc_group::Consistent;
@@ -105,5 +107,15 @@ pub fn stage_lines(alloc: Global, resolution: &Resolution) -> Result<Vec<Vec<u8>
     for d in 0..count {
         lines.push(line_at(alloc, resolution, d)?.into_bytes())?;
     }
+    Ok(lines)
+}
+
+/// The lines of the answer to `sample`.
+pub fn sample_lines(alloc: Global, k: u32, report: &Report) -> Result<Vec<Vec<u8>>, AllocError>
+    ensures { IfOk result (λ lines. contents lines.items ≡ sample_lines k report.now) }
+{
+    let mut lines = Vec::new(alloc);
+    lines.push(format!(in alloc; "sample {k}\n")?.into_bytes())?;
+    lines.append(&mut summary_lines(alloc, report)?)?;
     Ok(lines)
 }

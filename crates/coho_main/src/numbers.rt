@@ -1,4 +1,4 @@
-//! The numbers of `value`: its degree, the number of its class, and its elements.
+//! Numbers among the words; those of `value` are its degree, the number of its class, and its elements.
 
 ghost use Rattle.std.specs.Prelude.{◌≡◌, ◌<◌, ◌≤◌, IfErr, IfOk, IfSome, None, Some, if◌then◌else◌, length};
 ghost use Rattle.std.specs.Prelude.{nat_le, true};
@@ -10,7 +10,7 @@ ghost use Rattle.coho_main.specs.Words.{IsPlace, elements_of, numbers, place, sp
 use crate::{Cause, Stop};
 use std::alloc::Global;
 
-/// The greatest number of a class or an element that may be asked for.
+/// The greatest number that a word may stand for: that of a class or an element of `value`.
 pub const GREATEST_NUMBER: u32 = 65_535;
 
 /// The greatest degree in which `value` is answered.

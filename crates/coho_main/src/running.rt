@@ -1,8 +1,11 @@
 ghost use Rattle.std.specs.Prelude.{◌≡◌, ◌≢◌, ◌≤◌, ◌⊎◌, ℕ, List, None, Some};
+ghost use Rattle.std.specs.List.{Contains};
 ghost use Rattle.coho_io.specs.Content.{Content};
 ghost use Rattle.coho_io.specs.Causes.{Rose};
-ghost use Rattle.coho_main.specs.Words.{AskForValue, IsPlace, IsRead, IsWithin, asked, command, contents, texts};
-ghost use Rattle.coho_main.specs.Outcome.{Answer, AnswerGroup, AnswerResolve, AnswerRing, AnswerValue, Comes, Ending, Outcome};
+ghost use Rattle.coho_main.specs.Words.{AskForValue, IsPlace, IsRead, IsWithin, asked, command, contents};
+ghost use Rattle.coho_main.specs.Words.{read_paths, texts};
+ghost use Rattle.coho_main.specs.Outcome.{Answer, AnswerGroup, AnswerResolve, AnswerRing, AnswerSample};
+ghost use Rattle.coho_main.specs.Outcome.{AnswerValue, Comes, Ending, Given, Outcome};
 ghost use Rattle.coho_main.specs.Refusals.{read_refused, write_refused};
 ghost use Rattle.coho_main.specs.RingAnswers.{TellsRingOf};
 ghost use Rattle.coho_main.specs.ClassAnswers.{HasCocycleClassesOf};
@@ -10,14 +13,18 @@ ghost use Rattle.coho_main.specs.Stops.{Meets, Settles, HasReadCause, OnlyReads}
 ghost use Rattle.coho_main.specs.Run.{OfFiles, IsSettled, MayWrite, Tells, EndsAs, AnswersFront, WantsMemory, NoReadFault, Stays};
 
 use crate::{
-    Command, Status, Stop, basis_value, fit_elements, group_lines, load, radical_dimensions, read_words, report,
-    resolution_of, stage_lines, value_lines, write_lines,
+    Command, Status, Stop, accept, basis_value, fit_elements, group_lines, load, radical_dimensions,
+    read_words, report, resolution_of, sample_lines, sample_presentation, stage_lines, value_lines,
+    write_lines,
 };
 use coho_io::{Files, Sink};
 use coho_report::{compose, report_lines};
 use limits::{GREATEST_DEGREE, GREATEST_DIMENSION, MOST_MONOMIALS};
 use pc_group::Consistent;
 use std::alloc::Global;
+
+// The degree through which the ring of a product is described.
+const SAMPLE_DEGREE: u32 = 4;
 
 // The lines of the answer to `group`.
 fn answer_group<'a>(alloc: Global, consistent: &Consistent) -> Result<Vec<Vec<u8>>, Stop<'a>>
@@ -67,7 +74,17 @@ fn answer_value<'a>(
     Ok(value_lines(alloc, value)?)
 }
 
-// The lines of the answer to a command on the presentation of its file.
+// The lines of the answer to `sample`.
+fn answer_sample<'a>(alloc: Global, consistent: &Consistent, k: u32) -> Result<Vec<Vec<u8>>, Stop<'a>>
+    ensures { Settles (λ lines. contents lines.items) (AnswerSample consistent.now k) result }
+{
+    let resolution = resolution_of(alloc, consistent, SAMPLE_DEGREE)?;
+    let report =
+        compose(alloc, &resolution, SAMPLE_DEGREE, MOST_MONOMIALS, GREATEST_DIMENSION)?;
+    Ok(sample_lines(alloc, k, &report)?)
+}
+
+// The lines of the answer to a command on its presentation.
 fn answer_on<'a>(
     alloc: Global,
     command: Command<'a>,
@@ -83,6 +100,29 @@ fn answer_on<'a>(
         Command::Value(_, class, elements) => {
             answer_value(alloc, consistent, class, &elements)
         }
+        Command::Sample(k) => answer_sample(alloc, consistent, k),
+    }
+}
+
+// The consistent presentation that a command is asked about.
+fn given<'a, F: Files>(
+    alloc: Global,
+    command: &Command<'a>,
+    files: &mut F,
+) -> Result<Consistent, Stop<'a>>
+    requires { IsWithin (asked command.now) }
+    ensures step { OfFiles (F.content files.old)
+        (λ seen. Meets (λ c. c) (Given (asked command.now)) seen seen result) }
+    ensures reads { OnlyReads (HasReadCause (λ path. Contains (read_paths (asked command.now)) path))
+        (F.content files.old) (F.content files.new)
+        (F.read_faults files.old) (F.read_faults files.new) result }
+{
+    match *command {
+        Command::Group(path)
+        | Command::Resolve(path, _)
+        | Command::Ring(path, _)
+        | Command::Value(path, _, _) => load(alloc, files, path),
+        Command::Sample(k) => accept(alloc, sample_presentation(alloc, k)?),
     }
 }
 
@@ -99,7 +139,7 @@ fn answer<'a, F: Files>(
         (F.read_faults files.old) (F.read_faults files.new) result }
 {
     let command = read_words(alloc, words)?;
-    let consistent = load(alloc, files, command.path())?;
+    let consistent = given(alloc, &command, files)?;
     answer_on(alloc, command, &consistent)
 }
 

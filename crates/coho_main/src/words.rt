@@ -1,10 +1,14 @@
 ghost use Rattle.std.specs.Prelude.{◌≡◌, ◌≤◌, IfErr, IfOk, None, Some, true};
 ghost use Rattle.std.specs.List.{list_all};
-ghost use Rattle.coho_main.specs.Words.{IsPlace, IsWithin, asked, command, file_and_degree, file_and_place, is_path, path_of, texts};
+ghost use Rattle.coho_main.specs.Words.{IsPlace, IsWithin, asked, command, file_and_degree, file_and_place};
+ghost use Rattle.coho_main.specs.Words.{is_path, sample_number, texts};
 ghost use Rattle.coho_main.specs.Outcome.{Ask};
 ghost use Rattle.coho_main.specs.Stops.{IsWordsStop, Settles};
 
-use crate::{Cause, Stop, all_plain, one_operand, place_operands, read_degree, read_place, two_operands};
+use crate::{
+    Cause, GREATEST_SAMPLE, Stop, all_plain, one_operand, place_operands, read_degree, read_place, read_sample,
+    two_operands,
+};
 use limits::GREATEST_DEGREE;
 use std::alloc::Global;
 
@@ -21,20 +25,8 @@ pub enum Command<'a> {
     /// To find the value of the cocycle of a basis class of the group of the file at this path, by its number,
     /// counted from 1, at elements, of which there are as many as the degree of the class.
     Value(&'a str, u16, Vec<u16>),
-}
-
-impl<'a> Command<'a> {
-    /// The path of its file.
-    pub fn path(&self) -> &'a str
-        ensures { result.now ≡ path_of (asked self.now) }
-    {
-        match self {
-            Command::Group(path)
-            | Command::Resolve(path, _)
-            | Command::Ring(path, _)
-            | Command::Value(path, _, _) => path,
-        }
-    }
+    /// To make the product of small groups that this number names, and to describe its cohomology ring.
+    Sample(u32),
 }
 
 // The two words after the command's name, a file and a degree.
@@ -68,6 +60,20 @@ fn file_and_place<'a>(
     Ok((found.file, class, elements))
 }
 
+// The number that names a product, by the one word after the command's name.
+fn sample_number<'a>(alloc: Global, words: &'a [String]) -> Result<u32, Stop<'a>>
+    requires { list_all is_path (texts words.now) ≡ true }
+    ensures found { IfOk result (λ k. sample_number (texts words.now) ≡ Some k) }
+    ensures range { IfOk result (λ k. k ≤ GREATEST_SAMPLE) }
+    ensures refused { IfErr result (IsWordsStop (sample_number (texts words.now) ≡ None)) }
+{
+    let word = one_operand(alloc, words)?;
+    match read_sample(word) {
+        Some(k) => Ok(k),
+        None => Err(Stop::Refused(Cause::Words)),
+    }
+}
+
 /// The command of the words.
 pub fn read_words<'a>(alloc: Global, words: &'a [String]) -> Result<Command<'a>, Stop<'a>>
     ensures step { Settles asked (Ask (texts words.now)) result }
@@ -91,6 +97,7 @@ pub fn read_words<'a>(alloc: Global, words: &'a [String]) -> Result<Command<'a>,
             let (path, class, elements) = file_and_place(alloc, words)?;
             Ok(Command::Value(path, class, elements))
         }
+        [name, ..] if name.as_str() == "sample" => Ok(Command::Sample(sample_number(alloc, words)?)),
         _ => Err(Stop::Refused(Cause::Words)),
     }
 }

@@ -1,5 +1,6 @@
 -- What is the value of a polynomial has a normal form.
-use Rattle.std.proofs.Common.{◌≡◌, ◌∙◌, ℕ, suc, ◌<◌, ◌≤◌, ◌⊎◌, inl, inr, List, [], length, map, arith, ap, sym}
+use Rattle.std.proofs.Common.{◌≡◌, ◌∙◌, ℕ, suc, ◌<◌, ◌≤◌, ◌⊎◌, inl, inr, List, [], length, map, arith, ap}
+use Rattle.std.proofs.Common.{sym}
 use Rattle.std.proofs.lemmas.Bool.{cases_lt}
 use Rattle.std.proofs.lemmas.List.{get_or-map, length-map, get_or_past}
 use Rattle.std.specs.List.{AllByRecursion as Each}
@@ -28,6 +29,8 @@ use Rattle.presentation_rows.specs.Values.{AreValues}
 use Rattle.presentation_rows.proofs.NormalFormRows.{normal-form-of}
 use Rattle.presentation_rows.proofs.RowTerms.{same-as-row}
 use Rattle.presentation_rows.proofs.RowValues.{value-row}
+use Rattle.ring_present.proofs.StandardMonomials.{standard-left}
+use Rattle.ring_present.specs.Standard.{AreStandard, without_pivots}
 
 module _ (q : ℕ) (F : IsFieldModulo (suc q)) (H : GradedAlgebra q) where
   abbrev A : Algebra (Vector q)
@@ -118,3 +121,14 @@ pub normal_form_of_value : (q : ℕ) → IsFieldModulo (suc q) → (H : GradedAl
     → IsOfDegree q H d v → IsValue q (algebra q H) gs d v
     → (f : List Term) × IsNormalForm q (algebra q H) gs d v f
 normal_form_of_value q F H gs positive d v of f = normal_form q F H gs positive d v of f
+
+-- the standard monomials of a degree
+pub standard_exist : (q : ℕ) → IsFieldModulo (suc q) → (H : GradedAlgebra q)
+    → (gs : List (Generator (Vector q))) → Each (λ d. 0 < d) (degrees gs) → (d : ℕ)
+    → (ms : List (List ℕ)) × AreStandard q (algebra q H) gs d ms
+standard_exist q F H gs positive d =
+    let K = kernel q F H gs positive d in (
+      without_pivots K.0 0 (all_monomials q (degrees gs) d),
+      standard-left q d H.mul gs (all_monomials q (degrees gs) d) (values q F H gs positive d) K.0 F.above_one
+          (monomials q F H gs positive d) (values-are q F H gs positive d) K.1,
+    )

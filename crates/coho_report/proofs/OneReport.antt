@@ -2,28 +2,27 @@
 use Rattle.std.proofs.Common.{◌≡◌, ◌∙◌, ℕ, ◌-◌, ◌<◌, min, List, length, sym, ap, subst, arith}
 use Rattle.limits.specs.declared.TheConstants.{GREATEST_COUNT}
 use Rattle.p_groups.specs.PGroups.{PGroup, largest_residue}
-use Rattle.std.specs.List.{AllByRecursion as Each}
 use Rattle.elementary_subgroups.specs.Bases.{NumberedSubgroup}
 use Rattle.elementary_subgroups.proofs.NumberedLists.{subgroups_are_one}
-use Rattle.graded_polynomials.specs.AllMonomials.{all_monomials}
 use Rattle.graded_polynomials.specs.Monomials.{IsMonomials}
-use Rattle.graded_polynomials.proofs.AllMonomials.{all-monomials}
 use Rattle.graded_polynomials.proofs.MonomialLists.{monomials-unique}
 use Rattle.graded_polynomials.specs.Polynomials.{Polynomial}
 use Rattle.graded_algebra.specs.Algebras.{Generator, degrees}
 use Rattle.graded_algebra.specs.Presentations.{IsRelations}
 use Rattle.graded_algebra.specs.Vectors.{Vector}
-use Rattle.graded_algebra.proofs.NormalForms.{normal-form-unique}
 use Rattle.graded_algebra.proofs.SpansUnique.{span-generators-unique}
 use Rattle.graded_algebra.proofs.Unique.{relations-unique}
 use Rattle.graded_algebra.proofs.VectorLemmas.{vector-space}
 use Rattle.chain_lift.specs.Embeddings.{elementary}
 use Rattle.chain_lift.specs.Products.{multiply}
 use Rattle.ring_present.specs.Rings.{cohomology, dual_basis, IsPresentation, IsTooMany}
+use Rattle.coho_report.specs.Parameters.{AreParameters}
 use Rattle.coho_report.specs.Related.{AreRelated}
 use Rattle.coho_report.specs.Reports.{IsReport, IsFirstTooMany}
-use Rattle.coho_report.specs.Subgroups.{restricted, IsImage, IsToldOf}
+use Rattle.coho_report.specs.Subgroups.{IsImage, IsToldOf}
 use Rattle.coho_report.specs.Values.{ReportValue, SubgroupValue}
+use Rattle.coho_report.proofs.OneImages.{one_image}
+use Rattle.coho_report.proofs.OneParameters.{one_parameters}
 use Rattle.coho_report.proofs.OwnRings.{positive_degrees}
 use Rattle.coho_report.proofs.Related.{related-one}
 
@@ -45,19 +44,6 @@ module _ (G : PGroup) where
       (subst (λ gs. IsRelations (largest_residue G)
       (cohomology G) gs n rs) same g.relations_are) k.relations_are
 
-  -- a normal form in the ring of a subgroup is one
-  one_image : (basis : List ℕ) (own : List (Generator Class)) → Each (λ d. 0 < d) (degrees own)
-      → (g : Generator Class) (e f : Polynomial) → IsImage G basis own g e → IsImage G basis own g f → e ≡ f
-  one_image basis own positive g e f a b =
-      let q = largest_residue G in
-      let E = elementary G (length basis) in
-      let ms = all_monomials q (degrees own) g.degree in
-      let terms = normal-form-unique q Class (cohomology E) (vector-space q (multiply E)) own g.degree ms
-      (all-monomials q (degrees own) positive g.degree) (restricted G basis g.degree g.class)
-      e.terms f.terms a.form b.form in
-      let degree = a.degree_is ∙ sym b.degree_is in
-      λ i. record { degree = degree i; terms = terms i }
-
   -- what is told of a subgroup is one
   one_told : (n : ℕ) (gs : List (Generator Class)) (s : NumberedSubgroup) (v w : SubgroupValue)
       → IsToldOf G n gs s v → IsToldOf G n gs s w → v ≡ w
@@ -70,7 +56,7 @@ module _ (G : PGroup) where
       let generators = a.generators_are ∙ ap degrees same ∙ sym b.generators_are in
       let positive = positive_degrees q (cohomology E) (dual_basis E) n b.own
       b.presentation.generators_are in
-      let images = related-one (IsImage G s.basis b.own) (one_image s.basis b.own positive) gs v.images
+      let images = related-one (IsImage G s.basis b.own) (one_image G s.basis b.own positive) gs v.images
       w.images (subst (λ own. AreRelated (IsImage G s.basis own) gs v.images) same a.images_are)
       b.images_are in
       λ i. record { basis = basis i; generators = generators i; images = images i }
@@ -91,6 +77,9 @@ module _ (G : PGroup) where
       r.subgroups s.subgroups
       (subst (λ gs. AreRelated (IsToldOf G n gs) b.subgroups r.subgroups) gens
       (subst (λ ss. AreRelated (IsToldOf G n a.generators) ss r.subgroups) list a.told)) b.told in
+      let parameters = one_parameters G n b.generators s.subgroups r.parameters s.parameters
+      (subst (λ vs. AreParameters G n b.generators vs r.parameters) subgroups
+      (subst (λ gs. AreParameters G n gs r.subgroups r.parameters) gens a.parameters)) b.parameters in
       λ i. record {
         prime = prime i;
         order = orders i;
@@ -99,6 +88,7 @@ module _ (G : PGroup) where
         generators = generators i;
         relations = relations i;
         subgroups = subgroups i;
+        parameters = parameters i;
       }
 
   one_count : (d cap x y : ℕ) → IsTooMany G d cap x → IsTooMany G d cap y → x ≡ y

@@ -1,5 +1,6 @@
 -- Lists that are related place by place.
-use Rattle.std.proofs.Common.{◌≡◌, ℕ, zero, suc, ◌+◌, ◌<◌, List, [], ◌∷◌, ◌++◌, length, take, refl, sym, ap, subst, arith}
+use Rattle.std.proofs.Common.{◌≡◌, ℕ, zero, suc, ◌+◌, ◌<◌, List, [], ◌∷◌, ◌++◌, length, take, refl, sym, ap}
+use Rattle.std.proofs.Common.{subst, arith}
 use Rattle.std.specs.Prelude.{All, slice_index_or}
 use Rattle.coho_report.specs.Related.{AreRelated}
 
@@ -48,3 +49,20 @@ module _ {A B : Type 0} (R : A → B → Type 0) where
       let head = f x y z r.0 s.0 in
       let tail = related-one f xs ys zs r.1 s.1 in
       λ i. head i ∷ tail i
+
+  -- two lists after two others
+  pub related-append : (xs zs : List A) (ys ws : List B) → AreRelated R xs ys → AreRelated R zs ws
+      → AreRelated R (xs ++ zs) (ys ++ ws)
+  related-append [] zs [] ws r s = s
+  related-append [] zs (y ∷ ys) ws r s = absurd r
+  related-append (x ∷ xs) zs [] ws r s = absurd r
+  related-append (x ∷ xs) zs (y ∷ ys) ws r s = (r.0, related-append xs zs ys ws r.1 s)
+
+  -- the members at one place
+  pub related-place : (xs : List A) (ys : List B) → AreRelated R xs ys → (k : ℕ) (d : A) (e : B)
+      → k < length ys → R (slice_index_or xs k d) (slice_index_or ys k e)
+  related-place [] [] r k d e l = absurd (omega (arith, l))
+  related-place [] (y ∷ ys) r k d e l = absurd r
+  related-place (x ∷ xs) [] r k d e l = absurd r
+  related-place (x ∷ xs) (y ∷ ys) r zero d e l = r.0
+  related-place (x ∷ xs) (y ∷ ys) r (suc k) d e l = related-place xs ys r.1 k d e (omega (arith, l))

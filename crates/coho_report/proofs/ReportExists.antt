@@ -1,5 +1,6 @@
 -- There is a report through a degree with few monomials in each degree, or a first degree that has too many.
-use Rattle.std.proofs.Common.{◌≡◌, ◌∙◌, ◌⊎◌, inl, inr, ℕ, zero, suc, ◌-◌, ◌≤◌, ◌<◌, min, List, length, refl, ap, subst, arith}
+use Rattle.std.proofs.Common.{◌≡◌, ◌∙◌, ◌⊎◌, inl, inr, ℕ, zero, suc, ◌-◌, ◌≤◌, ◌<◌, min, List, length, refl}
+use Rattle.std.proofs.Common.{ap, subst, arith}
 use Rattle.std.proofs.lemmas.Bool.{cases_lt}
 use Rattle.limits.specs.declared.TheConstants.{GREATEST_COUNT}
 use Rattle.p_groups.specs.PGroups.{PGroup, largest_residue, group, prime_of, order_of}
@@ -23,6 +24,7 @@ use Rattle.ring_present.specs.Rings.{cohomology, dual_basis, IsPresentation, IsT
 use Rattle.coho_report.specs.Values.{ReportValue}
 use Rattle.coho_report.specs.Reports.{IsReport, HasFewMonomials, IsFirstTooMany, ranks_below}
 use Rattle.coho_report.proofs.OwnRings.{degrees_within}
+use Rattle.coho_report.proofs.ParametersExist.{parameters_exist}
 use Rattle.coho_report.proofs.ReportSubgroups.{all_told}
 use Rattle.coho_report.proofs.SubgroupsExist.{subgroups_exist}
 
@@ -56,7 +58,13 @@ module _ (G : PGroup) where
       let gs = (known n).generators in
       let list = subgroups_exist G.table G.law.law in
       let told = all_told G n (λ E. presentation E n) gs
-      (degrees_within q (cohomology G) (dual_basis G) n gs (known n).generators_are) list.0 in (
+      (degrees_within q (cohomology G) (dual_basis G) n gs (known n).generators_are) list.0 in
+      let made : IsPresentation G n gs (known n).relations = record {
+        generators_are = (known n).generators_are;
+        relations_are = (known n).relations_are;
+      } in
+      let found = parameters_exist G n (λ E. presentation E n) gs (known n).relations made list.0 told.0
+      told.1 in (
         record {
           prime = prime_of G;
           order = order_of G;
@@ -65,6 +73,7 @@ module _ (G : PGroup) where
           generators = degrees gs;
           relations = (known n).relations;
           subgroups = told.0;
+          parameters = found.0;
         },
         record {
           prime = refl;
@@ -73,13 +82,11 @@ module _ (G : PGroup) where
           ranks = refl;
           generators = gs;
           degrees_are = refl;
-          presentation = record {
-            generators_are = (known n).generators_are;
-            relations_are = (known n).relations_are;
-          };
+          presentation = made;
           subgroups = list.0;
           subgroups_are = list.1;
           told = told.1;
+          parameters = found.1;
         },
       )
 

@@ -1,6 +1,7 @@
 -- Each subgroup of the list has what is told of it; and the stages over the subgroups are small, or there is
 -- a first one that is not.
-use Rattle.std.proofs.Common.{◌≡◌, ◌⊎◌, inl, inr, ℕ, zero, suc, ◌<◌, ◌≤◌, min, List, [], ◌∷◌, ◌++◌, length, refl, sym, ap, subst, arith, append_assoc}
+use Rattle.std.proofs.Common.{◌≡◌, ◌⊎◌, inl, inr, ℕ, zero, suc, ◌<◌, ◌≤◌, min, List, [], ◌∷◌, ◌++◌, length}
+use Rattle.std.proofs.Common.{refl, sym, ap, subst, arith, append_assoc}
 use Rattle.std.specs.List.{AllByRecursion as Each}
 use Rattle.std.proofs.lemmas.Bool.{cases_lt}
 use Rattle.p_groups.specs.PGroups.{PGroup, largest_residue, group}
@@ -19,7 +20,8 @@ use Rattle.min_res.specs.Stages.{stage_rows, rank_of}
 use Rattle.min_res.proofs.StageRows.{stage_rows_are}
 use Rattle.chain_lift.specs.Embeddings.{elementary}
 use Rattle.ring_present.specs.Rings.{cohomology, dual_basis, IsPresentation}
-use Rattle.coho_report.specs.Limits.{dimension, HasSmallStages, IsFirstLarge, IsSmall, AreSmall, IsFirstLargeSubgroup}
+use Rattle.coho_report.specs.Limits.{dimension, HasSmallStages, IsFirstLarge, IsSmall, AreSmall}
+use Rattle.coho_report.specs.Limits.{IsFirstLargeSubgroup}
 use Rattle.coho_report.specs.Related.{AreRelated}
 use Rattle.coho_report.specs.Subgroups.{restricted, IsImage, IsToldOf}
 use Rattle.coho_report.specs.Values.{SubgroupValue}
@@ -50,7 +52,7 @@ module _ (G : PGroup) (n : ℕ) (presented : (E : PGroup)
     abbrev OfGroup : Type 0
     OfGroup = Generator (Vector (largest_residue G))
 
-    image_exists : (basis : List ℕ) (own : List OfGroup) (rs : List Polynomial)
+    pub image_exists : (basis : List ℕ) (own : List OfGroup) (rs : List Polynomial)
         → IsPresentation (elementary G (length basis)) n own rs → (g : OfGroup)
         → g.degree ≤ n → (f : Polynomial) × IsImage G basis own g f
     image_exists basis own rs P g to =

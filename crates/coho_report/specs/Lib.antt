@@ -2,8 +2,14 @@ pub mod Values
 pub mod Lines
 pub mod Related
 pub mod Subgroups
+pub mod Candidates
+pub mod Parameters
+pub mod Verdicts
 pub mod Limits
 pub mod Reports
 pub mod Refusals
 pub mod OwnRings
+pub mod Restrictors
+pub mod Tables
+pub mod Choices
 pub mod Cohomology

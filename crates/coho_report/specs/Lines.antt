@@ -1,9 +1,11 @@
 -- The lines of a report, each ended by LF.
-use Rattle.std.specs.Prelude.{ℕ, ◌+◌, List, [], ◌∷◌, ◌++◌, length, map, flat_map, codes, decimal}
+use Rattle.std.specs.Prelude.{ℕ, ◌+◌, cond, Option, Some, None, List, [], ◌∷◌, ◌++◌, length, map, flat_map}
+use Rattle.std.specs.Prelude.{codes, decimal}
 use Rattle.std.specs.List.{concat, enumerate_from, range_with_len}
 use Rattle.graded_polynomials.specs.Polynomials.{Polynomial}
 use Rattle.graded_polynomials.specs.Texts.{name, polynomial_text}
 use Rattle.coho_report.specs.Values.{ReportValue, SubgroupValue}
+use Rattle.coho_report.specs.Verdicts.{bound_of, is_complete}
 
 abbrev pub ended : List ℕ → List ℕ
 ended text = text ++ 10 ∷ []
@@ -60,12 +62,41 @@ head_lines r =
     ∷ ranks_line r.ranks
     ∷ []
 
-abbrev pub report_lines : ReportValue → List (List ℕ)
-report_lines r =
+-- the ring and its restrictions
+abbrev pub ring_lines : ReportValue → List (List ℕ)
+ring_lines r =
     head_lines r
     ++ ((numbered (codes "generators ") (length r.generators) ∷ generator_lines r.generators)
     ++ ((numbered (codes "relations ") (length r.relations) ∷ relation_lines r.generators r.relations)
     ++ (numbered (codes "subgroups ") (length r.subgroups) ∷ all_subgroup_lines r.generators r.subgroups)))
+
+-- the text of each parameter, and their bound
+abbrev pub parameter_lines : List ℕ → Option (List Polynomial) → List (List ℕ)
+parameter_lines degrees None = ended (codes "parameters none") ∷ ended (codes "bound none") ∷ []
+parameter_lines degrees (Some fs) =
+    numbered (codes "parameters ") (length fs)
+    ∷ (relation_lines degrees fs ++ numbered (codes "bound ") (bound_of fs) ∷ [])
+
+-- whether the ring is complete
+abbrev pub verdict_line : ReportValue → List ℕ
+verdict_line r =
+    ended (codes (cond (is_complete r.degree r.parameters) "verdict complete" "verdict not complete"))
+
+abbrev pub report_lines : ReportValue → List (List ℕ)
+report_lines r = ring_lines r ++ (parameter_lines r.generators r.parameters ++ verdict_line r ∷ [])
+
+-- the numbers of a report alone, and whether the ring is complete
+abbrev pub summary_lines : ReportValue → List (List ℕ)
+summary_lines r =
+    numbered (codes "prime ") r.prime
+    ∷ numbered (codes "order ") r.order
+    ∷ numbered (codes "degree ") r.degree
+    ∷ ranks_line r.ranks
+    ∷ numbered (codes "generators ") (length r.generators)
+    ∷ numbered (codes "relations ") (length r.relations)
+    ∷ numbered (codes "subgroups ") (length r.subgroups)
+    ∷ verdict_line r
+    ∷ []
 
 -- the answer
 abbrev pub report_text : ReportValue → List ℕ

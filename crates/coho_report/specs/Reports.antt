@@ -6,6 +6,7 @@ use Rattle.min_res.specs.Stages.{rank_of}
 use Rattle.graded_algebra.specs.Algebras.{Generator, degrees}
 use Rattle.graded_algebra.specs.Vectors.{Vector}
 use Rattle.ring_present.specs.Rings.{IsPresentation, IsTooMany}
+use Rattle.coho_report.specs.Parameters.{AreParameters}
 use Rattle.coho_report.specs.Related.{AreRelated}
 use Rattle.coho_report.specs.Subgroups.{IsToldOf}
 use Rattle.coho_report.specs.Values.{ReportValue}
@@ -16,8 +17,8 @@ module _ (G : PGroup) where
   ranks_below zero = []
   ranks_below (suc c) = ranks_below c ++ rank_of G c ∷ []
 
-  -- the report has the ranks of degrees 0 to n, the generators and relations of degrees 1 to n, and what is
-  -- told of each maximal elementary abelian subgroup, one of each conjugacy class
+  -- the report has the ranks of degrees 0 to n, the generators and relations of degrees 1 to n, what is told of
+  -- each maximal elementary abelian subgroup, one of each conjugacy class, and the parameters
   pub record IsReport (n : ℕ) (r : ReportValue) : Type 0 where
     pub prime : r.prime ≡ prime_of G
     pub order_is : r.order ≡ order_of G
@@ -29,6 +30,7 @@ module _ (G : PGroup) where
     pub subgroups : List NumberedSubgroup
     pub subgroups_are : IsSubgroupList G.table subgroups
     pub told : AreRelated (IsToldOf G n generators) subgroups r.subgroups
+    pub parameters : AreParameters G n generators r.subgroups r.parameters
 
   -- no degree from 1 to n has more than cap monomials in generators of lower degree
   abbrev pub HasFewMonomials : ℕ → ℕ → Type 0

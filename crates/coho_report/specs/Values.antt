@@ -1,5 +1,5 @@
 -- What contracts see of a report.
-use Rattle.std.specs.Prelude.{ℕ, List}
+use Rattle.std.specs.Prelude.{ℕ, List, Option}
 use Rattle.graded_polynomials.specs.Polynomials.{Polynomial}
 
 -- what the answer tells of an elementary abelian subgroup
@@ -22,3 +22,5 @@ pub record ReportValue : Type 0 where
   pub generators : List ℕ
   pub relations : List Polynomial
   pub subgroups : List SubgroupValue
+  -- parameters, where the search ends with some
+  pub parameters : Option (List Polynomial)

@@ -8,6 +8,7 @@ ghost use Rattle.coho_report.specs.Limits.{AreSmall};
 ghost use Rattle.coho_report.specs.Reports.{IsReport, HasFewMonomials, ranks_below};
 ghost use Rattle.coho_report.specs.Refusals.{IsRefusal};
 
+use crate::parameters::find_parameters;
 use crate::rings::ring_through;
 use crate::subgroups::subgroup_reports;
 use crate::{Report, ReportFault};
@@ -35,10 +36,10 @@ fn ranks_below(alloc: Global, res: &Resolution, c: u32) -> Result<Vec<usize>, Al
 }
 
 /// The report on the ring of the resolution's group through degree n, with the restrictions of the generators
-/// to the maximal elementary abelian subgroups. `TooManyMonomials` comes exactly where a degree from 1 to n
-/// has more than `cap` monomials in generators of lower degree, and names the first. `TooLarge` comes exactly
-/// where no degree has, and over a listed subgroup a dimension of degrees 1 to n is above the limit: it names
-/// the first such subgroup and its first such degree.
+/// to the maximal elementary abelian subgroups, and the parameters. `TooManyMonomials` comes exactly where a
+/// degree from 1 to n has more than `cap` monomials in generators of lower degree, and names the first.
+/// `TooLarge` comes exactly where no degree has, and over a listed subgroup a dimension of degrees 1 to n is
+/// above the limit: it names the first such subgroup and its first such degree.
 pub fn compose(
     alloc: Global,
     res: &Resolution,
@@ -59,11 +60,13 @@ pub fn compose(
     let ring = ring_through(alloc, res, n, cap)?;
     let ranks = ranks_below(alloc, res, n + 1)?;
     let order = res.algebra().group().order();
-    let subgroups = subgroup_reports(alloc, res, &ring, limit)?;
+    let told = subgroup_reports(alloc, res, &ring, limit)?;
+    let parameters = find_parameters(alloc, res, &ring, &told.restrictors)?;
     Ok(Report {
         order,
         ranks,
         ring,
-        subgroups,
+        subgroups: told.reports,
+        parameters,
     })
 }

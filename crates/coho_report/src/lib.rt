@@ -1,12 +1,16 @@
 //! The report on the cohomology ring of a p-group through a degree, and its lines.
 #![tactic(auto)]
 
+mod candidates;
 mod composition;
 mod fault;
 mod laws;
 mod lines;
 mod own_rings;
+mod parameter_lines;
+mod parameters;
 mod report;
+mod restrictors;
 mod rings;
 mod subgroup_lines;
 mod subgroups;
@@ -16,5 +20,5 @@ mod tests;
 pub use composition::compose;
 pub use fault::ReportFault;
 pub use laws::{cohomology_law, one_refusal, one_report, report_exists};
-pub use lines::{report_lines, write_report};
+pub use lines::{report_lines, summary_lines, write_report};
 pub use report::Report;

@@ -4,9 +4,11 @@ ghost use Rattle.std.specs.Prelude.{◌≡◌, ◌<◌, ◌++◌, ◌∷◌, [],
 ghost use Rattle.std.specs.List.{concat};
 ghost use Rattle.graded_polynomials.specs.Texts.{name, polynomial_text};
 ghost use Rattle.gc_poly.specs.Polynomials.{IsOverGenerators};
-ghost use Rattle.coho_report.specs.Lines.{ended, numbered, ranks_line, generator_lines, relation_lines, head_lines, report_lines, report_text};
+ghost use Rattle.coho_report.specs.Lines.{ended, numbered, ranks_line, generator_lines, relation_lines};
+ghost use Rattle.coho_report.specs.Lines.{head_lines, ring_lines, report_lines, report_text, summary_lines};
 
 use crate::Report;
+use crate::parameter_lines::{parameter_lines, verdict_line};
 use crate::subgroup_lines::all_subgroup_lines;
 use gc_poly::{Gens, Poly, write_text};
 use group_table::Memory;
@@ -64,8 +66,8 @@ fn generator_lines(alloc: Global, gens: &Gens) -> Result<Vec<Vec<u8>>, AllocErro
     Ok(lines)
 }
 
-// The text of a relation.
-fn relation_line(alloc: Global, gens: &Gens, f: &Poly) -> Result<Vec<u8>, Memory>
+/// The text of a polynomial.
+pub(crate) fn polynomial_line(alloc: Global, gens: &Gens, f: &Poly) -> Result<Vec<u8>, Memory>
     requires { IsOverGenerators gens.now f.now }
     ensures { IfOk result (λ line. line.items ≡ ended (polynomial_text gens.now.degrees f.now.terms)) }
 {
@@ -82,14 +84,14 @@ fn relation_lines(alloc: Global, ring: &Ring) -> Result<Vec<Vec<u8>>, Memory>
 {
     let mut lines = Vec::new(alloc);
     for i in 0..ring.relations() {
-        lines.push(relation_line(alloc, ring.gens(), ring.relation(i))?)?;
+        lines.push(polynomial_line(alloc, ring.gens(), ring.relation(i))?)?;
     }
     Ok(lines)
 }
 
-/// The lines of the report, each with its LF.
-pub fn report_lines(alloc: Global, report: &Report) -> Result<Vec<Vec<u8>>, Memory>
-    ensures { IfOk result (λ lines. map (λ l. l.items) lines.items ≡ report_lines report.now) }
+// The lines of the ring and of its restrictions.
+fn ring_lines(alloc: Global, report: &Report) -> Result<Vec<Vec<u8>>, Memory>
+    ensures { IfOk result (λ lines. map (λ l. l.items) lines.items ≡ ring_lines report.now) }
 {
     let generators = report.generators();
     let relations = report.relations();
@@ -101,6 +103,38 @@ pub fn report_lines(alloc: Global, report: &Report) -> Result<Vec<Vec<u8>>, Memo
     lines.append(&mut relation_lines(alloc, &report.ring)?)?;
     lines.push(format!(in alloc; "subgroups {subgroups}\n")?.into_bytes())?;
     lines.append(&mut all_subgroup_lines(alloc, report.ring.gens(), &report.subgroups)?)?;
+    Ok(lines)
+}
+
+/// The lines of the report, each with its LF.
+pub fn report_lines(alloc: Global, report: &Report) -> Result<Vec<Vec<u8>>, Memory>
+    ensures { IfOk result (λ lines. map (λ l. l.items) lines.items ≡ report_lines report.now) }
+{
+    let mut lines = ring_lines(alloc, report)?;
+    lines.append(&mut parameter_lines(alloc, report.ring.gens(), &report.parameters)?)?;
+    lines.push(verdict_line(alloc, report.complete())?)?;
+    Ok(lines)
+}
+
+/// The numbers of the report alone, and whether the ring is complete.
+pub fn summary_lines(alloc: Global, report: &Report) -> Result<Vec<Vec<u8>>, AllocError>
+    ensures { IfOk result (λ lines. map (λ l. l.items) lines.items ≡ summary_lines report.now) }
+{
+    let prime = report.ring.gens().prime().value();
+    let order = report.order;
+    let degree = report.ring.degree();
+    let generators = report.generators();
+    let relations = report.relations();
+    let subgroups = report.subgroups();
+    let mut lines = Vec::new(alloc);
+    lines.push(format!(in alloc; "prime {prime}\n")?.into_bytes())?;
+    lines.push(format!(in alloc; "order {order}\n")?.into_bytes())?;
+    lines.push(format!(in alloc; "degree {degree}\n")?.into_bytes())?;
+    lines.push(ranks_line(alloc, &report.ranks)?)?;
+    lines.push(format!(in alloc; "generators {generators}\n")?.into_bytes())?;
+    lines.push(format!(in alloc; "relations {relations}\n")?.into_bytes())?;
+    lines.push(format!(in alloc; "subgroups {subgroups}\n")?.into_bytes())?;
+    lines.push(verdict_line(alloc, report.complete())?)?;
     Ok(lines)
 }
 

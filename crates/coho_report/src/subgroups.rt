@@ -1,6 +1,7 @@
 //! Elementary abelian subgroups, with the restrictions of the generators to them.
 
-ghost use Rattle.std.specs.Prelude.{◌≡◌, ◌≤◌, ◌<◌, ◌^◌, ◌++◌, List, length, IfOk, IfErr, OnOk, slice_index, slice_index_or};
+ghost use Rattle.std.specs.Prelude.{◌≡◌, ◌≤◌, ◌<◌, ◌^◌, ◌++◌, List, length, IfOk, IfErr, OnOk, slice_index};
+ghost use Rattle.std.specs.Prelude.{slice_index_or};
 ghost use Rattle.limits.specs.declared.TheConstants.{GREATEST_DEGREE};
 ghost use Rattle.p_groups.specs.PGroups.{largest_residue};
 ghost use Rattle.elementary_subgroups.specs.Bases.{IsSubgroupList, IsSubgroupOf, NumberedSubgroup};
@@ -14,11 +15,13 @@ ghost use Rattle.coho_report.specs.Limits.{AreSmall, IsSmall};
 ghost use Rattle.coho_report.specs.OwnRings.{IsOwnRing, IsRingThrough};
 ghost use Rattle.coho_report.specs.Refusals.{IsSubgroupRefusal};
 ghost use Rattle.coho_report.specs.Related.{AreRelated};
+ghost use Rattle.coho_report.specs.Restrictors.{IsRestrictorOf};
 ghost use Rattle.coho_report.specs.Subgroups.{IsImage, IsToldOf};
 
 use crate::ReportFault;
 use crate::fault::of_subgroup;
 use crate::own_rings::{OwnRing, shared_ring};
+use crate::restrictors::{Restrictor, restrictor_of};
 use chain_lift::EmbedMap;
 use fp_rows::Row;
 use gc_poly::{Poly, write_text};
@@ -166,6 +169,13 @@ fn told_of(
     })
 }
 
+/// What is told of each subgroup of a list, and what restricts classes to it.
+#[derive(Drop)]
+pub(crate) struct ToldSubgroups {
+    pub(crate) reports: Vec<SubgroupReport>,
+    pub(crate) restrictors: Vec<Restrictor>,
+}
+
 // What is told of each subgroup of the list.
 fn told_of_each(
     alloc: Global,
@@ -173,7 +183,7 @@ fn told_of_each(
     res: &Resolution,
     ring: &Ring,
     limit: u64,
-) -> Result<Vec<SubgroupReport>, ReportFault>
+) -> Result<ToldSubgroups, ReportFault>
     requires list { IsSubgroupList res.now.group.table list.now }
     requires ring { IsRingThrough res.now.group ring.now.degree ring.now }
     requires from { 1 ≤ ring.now.degree }
@@ -181,7 +191,9 @@ fn told_of_each(
     requires high { ring.now.degree ≤ GREATEST_DEGREE }
     requires limit { limit ≤ 2 ^ 28 }
     ensures told { IfOk result (λ v. AreRelated (IsToldOf res.now.group ring.now.degree
-        (generators_of (largest_residue res.now.group) ring.now.generators)) list.now v.items) }
+        (generators_of (largest_residue res.now.group) ring.now.generators)) list.now v.reports.items) }
+    ensures restrictors { IfOk result (λ v. AreRelated
+        (IsRestrictorOf res.now.group ring.now.degree) list.now v.restrictors.items) }
     ensures small { IfOk result (λ v. (s : NumberedSubgroup) → IsIn s list.now
         → IsSmall res.now.group ring.now.degree limit s) }
     ensures refused { IfErr result (IsSubgroupRefusal res.now.group ring.now.degree limit) }
@@ -189,14 +201,21 @@ fn told_of_each(
     let n = ring.degree();
     let mut known = Vec::new(alloc);
     let mut reports = Vec::new(alloc);
+    let mut restrictors = Vec::new(alloc);
     for i in 0..list.len() {
         let e = list.get(i);
         match shared_ring(alloc, e, res, n, limit, &mut known) {
-            Ok(own) => reports.push(told_of(alloc, e, own, res, ring)?)?,
+            Ok(own) => {
+                restrictors.push(restrictor_of(alloc, e, &own, res, n)?)?;
+                reports.push(told_of(alloc, e, own, res, ring)?)?;
+            }
             Err(fault) => return Err(of_subgroup(i, fault)),
         }
     }
-    Ok(reports)
+    Ok(ToldSubgroups {
+        reports,
+        restrictors,
+    })
 }
 
 /// What is told of the maximal elementary abelian subgroups, one of each conjugacy class.
@@ -205,7 +224,7 @@ pub(crate) fn subgroup_reports(
     res: &Resolution,
     ring: &Ring,
     limit: u64,
-) -> Result<Vec<SubgroupReport>, ReportFault>
+) -> Result<ToldSubgroups, ReportFault>
     requires ring { IsRingThrough res.now.group ring.now.degree ring.now }
     requires from { 1 ≤ ring.now.degree }
     requires within { ring.now.degree ≤ res.now.last }
@@ -213,7 +232,8 @@ pub(crate) fn subgroup_reports(
     requires limit { limit ≤ 2 ^ 28 }
     ensures told { IfOk result (λ v. (ss : List NumberedSubgroup) × IsSubgroupList res.now.group.table ss
         × AreRelated (IsToldOf res.now.group ring.now.degree
-        (generators_of (largest_residue res.now.group) ring.now.generators)) ss v.items) }
+        (generators_of (largest_residue res.now.group) ring.now.generators)) ss v.reports.items
+        × AreRelated (IsRestrictorOf res.now.group ring.now.degree) ss v.restrictors.items) }
     ensures small { IfOk result (λ v. AreSmall res.now.group ring.now.degree limit) }
     ensures refused { IfErr result (IsSubgroupRefusal res.now.group ring.now.degree limit) }
 {

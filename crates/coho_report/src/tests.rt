@@ -14,13 +14,15 @@ use std::test::Fail;
 
 const KLEIN: &str = "coho ring 1\nprime 2\norder 4\ndegree 2\nranks 1 2 3\n\
     generators 2\nx_1_1\nx_1_2\nrelations 0\n\
-    subgroups 1\nsubgroup 1 rank 2 basis 1 2\nx_1_1 -> x_1_1\nx_1_2 -> x_1_2\n";
+    subgroups 1\nsubgroup 1 rank 2 basis 1 2\nx_1_1 -> x_1_1\nx_1_2 -> x_1_2\n\
+    parameters 2\nx_1_1\nx_1_2\nbound 1\nverdict complete\n";
 
 const DIHEDRAL: &str = "coho ring 1\nprime 2\norder 8\ndegree 2\nranks 1 2 3\n\
     generators 3\nx_1_1\nx_1_2\nx_2_1\nrelations 1\nx_1_1*x_1_2\n\
     subgroups 2\n\
     subgroup 1 rank 2 basis 1 4\nx_1_1 -> x_1_1\nx_1_2 -> 0\nx_2_1 -> x_1_1*x_1_2+x_1_2^2\n\
-    subgroup 2 rank 2 basis 2 4\nx_1_1 -> 0\nx_1_2 -> x_1_1\nx_2_1 -> x_1_1*x_1_2+x_1_2^2\n";
+    subgroup 2 rank 2 basis 2 4\nx_1_1 -> 0\nx_1_2 -> x_1_1\nx_2_1 -> x_1_1*x_1_2+x_1_2^2\n\
+    parameters 2\nx_1_1+x_1_2\nx_2_1\nbound 2\nverdict complete\n";
 
 fn resolved(
     rt: &impl Abort,
@@ -53,6 +55,92 @@ fn reported(rt: &impl Abort, alloc: Global, kind: SmallGroup, degree: u32) -> Re
         GREATEST_DIMENSION,
     )?;
     Ok(report)
+}
+
+// A group, a degree, and the lines of the parameters, of their bound and of the verdict.
+const VERDICTS: [(SmallGroup, u32, &str); 13] = [
+    (
+        SmallGroup::Trivial,
+        1,
+        "parameters 0\nbound 1\nverdict complete\n",
+    ),
+    (
+        SmallGroup::Two,
+        3,
+        "parameters 1\nx_1_1\nbound 1\nverdict complete\n",
+    ),
+    (
+        SmallGroup::Four,
+        2,
+        "parameters 1\nx_2_1\nbound 2\nverdict complete\n",
+    ),
+    (
+        SmallGroup::Four,
+        1,
+        "parameters none\nbound none\nverdict not complete\n",
+    ),
+    (
+        SmallGroup::Klein,
+        4,
+        "parameters 2\nx_1_1\nx_1_2\nbound 1\nverdict complete\n",
+    ),
+    (
+        SmallGroup::Quaternion,
+        6,
+        "parameters 1\nx_4_1\nbound 6\nverdict complete\n",
+    ),
+    (
+        SmallGroup::Quaternion,
+        5,
+        "parameters 1\nx_4_1\nbound 6\nverdict not complete\n",
+    ),
+    (
+        SmallGroup::Dihedral,
+        4,
+        "parameters 2\nx_1_1+x_1_2\nx_2_1\nbound 2\nverdict complete\n",
+    ),
+    (
+        SmallGroup::Three,
+        2,
+        "parameters 1\nx_2_1\nbound 2\nverdict complete\n",
+    ),
+    (
+        SmallGroup::Three,
+        1,
+        "parameters none\nbound none\nverdict not complete\n",
+    ),
+    (
+        SmallGroup::Nine,
+        4,
+        "parameters 2\nx_2_1\nx_2_2\nbound 4\nverdict complete\n",
+    ),
+    (
+        SmallGroup::Nine,
+        3,
+        "parameters 2\nx_2_1\nx_2_2\nbound 4\nverdict not complete\n",
+    ),
+    (
+        SmallGroup::Sixteen,
+        6,
+        "parameters 3\nx_1_2\nx_1_3\nx_2_1\nbound 2\nverdict complete\n",
+    ),
+];
+
+#[test]
+fn gives_parameters_and_verdicts(rt: HostRuntime) -> Result<(), Fail> {
+    let alloc = rt.alloc();
+    for (kind, degree, lines) in VERDICTS {
+        assert!(rt; 1 <= degree && degree <= GREATEST_DEGREE);
+        let report = reported(&rt, alloc, kind, degree)?;
+        let text = String::from_utf8(write_report(alloc, &report)?)?;
+        assert!(rt; text.ends_with(lines), "{text}");
+        assert_eq!(rt;
+            report.complete(),
+            lines.ends_with("verdict complete\n"),
+            "{text}"
+        );
+    }
+    Ok(())
 }
 
 #[test]

@@ -26,3 +26,8 @@ returns-in-Value c = subst (λ named. Settles lines_of
     (sym c.in-Value.is)
     (subst (λ es. Settles lines_of (AnswerValue c.args.consistent.now c.in-Value.class es) c.answer_value.result)
     c.deref.ensures.value c.answer_value.ensures)
+
+pub returns-in-Sample : goal.returns-in-Sample
+returns-in-Sample c = subst (λ named. Settles lines_of
+    (Answer (asked named) c.args.consistent.now) c.answer_sample.result)
+    (sym c.in-Sample.is) c.answer_sample.ensures

@@ -7,6 +7,7 @@ use Rattle.ring_present.specs.Values.{generators_of}
 use Rattle.coho_report.specs.Limits.{HasSmallStages, IsSmall}
 use Rattle.coho_report.specs.OwnRings.{IsKnownRing}
 use Rattle.coho_report.specs.Refusals.{IsStageRefusal, IsSubgroupRefusal}
+use Rattle.coho_report.specs.Restrictors.{IsRestrictor, IsRestrictorOf}
 use Rattle.coho_report.specs.Subgroups.{IsToldOf}
 use Rattle.coho_report.specs.declared.own_rings.OwnRing.{OwnRing}
 use Rattle.coho_report.proofs.Related.{related-next}
@@ -15,6 +16,10 @@ use Rattle.coho_report.proofs.subgroups.told_of_each.Goals as goal
 
 pub shared_ring-requires-clause-subgroup : goal.shared_ring-requires-clause-subgroup
 shared_ring-requires-clause-subgroup c = listed_at c.args.res.now.group c.args.list.now c.loop-i.i
+    c.get-e.result.now c.requires.list c.get-e.ensures
+
+pub restrictor_of-requires-clause-subgroup : goal.restrictor_of-requires-clause-subgroup
+restrictor_of-requires-clause-subgroup c = listed_at c.args.res.now.group c.args.list.now c.loop-i.i
     c.get-e.result.now c.requires.list c.get-e.ensures
 
 pub told_of-requires-clause-subgroup : goal.told_of-requires-clause-subgroup
@@ -43,11 +48,20 @@ loop-i-preserved c =
     record {
       known = subst (λ n. All (λ (o : Rc OwnRing Global). IsKnownRing G n c.args.limit o.value)
           c.shared_ring.new.known.items) c.degree-n.ensures.value c.in-Ok.ensures.known;
-      told = related-next (IsToldOf G n gs) ss c.loop-i.i c.loop-i.reports.items c.push.new.self.items
+      told = related-next (IsToldOf G n gs) ss c.loop-i.i c.loop-i.reports.items c.push-in-Ok.new.self.items
           c.in_ok-told_of-in-Ok.field-0 c.loop-i.invariant.told below
           (λ (d : NumberedSubgroup). subst (λ s. IsToldOf G n gs s c.in_ok-told_of-in-Ok.field-0)
           (sym (get-at ss c.loop-i.i s d c.get-e.ensures)) c.in_ok-told_of-in-Ok.ensures)
-          c.in_ok-push-in-Ok.ensures.items;
+          c.in_ok-push-in-Ok-2.ensures.items;
+      restrictors = related-next (IsRestrictorOf G n) ss c.loop-i.i c.loop-i.restrictors.items
+          c.push.new.self.items c.in_ok-restrictor_of-in-Ok.field-0 c.loop-i.invariant.restrictors below
+          (λ (d : NumberedSubgroup). subst (λ s. IsRestrictorOf G n s c.in_ok-restrictor_of-in-Ok.field-0)
+          (sym (get-at ss c.loop-i.i s d c.get-e.ensures)) (record {
+            restrictor = subst (λ n. IsRestrictor G n
+                c.in_ok-restrictor_of-in-Ok.field-0) c.degree-n.ensures.value
+                c.in_ok-restrictor_of-in-Ok.ensures.restrictor;
+            basis_is = c.in_ok-restrictor_of-in-Ok.ensures.basis;
+          })) c.in_ok-push-in-Ok.ensures.items;
       small = in-next (IsSmall G n c.args.limit) ss c.loop-i.i s c.get-e.ensures c.loop-i.invariant.small
           (subst (λ n. HasSmallStages (elementary G (length s.basis)) n c.args.limit) c.degree-n.ensures.value
           c.in-Ok.ensures.small);

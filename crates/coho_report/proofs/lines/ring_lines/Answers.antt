@@ -2,9 +2,9 @@ use Rattle.std.proofs.Common.{◌≡◌, ◌∙◌, List, Vec, Global, ℕ, code
 use Rattle.gc_poly.specs.Generators.{Generators}
 use Rattle.coho_report.specs.Values.{ReportValue, SubgroupValue}
 use Rattle.coho_report.specs.Lines.{numbered, head_lines, generator_lines, relation_lines, all_subgroup_lines}
-use Rattle.coho_report.specs.Lines.{report_lines}
+use Rattle.coho_report.specs.Lines.{ring_lines}
 use Rattle.coho_report.proofs.LineLists.{three_parts}
-use Rattle.coho_report.proofs.lines.report_lines.Goals as goal
+use Rattle.coho_report.proofs.lines.ring_lines.Goals as goal
 
 abbrev bytes : Vec ℕ Global → List ℕ
 bytes line = line.items
@@ -15,7 +15,7 @@ returns c =
     let ds = map (λ g. g.degree) c.report.inside.ring.generators in
     let rs = c.report.inside.ring.relations in
     let ss : List SubgroupValue = c.report.inside.subgroups.items in
-    subst (λ (r : ReportValue). map bytes c.append-3.new.self.items ≡ report_lines r) same
+    subst (λ (r : ReportValue). map bytes c.append-3.new.self.items ≡ ring_lines r) same
     (three_parts bytes c.in_ok-lines.lines.items c.push.new.self.items c.append.new.self.items
     c.push-2.new.self.items c.append-2.new.self.items c.push-3.new.self.items c.append-3.new.self.items
     c.in_ok-generator_lines.field-0.items c.in_ok-relation_lines.field-0.items

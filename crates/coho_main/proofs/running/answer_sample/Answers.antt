@@ -1,0 +1,37 @@
+use Rattle.std.proofs.lemmas.Result.{err_from_is_err_and}
+use Rattle.coho_main.specs.Outcome.{AnswerSample}
+use Rattle.coho_main.proofs.Chain.{memory_settles}
+use Rattle.coho_main.proofs.Replies.{lines_of, sample_refused, sample_then, sample_too_many}
+use Rattle.coho_main.proofs.Ringing.{fit_of, report_of, report_stop}
+use Rattle.coho_main.proofs.running.answer_sample.Goals as goal
+
+pub returns-in_err-resolution : goal.returns-in_err-resolution
+returns-in_err-resolution c =
+    let p = err_from_is_err_and c.from_residual.result c.from_residual.ensures.1 in
+    rw (p.1, p.2) (sample_refused c.args.consistent.now c.args.k c.in_err-resolution.field-0.0
+    c.in_err-resolution.ensures.refused)
+
+pub returns-in_err-report : goal.returns-in_err-report
+returns-in_err-report c =
+    let p = err_from_is_err_and c.from_residual-in_err-report.result c.from_residual-in_err-report.ensures.1
+    in
+    let P = c.args.consistent.now in
+    let R = c.in_ok-resolution.ensures.found in
+    rw (p.1, p.2) (sample_too_many P c.args.k (fit_of P 4 c.in_ok-resolution.resolution R) _
+    (report_stop P 4 c.in_ok-resolution.resolution R c.in_err-report.field-0.0
+    c.in_err-report.ensures.refused))
+
+pub returns-in_err-sample_lines : goal.returns-in_err-sample_lines
+returns-in_err-sample_lines c =
+    let p = err_from_is_err_and c.from_residual-in_err-sample_lines.result
+    c.from_residual-in_err-sample_lines.ensures.1 in
+    rw p.1 (memory_settles lines_of (AnswerSample c.args.consistent.now c.args.k) p.0 p.2)
+
+pub returns : goal.returns
+returns c =
+    let P = c.args.consistent.now in
+    let R = c.in_ok-resolution.ensures.found in
+    sample_then P c.args.k (fit_of P 4 c.in_ok-resolution.resolution R) c.in_ok-report.report
+    c.in_ok-sample_lines.field-0
+    (report_of P 4 c.in_ok-resolution.resolution R c.in_ok-report.report c.in_ok-report.ensures.few
+    c.in_ok-report.ensures.small c.in_ok-report.ensures.report) c.in_ok-sample_lines.ensures
