@@ -7,7 +7,7 @@ use Rattle.std.specs.declared.option.Option.{Option}
 use Rattle.std.specs.declared.option.Option.TheVariants.{None, Some}
 use Rattle.std.specs.declared.result.Result.TheVariants.{Ok, Err}
 use Rattle.coho_io.specs.Content.{Content}
-use Rattle.group_table.specs.Tables.{GroupTable, order_is} 
+use Rattle.group_table.specs.Tables.{GroupTable, order_is}
 use Rattle.group_table.specs.Tables as table
 use Rattle.min_res.specs.Values.{ResolutionValue}
 use Rattle.p_groups.specs.PGroups.{order_of}

@@ -17,9 +17,9 @@ mod operands;
 mod products;
 mod reading;
 mod running;
-mod samples;
 #[cfg(test)]
 mod sample_tests;
+mod samples;
 mod stages;
 mod status;
 mod stop;

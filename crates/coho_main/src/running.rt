@@ -13,9 +13,9 @@ ghost use Rattle.coho_main.specs.Stops.{Meets, Settles, HasReadCause, OnlyReads}
 ghost use Rattle.coho_main.specs.Run.{OfFiles, IsSettled, MayWrite, Tells, EndsAs, AnswersFront, WantsMemory, NoReadFault, Stays};
 
 use crate::{
-    Command, Status, Stop, accept, basis_value, fit_elements, group_lines, load, radical_dimensions,
-    read_words, report, resolution_of, sample_lines, sample_presentation, stage_lines, value_lines,
-    write_lines,
+    Command, Status, Stop, accept, basis_value, fit_elements, group_lines, load,
+    radical_dimensions, read_words, report, resolution_of, sample_lines, sample_presentation,
+    stage_lines, value_lines, write_lines,
 };
 use coho_io::{Files, Sink};
 use coho_report::{compose, report_lines};
@@ -75,12 +75,21 @@ fn answer_value<'a>(
 }
 
 // The lines of the answer to `sample`.
-fn answer_sample<'a>(alloc: Global, consistent: &Consistent, k: u32) -> Result<Vec<Vec<u8>>, Stop<'a>>
+fn answer_sample<'a>(
+    alloc: Global,
+    consistent: &Consistent,
+    k: u32,
+) -> Result<Vec<Vec<u8>>, Stop<'a>>
     ensures { Settles (λ lines. contents lines.items) (AnswerSample consistent.now k) result }
 {
     let resolution = resolution_of(alloc, consistent, SAMPLE_DEGREE)?;
-    let report =
-        compose(alloc, &resolution, SAMPLE_DEGREE, MOST_MONOMIALS, GREATEST_DIMENSION)?;
+    let report = compose(
+        alloc,
+        &resolution,
+        SAMPLE_DEGREE,
+        MOST_MONOMIALS,
+        GREATEST_DIMENSION,
+    )?;
     Ok(sample_lines(alloc, k, &report)?)
 }
 
@@ -97,9 +106,7 @@ fn answer_on<'a>(
         Command::Group(_) => answer_group(alloc, consistent),
         Command::Resolve(_, n) => answer_resolve(alloc, consistent, n),
         Command::Ring(_, n) => answer_ring(alloc, consistent, n),
-        Command::Value(_, class, elements) => {
-            answer_value(alloc, consistent, class, &elements)
-        }
+        Command::Value(_, class, elements) => { answer_value(alloc, consistent, class, &elements) }
         Command::Sample(k) => answer_sample(alloc, consistent, k),
     }
 }

@@ -6,8 +6,8 @@ ghost use Rattle.coho_main.specs.Outcome.{Ask};
 ghost use Rattle.coho_main.specs.Stops.{IsWordsStop, Settles};
 
 use crate::{
-    Cause, GREATEST_SAMPLE, Stop, all_plain, one_operand, place_operands, read_degree, read_place, read_sample,
-    two_operands,
+    Cause, GREATEST_SAMPLE, Stop, all_plain, one_operand, place_operands, read_degree, read_place,
+    read_sample, two_operands,
 };
 use limits::GREATEST_DEGREE;
 use std::alloc::Global;
@@ -97,7 +97,9 @@ pub fn read_words<'a>(alloc: Global, words: &'a [String]) -> Result<Command<'a>,
             let (path, class, elements) = file_and_place(alloc, words)?;
             Ok(Command::Value(path, class, elements))
         }
-        [name, ..] if name.as_str() == "sample" => Ok(Command::Sample(sample_number(alloc, words)?)),
+        [name, ..] if name.as_str() == "sample" => Ok(Command::Sample(sample_number(
+            alloc, words,
+        )?)),
         _ => Err(Stop::Refused(Cause::Words)),
     }
 }
