@@ -15,6 +15,7 @@ use Rattle.std.specs.declared.result.Result.TheVariants.{Ok, Err}
 use Rattle.limits.specs.declared.TheConstants.{GREATEST_DEGREE}
 use Rattle.clap.specs.declared.error.kind.ErrorKind.{ErrorKind}
 use Rattle.clap.specs.declared.error.kind.ErrorKind.TheVariants as kind
+use Rattle.coho_main.specs.declared.numbers.TheConstants.{GREATEST_NUMBER, MOST_ELEMENTS}
 use Rattle.coho_main.specs.declared.samples.TheConstants.{GREATEST_SAMPLE}
 use Rattle.coho_main.specs.declared.cause.Cause.TheVariants as cause
 use Rattle.coho_main.specs.declared.stop.Stop.{Stop}
@@ -24,9 +25,9 @@ use Rattle.coho_main.specs.Steps.{OrRefuse}
 use Rattle.coho_main.specs.Stops.{IsWordsStop, Settles, parse_stop}
 use Rattle.coho_main.specs.Refusals.{words_refused}
 use Rattle.coho_main.specs.Outcome.{Ask}
-use Rattle.coho_main.specs.Words.{Command, Group, Resolve, Ring, Sample, asked, command, file_and_degree}
-use Rattle.coho_main.specs.Words.{is_path}
-use Rattle.coho_main.specs.Words.{one_operand, sample_number, texts, two_operands, with_degree}
+use Rattle.coho_main.specs.Words.{Command, Group, Resolve, Ring, Value, Sample, asked, command, elements_of}
+use Rattle.coho_main.specs.Words.{file_and_degree, file_and_place, is_path, numbers, place, one_operand}
+use Rattle.coho_main.specs.Words.{sample_number, texts, two_operands, with_degree}
 
 abbrev Text : Type 0
 Text = List ℕ
@@ -74,6 +75,25 @@ ring_at (a ∷ []) h = refl
 ring_at (a ∷ b ∷ []) h = rw (both (is_path a) _ h).0 (same_degree Ring a (numeral 1 GREATEST_DEGREE b))
 ring_at (a ∷ b ∷ c ∷ rest) h = refl
 
+-- what `value` asks for
+abbrev pub placed : Text → ℕ × List ℕ → Command
+placed path p = Value path p.0 p.1
+
+abbrev pub of_place : Option (Text × ℕ × List ℕ) → Option Command
+of_place o = option_map (λ p. Value p.0 p.1 p.2) o
+
+same_place : (a : Text) (o : Option (ℕ × List ℕ))
+    → option_map (placed a) o ≡ of_place (option_map (λ p. (a, p.0, p.1)) o)
+same_place a None = refl
+same_place a (Some p) = refl
+
+value_at : (rest : List Text) → list_all is_path rest ≡ true
+    → command (codes "value" ∷ rest) ≡ of_place (file_and_place (codes "value" ∷ rest))
+value_at [] h = refl
+value_at (a ∷ []) h = refl
+value_at (a ∷ b ∷ []) h = refl
+value_at (a ∷ b ∷ c ∷ rest) h = rw (both (is_path a) _ h).0 (same_place a (place b c rest))
+
 sample_at : (rest : List Text) → list_all is_path rest ≡ true
     → command (codes "sample" ∷ rest) ≡ option_map Sample (sample_number (codes "sample" ∷ rest))
 sample_at [] h = refl
@@ -105,6 +125,14 @@ ring_is name rest h e =
     → command (n ∷ rest) ≡ of_degree Ring (file_and_degree (n ∷ rest)))
     (sym (is_name name (codes "ring") e)) (ring_at rest) h
 
+pub value_is : (name : Text) (rest : List Text) → list_all is_path (name ∷ rest) ≡ true
+    → bytes_eq name (codes "value") ≡ true
+    → command (name ∷ rest) ≡ of_place (file_and_place (name ∷ rest))
+value_is name rest h e =
+    subst (λ n. list_all is_path (n ∷ rest) ≡ true
+    → command (n ∷ rest) ≡ of_place (file_and_place (n ∷ rest)))
+    (sym (is_name name (codes "value") e)) (value_at rest) h
+
 pub sample_is : (name : Text) (rest : List Text) → list_all is_path (name ∷ rest) ≡ true
     → bytes_eq name (codes "sample") ≡ true
     → command (name ∷ rest) ≡ option_map Sample (sample_number (name ∷ rest))
@@ -117,11 +145,12 @@ sample_is name rest h e =
 
 pub other_is : (name : Text) (rest : List Text) → bytes_eq name (codes "group") ≡ false
     → bytes_eq name (codes "resolve") ≡ false → bytes_eq name (codes "ring") ≡ false
-    → bytes_eq name (codes "sample") ≡ false → command (name ∷ rest) ≡ None
-other_is name [] g r s p = refl
-other_is name (a ∷ []) g r s p = rw (g, p) refl
-other_is name (a ∷ b ∷ []) g r s p = rw (r, s) refl
-other_is name (a ∷ b ∷ c ∷ rest) g r s p = refl
+    → bytes_eq name (codes "value") ≡ false → bytes_eq name (codes "sample") ≡ false
+    → command (name ∷ rest) ≡ None
+other_is name [] g r s v p = refl
+other_is name (a ∷ []) g r s v p = rw (g, p) refl
+other_is name (a ∷ b ∷ []) g r s v p = rw (r, s) refl
+other_is name (a ∷ b ∷ c ∷ rest) g r s v p = rw v refl
 
 dash_first : (low high : ℕ) (word : Text) → is_path word ≡ false → numeral low high word ≡ None
 dash_first low high [] h = refl
@@ -160,24 +189,75 @@ ends b h = go (is_path b) h
     go true e = e
     go false e = refl
 
+split : (a b : Bool) → (a && b) ≡ false → (a ≡ false) ⊎ ((a ≡ true) × (b ≡ false))
+split true b e = inr (refl, e)
+split false b e = inl refl
+
+none_after : {A B : Type 0} (f : A → Option B) (o : Option A) → ((x : A) → f x ≡ None)
+    → option_and_then f o ≡ None
+none_after f None h = refl
+none_after f (Some x) h = h x
+
+numbers_dashed : (words : List Text) → list_all is_path words ≡ false → numbers words ≡ None
+numbers_dashed [] h = absurd (true≢false h)
+numbers_dashed (word ∷ words) h =
+    go (split (is_path word) (list_all is_path words) h) (λ e. numbers_dashed words e)
+  where
+    go : (is_path word ≡ false) ⊎ ((is_path word ≡ true) × (list_all is_path words ≡ false))
+        → (list_all is_path words ≡ false → numbers words ≡ None) → numbers (word ∷ words) ≡ None
+    go (inl e) rest = ap (option_and_then (λ n. option_map (λ ns. n ∷ ns) (numbers words)))
+        (dash_first 0 GREATEST_NUMBER word e)
+    go (inr e) rest = none_after _ (numeral 0 GREATEST_NUMBER word)
+        (λ n. ap (option_map (λ ns. n ∷ ns)) (rest e.1))
+
+place_dashed : (b c : Text) (rest : List Text) → list_all is_path (b ∷ c ∷ rest) ≡ false
+    → place b c rest ≡ None
+place_dashed b c rest h = go (split (is_path b) (list_all is_path (c ∷ rest)) h)
+  where
+    of_class : ℕ → ℕ → Option (ℕ × List ℕ)
+    of_class d k = option_map (λ es. (k, es)) (elements_of d rest)
+
+    of_number : ℕ → Option (ℕ × List ℕ)
+    of_number d = option_and_then (of_class d) (numeral 1 GREATEST_NUMBER c)
+
+    no_elements : list_all is_path rest ≡ false → (d k : ℕ) → of_class d k ≡ None
+    no_elements e d k = ap (λ o. option_map (λ es. (k, es))
+        (option_and_then (λ es. cond (length es == d) (Some es) None) o)) (numbers_dashed rest e)
+
+    no_number : (is_path c ≡ false) ⊎ ((is_path c ≡ true) × (list_all is_path rest ≡ false)) → (d : ℕ)
+        → of_number d ≡ None
+    no_number (inl e) d = ap (option_and_then (of_class d)) (dash_first 1 GREATEST_NUMBER c e)
+    no_number (inr e) d = none_after (of_class d) (numeral 1 GREATEST_NUMBER c) (no_elements e.1 d)
+
+    go : (is_path b ≡ false) ⊎ ((is_path b ≡ true) × (list_all is_path (c ∷ rest) ≡ false))
+        → place b c rest ≡ None
+    go (inl e) = ap (option_and_then of_number) (dash_first 1 MOST_ELEMENTS b e)
+    go (inr e) = none_after of_number (numeral 1 MOST_ELEMENTS b)
+        (no_number (split (is_path c) (list_all is_path rest) e.1))
+
 pub dashed_is : (words : List Text) → list_all is_path words ≡ false → command words ≡ None
 dashed_is [] h = refl
 dashed_is (name ∷ []) h = refl
 dashed_is (name ∷ a ∷ []) h =
-    let dashed = λ (known : Text) (k : is_path known ≡ true) (e : bytes_eq name known ≡ true). after_name name known (a ∷ []) h k e in
+    let dashed = λ (known : Text) (k : is_path known ≡ true) (e : bytes_eq name known ≡ true).
+    after_name name known (a ∷ []) h k e in
     unless (bytes_eq name (codes "group")) (is_path a) (Some (Group a)) _
     (λ e p. absurd (true≢false (after_file a [] (dashed (codes "group") refl e) p)))
     (unless_named (bytes_eq name (codes "sample")) (option_map Sample (numeral 0 GREATEST_SAMPLE a)) None
     (λ e. ap (option_map Sample) (dash_first 0 GREATEST_SAMPLE a (ends a (dashed (codes "sample") refl e)))) refl)
 dashed_is (name ∷ a ∷ b ∷ []) h =
-    let no_degree = λ (known : Text) (k : is_path known ≡ true) (e : bytes_eq name known ≡ true) (p : is_path a ≡ true). dash_first 1 GREATEST_DEGREE b (ends b (after_file a (b ∷ []) (after_name name known (a ∷ b ∷ []) h k e) p)) in
+    let no_degree = λ (known : Text) (k : is_path known ≡ true) (e : bytes_eq name known ≡ true)
+    (p : is_path a ≡ true). dash_first 1 GREATEST_DEGREE b (ends b (after_file a (b ∷ []) (after_name name known (a ∷ b ∷ []) h k e) p)) in
     unless (bytes_eq name (codes "resolve")) (is_path a)
     (option_map (Resolve a) (numeral 1 GREATEST_DEGREE b)) _
     (λ e p. ap (option_map (Resolve a)) (no_degree (codes "resolve") refl e p))
     (unless (bytes_eq name (codes "ring")) (is_path a)
     (option_map (Ring a) (numeral 1 GREATEST_DEGREE b)) None
     (λ e p. ap (option_map (Ring a)) (no_degree (codes "ring") refl e p)) refl)
-dashed_is (name ∷ a ∷ b ∷ c ∷ rest) h = refl
+dashed_is (name ∷ a ∷ b ∷ c ∷ rest) h =
+    unless (bytes_eq name (codes "value")) (is_path a) (option_map (placed a) (place b c rest)) None
+    (λ e p. ap (option_map (placed a)) (place_dashed b c rest
+    (after_file a (b ∷ c ∷ rest) (after_name name (codes "value") (a ∷ b ∷ c ∷ rest) h refl e) p))) refl
 
 -- ---- so the words are read as their command says
 
@@ -285,6 +365,10 @@ module _ (words rest : List Text) (plain : list_all is_path words ≡ true) (nam
   at_ring e = subst (λ ws. command ws ≡ of_degree Ring (file_and_degree ws)) (sym first)
       (ring_is name rest (subst (λ ws. list_all is_path ws ≡ true) first plain) e)
 
+  pub at_value : bytes_eq name (codes "value") ≡ true → command words ≡ of_place (file_and_place words)
+  at_value e = subst (λ ws. command ws ≡ of_place (file_and_place ws)) (sym first)
+      (value_is name rest (subst (λ ws. list_all is_path ws ≡ true) first plain) e)
+
   pub at_sample : bytes_eq name (codes "sample") ≡ true
       → command words ≡ option_map Sample (sample_number words)
   at_sample e = subst (λ ws. command ws ≡ option_map Sample (sample_number ws)) (sym first)
@@ -294,16 +378,18 @@ same_name : (words rest : List Text) (a b : Text) → words ≡ a ∷ rest → w
 same_name words rest a b h k = cc
 
 -- words whose name, as it is read for each command, is that of none
-pub unnamed : (words : List Text) (a b c d : Text) → words ≡ a ∷ drop 1 words → words ≡ b ∷ drop 1 words
-    → words ≡ c ∷ drop 1 words → words ≡ d ∷ drop 1 words → bytes_eq a (codes "group") ≡ false
-    → bytes_eq b (codes "resolve") ≡ false → bytes_eq c (codes "ring") ≡ false
-    → bytes_eq d (codes "sample") ≡ false → command words ≡ None
-unnamed words a b c d h i j k g r s p =
+pub unnamed : (words : List Text) (a b c d e : Text) → words ≡ a ∷ drop 1 words → words ≡ b ∷ drop 1 words
+    → words ≡ c ∷ drop 1 words → words ≡ d ∷ drop 1 words → words ≡ e ∷ drop 1 words
+    → bytes_eq a (codes "group") ≡ false → bytes_eq b (codes "resolve") ≡ false
+    → bytes_eq c (codes "ring") ≡ false → bytes_eq d (codes "value") ≡ false
+    → bytes_eq e (codes "sample") ≡ false → command words ≡ None
+unnamed words a b c d e h i j k l g r s v p =
     let rest = drop 1 words in
-    ap command k ∙ other_is d rest
-    (subst (λ n. bytes_eq n (codes "group") ≡ false) (same_name words rest a d h k) g)
-    (subst (λ n. bytes_eq n (codes "resolve") ≡ false) (same_name words rest b d i k) r)
-    (subst (λ n. bytes_eq n (codes "ring") ≡ false) (same_name words rest c d j k) s) p
+    ap command l ∙ other_is e rest
+    (subst (λ n. bytes_eq n (codes "group") ≡ false) (same_name words rest a e h l) g)
+    (subst (λ n. bytes_eq n (codes "resolve") ≡ false) (same_name words rest b e i l) r)
+    (subst (λ n. bytes_eq n (codes "ring") ≡ false) (same_name words rest c e j l) s)
+    (subst (λ n. bytes_eq n (codes "value") ≡ false) (same_name words rest d e k l) v) p
 
 pub no_words : (words : List (String Global)) → length words < 1 → command (texts words) ≡ None
 no_words [] h = refl

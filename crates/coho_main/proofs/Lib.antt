@@ -11,6 +11,8 @@ pub mod StageRows
 pub mod OneResolution
 pub mod Ringing
 pub mod ParsedWords
+pub mod ParsedPlaces
+pub mod Places
 pub mod Commands
 pub mod Run
 pub mod TableExists
@@ -20,3 +22,6 @@ pub mod SampleGroups
 pub mod StagesExist
 pub mod Outcomes
 pub mod RingAnswers
+pub mod OneValue
+pub mod Evaluated
+pub mod ClassAnswers

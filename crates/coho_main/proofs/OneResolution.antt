@@ -53,7 +53,7 @@ module _ (G : PGroup) (n : ℕ) where
     | inr one ↦ inr (refused one)
   ]
 
-pub stages_decided : (n : ℕ) → IsDecided (λ G (stages : List Summary). AreStagesTo G n stages)
+pub stages_decided : (n : ℕ) → IsDecided ⊥ (λ G (stages : List Summary). AreStagesTo G n stages)
     (λ G refusal. IsStageRefusal G n refusal)
 stages_decided n = record {
   one_value = λ G xs ys a b. a.are ∙ sym b.are;
@@ -63,7 +63,8 @@ stages_decided n = record {
   keeps = λ G q a e. let is = a.3 in let no = sym (ap (λ (q : Refusal). q.status) is) ∙ e in cc;
 }
 
-pub fit_decided : (n : ℕ) → IsDecided (λ G (x : Unit {0}). Fit G n) (λ G refusal. IsStageRefusal G n refusal)
+pub fit_decided : (n : ℕ)
+    → IsDecided ⊥ (λ G (x : Unit {0}). Fit G n) (λ G refusal. IsStageRefusal G n refusal)
 fit_decided n = record {
   one_value = λ G x y a b. refl;
   one_refusal = λ G q r a b. one_refused G n q r a b;

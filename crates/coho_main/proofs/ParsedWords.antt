@@ -26,7 +26,7 @@ use Rattle.clap.specs.declared.error.Error.{Error}
 use Rattle.clap.specs.Values.{kind_of}
 use Rattle.coho_main.specs.Words.{is_path, one_operand, two_operands}
 
-both : (a b : Bool) → (a && b) ≡ true → (a ≡ true) × (b ≡ true)
+pub both : (a b : Bool) → (a && b) ≡ true → (a ≡ true) × (b ≡ true)
 both true b e = (refl, e)
 both false b e = absurd (true≢false (sym e))
 
@@ -36,30 +36,30 @@ negated false e = refl
 
 -- ---- such a word is no flag
 
-no_long : (word : Text) → is_path word ≡ true → long_of word ≡ None
+pub no_long : (word : Text) → is_path word ≡ true → long_of word ≡ None
 no_long [] h = absurd (true≢false (sym h))
 no_long (b ∷ bs) h = rw (negated (b == 45) h) refl
 
-no_short : (word : Text) → is_path word ≡ true → short_of word ≡ None
+pub no_short : (word : Text) → is_path word ≡ true → short_of word ≡ None
 no_short [] h = absurd (true≢false (sym h))
 no_short (b ∷ bs) h = rw (negated (b == 45) h) refl
 
-no_dashes : (word : Text) → is_path word ≡ true → bytes_eq word (45 ∷ 45 ∷ []) ≡ false
+pub no_dashes : (word : Text) → is_path word ≡ true → bytes_eq word (45 ∷ 45 ∷ []) ≡ false
 no_dashes [] h = absurd (true≢false (sym h))
 no_dashes (b ∷ bs) h = rw (negated (b == 45) h) refl
 
 -- ---- so it goes to a positional
 
-abbrev at : Held → ℕ → Walk
+abbrev pub at : Held → ℕ → Walk
 at h place = record { held = h; waiting = idle; position = place; is_trailing = false; stopped = None }
 
 module _ (word : Text) (plain : is_path word ≡ true) where
-  walked_is : (c : List Rule) (h : Held) (place : ℕ)
+  pub walked_is : (c : List Rule) (h : Held) (place : ℕ)
       → walked c [] (at h place) word ≡ to_positional c (arg_by_index c place) word (at h place) h
   unfolding walked
   walked_is c h place = rw (no_dashes word plain, no_long word plain, no_short word plain) refl
 
-  turn_is : (s : Shape) (h : Held) (place : ℕ)
+  pub turn_is : (s : Shape) (h : Held) (place : ℕ)
       → turn_fault s [] (at h place) word ≡ step_fault s place h value
   turn_is s h place = rw (no_dashes word plain, no_long word plain, no_short word plain) refl
 
@@ -77,7 +77,7 @@ one = with_rule none (positional (codes "file"))
 abbrev pub two : App
 two = with_rule one (positional (codes "degree"))
 
-abbrev first_held : Text → Held
+abbrev pub first_held : Text → Held
 first_held a = record { rows = []; pending = Some (codes "file", a ∷ []); skip = 0 }
 
 first_walk : (a : Text) → is_path a ≡ true
@@ -106,7 +106,7 @@ two_first : (a : Text) → is_path a ≡ true
     → walked (built two).top.rules [] (at nothing_held 1) a ≡ at (first_held a) 2
 two_first a plain = walked_is a plain (built two).top.rules nothing_held 1
 
-abbrev second_held : Text → Text → Held
+abbrev pub second_held : Text → Text → Held
 second_held a b = (to_positional (built two).top.rules (arg_by_index (built two).top.rules 2) b
     (at (first_held a) 2) (first_held a)).held
 
@@ -150,7 +150,7 @@ two_more name a b c rest plain other more =
 
 -- ---- so the words after the name are those that the parse gives, where it gives any
 
-wanting : (k : ErrorKind) → ◌≡◌ {A = Kinds} (k ∷ []) [] → ⊥
+pub wanting : (k : ErrorKind) → ◌≡◌ {A = Kinds} (k ∷ []) [] → ⊥
 wanting k e = absurd (cc)
 
 pub one_is : (words : List Text) → list_all is_path words ≡ true → fault_of one words ≡ [] → (path : Text)
@@ -213,7 +213,7 @@ module _ (fresh disabled command : Command) (new : app_of fresh ≡ new_app (cod
       → app_of longer ≡ with_rule (app_of command) (rule_of degree) → app_of longer ≡ two
   two_built longer degree is_degree more = more ∙ ap₂ with_rule one_built is_degree
 
-first_in : (m : ArgMatches) (id : Text) (rows : List Row) (word : Text) → rows_of (found_of m) ≡ rows
+pub first_in : (m : ArgMatches) (id : Text) (rows : List Row) (word : Text) → rows_of (found_of m) ≡ rows
     → first_of id rows ≡ Some word → first_value (found_of m) id ≡ Some word
 first_in m id rows word is first = first_value-rows (found_of m) id ∙ ap (first_of id) is ∙ first
 

@@ -1,5 +1,7 @@
 -- The answers to commands, as the calls make them.
-use Rattle.std.proofs.Common.{◌≡◌, List, ℕ, Vec, Global, refl, ap, sym, subst, inl, inr}
+use Rattle.std.proofs.Common.{◌≡◌, ◌∙◌, List, [], ◌∷◌, codes, length, ℕ, Vec, Global, refl, ap, sym, subst}
+use Rattle.std.proofs.Common.{inl}
+use Rattle.std.proofs.Common.{inr}
 use Rattle.std.specs.List.{Contains}
 use Rattle.std.specs.declared.option.Option.{Option}
 use Rattle.std.specs.declared.option.Option.TheVariants.{None, Some}
@@ -13,18 +15,21 @@ use Rattle.power_commutator.specs.Presentations.{Presentation}
 use Rattle.coho_main.specs.declared.stop.Stop.{Stop}
 use Rattle.coho_main.specs.declared.words.Command.{Command as Named}
 use Rattle.coho_main.specs.Groups.{ForGroupOf}
-use Rattle.coho_main.specs.Outcome.{Ask, Load, Given, Report, Answer, AnswerGroup, AnswerResolve, AnswerRing}
-use Rattle.coho_main.specs.Outcome.{AnswerSample}
-use Rattle.coho_main.specs.Outcome.{Reply, Comes, group_lines, stage_lines}
+use Rattle.coho_main.specs.Outcome.{Ask, Load, Given, Report, FitStages, FitElements, FitClass, Evaluate}
+use Rattle.coho_main.specs.Outcome.{Answer}
+use Rattle.coho_main.specs.Outcome.{AnswerGroup, AnswerResolve, AnswerRing, AnswerValue, AnswerSample}
+use Rattle.coho_main.specs.Outcome.{Reply, Comes, group_lines, line, stage_lines}
+use Rattle.coho_main.specs.Evaluating.{HasClass, IsClassRefusal, IsValue}
 use Rattle.coho_main.specs.Ringing.{IsReportTo, IsReportRefusal}
 use Rattle.coho_main.specs.Run.{OfFiles}
 use Rattle.coho_main.specs.Stages.{Summary, AreStagesTo, Fit, IsStageRefusal}
 use Rattle.coho_main.specs.Steps.{Refusal, Step, ◌>>=◌, Gives}
 use Rattle.coho_main.specs.Stops.{IsRefused, Meets, Settles}
 use Rattle.coho_main.specs.Samples.{sample_lines}
-use Rattle.coho_main.specs.Words.{Command, Group, Resolve, Ring, Sample, IsRead, asked, command, contents}
-use Rattle.coho_main.specs.Words.{path_of, read_paths}
-use Rattle.coho_main.proofs.Chain.{after_ok, at_stop, refused_settles, settled_meets}
+use Rattle.coho_main.specs.Words.{Command, Group, Resolve, Ring, Value, Sample, IsRead, asked, command}
+use Rattle.coho_main.specs.Words.{contents, path_of, read_paths}
+use Rattle.coho_main.proofs.Chain.{after_ok, at_stop, refused_settles, settled_after_ok, settled_at_stop}
+use Rattle.coho_main.proofs.Chain.{settled_meets}
 use Rattle.coho_main.proofs.Seen.{some_files}
 
 abbrev pub Lines : Type 0
@@ -47,6 +52,19 @@ report_answer report = Gives (report_lines report)
 
 abbrev pub after_fit : Presentation → ℕ → Unit {0} → Step (List (List ℕ))
 after_fit P n _ = Report P n >>= report_answer
+
+abbrev pub value_answer : ℕ → Step (List (List ℕ))
+value_answer v = Gives (line (codes "value ") v ∷ [])
+
+module _ (P : Presentation) (k : ℕ) (es : List ℕ) where
+  abbrev pub after_class : Unit {0} → Step (List (List ℕ))
+  after_class _ = Evaluate P k es >>= value_answer
+
+  abbrev pub after_stages : Unit {0} → Step (List (List ℕ))
+  after_stages _ = FitClass P (length es) k >>= after_class
+
+  abbrev pub after_elements : Unit {0} → Step (List (List ℕ))
+  after_elements _ = FitStages P (length es) >>= after_stages
 
 abbrev pub sample_answer : ℕ → ReportValue → Step (List (List ℕ))
 sample_answer k report = Gives (sample_lines k report)
@@ -96,6 +114,49 @@ module _ (P : Presentation) (n : ℕ) where
       (fit, refl),
       inl (report, files, (is, refl), (ap (λ ls. Ok ls) e, refl)),
     )
+
+module _ (P : Presentation) (k : ℕ) (es : List ℕ) where
+  abbrev unit : Unit {0} → Unit {0}
+  unit _ = tt
+
+  pub element_stop : (s : Stop) → Settles unit (FitElements P es) (Err s)
+      → Settles lines_of (AnswerValue P k es) (Err s)
+  element_stop s h = settled_at_stop unit lines_of (FitElements P es) (after_elements P k es) s h
+
+  module _ (elements : Settles unit (FitElements P es) (Ok tt)) where
+    then_stages : (r : Result Lines Stop) → Settles lines_of (after_elements P k es tt) r
+        → Settles lines_of (AnswerValue P k es) r
+    then_stages r h = settled_after_ok unit lines_of (FitElements P es) (after_elements P k es) tt r elements h
+
+    pub stage_stop : (s : Stop)
+        → IsRefused (λ refusal. ForGroupOf P (λ G. IsStageRefusal G (length es) refusal)) s
+        → Settles lines_of (AnswerValue P k es) (Err s)
+    stage_stop s h =
+        then_stages (Err s)
+        (refused_settles lines_of (after_elements P k es tt)
+        (λ refusal. ForGroupOf P (λ G. IsStageRefusal G (length es) refusal)) s h
+        (λ r q files. inr (r, (q, refl), refl)))
+
+    module _ (fit : ForGroupOf P (λ G. Fit G (length es))) where
+      pub class_stop : (s : Stop)
+          → IsRefused (λ refusal. ForGroupOf P (λ G. IsClassRefusal G (length es) k refusal)) s
+          → Settles lines_of (AnswerValue P k es) (Err s)
+      class_stop s h =
+          then_stages (Err s)
+          (refused_settles lines_of (after_elements P k es tt)
+          (λ refusal. ForGroupOf P (λ G. IsClassRefusal G (length es) k refusal)) s h
+          (λ r q files. inl (tt, files, (fit, refl), inr (r, (q, refl), refl))))
+
+      pub value_then : (v : ℕ) (lines : Lines) → ForGroupOf P (λ G. HasClass G (length es) k)
+          → ForGroupOf P (λ G. IsValue G k es v) → contents lines.items ≡ line (codes "value ") v ∷ []
+          → Settles lines_of (AnswerValue P k es) (Ok lines)
+      value_then v lines has is e =
+          then_stages (Ok lines) (λ files. inl (
+            tt,
+            files,
+            (fit, refl),
+            inl (tt, files, (has, refl), inl (v, files, (is, refl), (ap (λ ls. Ok ls) e, refl))),
+          ))
 
 module _ (P : Presentation) (k : ℕ) where
   pub sample_refused : (s : Stop) → IsRefused (StageRefusal P 4) s
@@ -166,6 +227,8 @@ module _ (known : Option Content) where
   given_load (Resolve p n) path r e h = subst (λ p. MeetsOf itself (Load p) known r)
       (sym (same_path p path e)) h
   given_load (Ring p n) path r e h = subst (λ p. MeetsOf itself (Load p) known r) (sym (same_path p path e)) h
+  given_load (Value p k es) path r e h = subst (λ p. MeetsOf itself (Load p) known r)
+      (sym (same_path p path e)) h
   given_load (Sample k) path r e h = absurd (let no : ◌≡◌ {A = Option (List ℕ)} None (Some path) = e in cc)
 
   -- a call that reads no file met its step

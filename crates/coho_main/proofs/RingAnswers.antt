@@ -29,7 +29,8 @@ use Rattle.coho_main.proofs.Run.{Reported}
 abbrev Answers : Type 0
 Answers = List (List ℕ)
 
-some_is : {A : Type 0} (o : Option A) (x y : A) (old new : Content) → OrRefuse words_refused o old (Ok y) new
+pub some_is : {A : Type 0} (o : Option A) (x y : A) (old new : Content)
+    → OrRefuse words_refused o old (Ok y) new
     → o ≡ Some x → (y ≡ x) × (new ≡ old)
 some_is None x y old new h e = absurd (let no = e in cc)
 some_is (Some z) x y old new h e = ((let first = h.0 in let second = e in cc), h.1)
@@ -91,6 +92,8 @@ cause_not_answered (cause.Inconsistent name) e = cc
 cause_not_answered (cause.Stage d X) e = cc
 cause_not_answered (cause.SubgroupStage i d X) e = cc
 cause_not_answered (cause.Monomials d X) e = cc
+cause_not_answered (cause.Element E n) e = cc
+cause_not_answered (cause.Class d b) e = cc
 
 not_answered : (s : Stop) → (told s).status ≢ status.Answered
 not_answered (stop.Refused why) e = cause_not_answered why e

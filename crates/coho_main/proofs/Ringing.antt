@@ -86,7 +86,7 @@ module _ (G : PGroup) (n : ℕ) where
   not_words q (inl a) e = let no = sym (ap (λ (q : Refusal). q.status) a.3) ∙ e in cc
   not_words q (inr a) e = let no = sym (ap (λ (q : Refusal). q.status) a.1.4) ∙ e in cc
 
-pub report_decided : (n : ℕ) → IsDecided (λ G (report : ReportValue). IsReportTo G n report)
+pub report_decided : (n : ℕ) → IsDecided ⊥ (λ G (report : ReportValue). IsReportTo G n report)
     (λ G refusal. IsReportRefusal G n refusal)
 report_decided n = record {
   one_value = λ G r s a b. one_report G n r s a.is b.is;

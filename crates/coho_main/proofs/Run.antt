@@ -22,7 +22,7 @@ use Rattle.coho_main.specs.Steps.{Refusal}
 use Rattle.coho_main.specs.Stops.{refusal_of, told, Meets, HasReadCause, IsWriteStop}
 use Rattle.coho_main.specs.Run.{Agrees, Answers, OfFiles, IsSettled, Leaves, Tells, EndsAs, AnswersFront}
 use Rattle.coho_main.specs.Run.{MayTell, Stays, ToldFront, WantsMemory, NoReadFault}
-use Rattle.coho_main.specs.Words.{Command, IsRead, command}
+use Rattle.coho_main.specs.Words.{AskForValue, Command, IsRead, command}
 use Rattle.coho_main.proofs.Replies.{Lines, lines_of, MeetsOf}
 use Rattle.coho_main.proofs.Outcomes.{none_comes, outcome_unique, usage_is}
 
@@ -124,6 +124,8 @@ module _ (answer : Status) (err err_now : Option (List ℕ)) (n m : ℕ) where
     not_read (cause.Inconsistent name) e = cc
     not_read (cause.Stage d X) e = cc
     not_read (cause.Monomials d X) e = cc
+    not_read (cause.Element E n) e = cc
+    not_read (cause.Class d b) e = cc
     not_read (cause.SubgroupStage i d X) e = cc
 
     abbrev ReadTold : Type 0
@@ -145,7 +147,8 @@ module _ (answer : Status) (err err_now : Option (List ℕ)) (n m : ℕ) where
         ∙ reported_memory r in cc)
 
     usage_of : (known : Option Content) (s : Stop) → (told s).status ≡ status.Usage
-        → MeetsOf lines_of (Comes words) known (Err s) → command words ≡ None
+        → MeetsOf lines_of (Comes words) known (Err s)
+        → (command words ≡ None) ⊎ AskForValue words
     usage_of known (stop.Refused why) e k = usage_is words k.0 k.0 (refusal_of why) k.2 e
     usage_of known (stop.Read path) e k = absurd (cc)
     usage_of known stop.Write e k = absurd (cc)
@@ -153,7 +156,8 @@ module _ (answer : Status) (err err_now : Option (List ℕ)) (n m : ℕ) where
 
     -- where the status is that of the words
     pub usage_stop : (known : Option Content) (s : Stop) → ReportedHere s
-        → MeetsOf lines_of (Comes words) known (Err s) → answer ≡ status.Usage → command words ≡ None
+        → MeetsOf lines_of (Comes words) known (Err s) → answer ≡ status.Usage
+        → (command words ≡ None) ⊎ AskForValue words
     usage_stop known s r k e =
         let isnt : answer ≢ status.Memory = λ is. let no : status.Usage ≡ status.Memory = sym e ∙ is in cc in
         usage_of known s (sym (r isnt).0 ∙ e) k

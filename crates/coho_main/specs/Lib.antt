@@ -1,8 +1,10 @@
 pub mod Steps
 pub mod Words
+pub mod Operands
 pub mod Refusals
 pub mod Groups
 pub mod Ringing
+pub mod Evaluating
 pub mod Outcome
 pub mod Stops
 pub mod Reading
@@ -11,5 +13,6 @@ pub mod Statuses
 pub mod Stages
 pub mod Resolving
 pub mod RingAnswers
+pub mod ClassAnswers
 pub mod Products
 pub mod Samples

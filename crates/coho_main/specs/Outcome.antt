@@ -1,11 +1,11 @@
 -- What the words come to, over the files that there are.
 use Rattle.std.specs.Prelude.{◌≡◌, ℕ, ◌+◌, ◌^◌, List, [], ◌∷◌, ◌++◌, length, map, take, codes, decimal}
-use Rattle.std.specs.Prelude.{flat_map, nat_lt}
+use Rattle.std.specs.Prelude.{flat_map, nat_le, nat_lt}
 use Rattle.std.specs.declared.option.Option.{Option}
 use Rattle.std.specs.declared.option.Option.TheVariants.{None, Some}
 use Rattle.std.specs.declared.result.Result.{Result}
 use Rattle.std.specs.declared.result.Result.TheVariants.{Ok, Err}
-use Rattle.std.specs.List.{concat}
+use Rattle.std.specs.List.{concat, find}
 use Rattle.std.specs.Option.{option_map}
 use Rattle.limits.specs.declared.TheConstants.{GREATEST_ORDER, LONGEST_TEXT}
 use Rattle.coho_io.specs.Content.{Content, file}
@@ -17,11 +17,12 @@ use Rattle.coho_main.specs.declared.status.Status.{Status}
 use Rattle.coho_main.specs.declared.status.Status.TheVariants as status
 use Rattle.coho_main.specs.Steps.{Refusal, Step, ◌>>=◌, Gives, Refuses, OrRefuse, RefuseIf, OnGroup}
 use Rattle.coho_main.specs.Refusals.{words_refused, read_refused, length_refused, text_refused, order_refused}
-use Rattle.coho_main.specs.Refusals.{test_refused}
+use Rattle.coho_main.specs.Refusals.{test_refused, element_refused}
 use Rattle.coho_main.specs.Samples.{sample, sample_lines}
-use Rattle.coho_main.specs.Words.{Command, Group, Resolve, Ring, Sample, command}
+use Rattle.coho_main.specs.Words.{Command, Group, Resolve, Ring, Value, Sample, command}
 use Rattle.group_algebra.specs.Coordinates.{sizes}
 use Rattle.coho_main.specs.Stages.{Summary, Fit, AreStagesTo, IsStageRefusal}
+use Rattle.coho_main.specs.Evaluating.{HasClass, IsClassRefusal, IsValue}
 use Rattle.coho_main.specs.Ringing.{IsReportTo, IsReportRefusal}
 use Rattle.coho_report.specs.Values.{ReportValue}
 use Rattle.coho_report.specs.Lines.{report_lines}
@@ -101,6 +102,22 @@ FitStages P n = OnGroup P (λ G _. Fit G n) (λ G refusal. IsStageRefusal G n re
 abbrev pub Report : Presentation → ℕ → Step ReportValue
 Report P n = OnGroup P (λ G report. IsReportTo G n report) (λ G refusal. IsReportRefusal G n refusal)
 
+abbrev pub UnlessElement : ℕ → Option ℕ → Step (Unit {0})
+UnlessElement n None = Gives tt
+UnlessElement n (Some E) = Refuses (element_refused E n)
+
+-- each element is below the order, or the first one that is not
+abbrev pub FitElements : Presentation → List ℕ → Step (Unit {0})
+FitElements P es = UnlessElement (order P) (find (nat_le (order P)) es)
+
+-- degree d has a class number k, or fewer
+abbrev pub FitClass : Presentation → ℕ → ℕ → Step (Unit {0})
+FitClass P d k = OnGroup P (λ G _. HasClass G d k) (λ G refusal. IsClassRefusal G d k refusal)
+
+-- the value of the cocycle of class k at the elements
+abbrev pub Evaluate : Presentation → ℕ → List ℕ → Step ℕ
+Evaluate P k es = OnGroup P (λ G v. IsValue G k es v) (λ G refusal. ⊥)
+
 -- the answers
 
 -- a word, a number and an LF
@@ -156,6 +173,14 @@ AnswerRing P n = do
   report ← Report P n
   Gives (report_lines report)
 
+abbrev pub AnswerValue : Presentation → ℕ → List ℕ → Step (List (List ℕ))
+AnswerValue P k es = do
+  _ ← FitElements P es
+  _ ← FitStages P (length es)
+  _ ← FitClass P (length es) k
+  v ← Evaluate P k es
+  Gives (line (codes "value ") v ∷ [])
+
 -- the ring of the product that k names, through degree 4
 abbrev pub AnswerSample : Presentation → ℕ → Step (List (List ℕ))
 AnswerSample P k = do
@@ -167,6 +192,7 @@ abbrev pub Answer : Command → Presentation → Step (List (List ℕ))
 Answer (Group path) P = AnswerGroup P
 Answer (Resolve path n) P = AnswerResolve P n
 Answer (Ring path n) P = AnswerRing P n
+Answer (Value path k es) P = AnswerValue P k es
 Answer (Sample k) P = AnswerSample P k
 
 -- the consistent presentation that a command is asked about: that of its file, or the one that a number names
@@ -174,6 +200,7 @@ abbrev pub Given : Command → Step Presentation
 Given (Group path) = Load path
 Given (Resolve path n) = Load path
 Given (Ring path n) = Load path
+Given (Value path k es) = Load path
 Given (Sample k) = Accept (sample k)
 
 abbrev pub Reply : Command → Step (List (List ℕ))

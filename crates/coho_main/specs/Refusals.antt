@@ -89,6 +89,24 @@ subgroup_refused i d X = record {
       ++ (decimal X ++ (codes ", above " ++ (decimal GREATEST_DIMENSION ++ 10 ∷ [])))))));
 }
 
+-- element E is not one of the group of order n
+abbrev pub element_refused : ℕ → ℕ → Refusal
+element_refused E n = record {
+  status = status.Usage;
+  line =
+      codes "coho: element "
+      ++ (decimal E ++ (codes " is not below " ++ (decimal n ++ 10 ∷ [])));
+}
+
+-- degree d has b basis classes, fewer than the number of the one that was asked for
+abbrev pub class_refused : ℕ → ℕ → Refusal
+class_refused d b = record {
+  status = status.Usage;
+  line =
+      codes "coho: degree "
+      ++ (decimal d ++ (codes " has only " ++ (decimal b ++ (codes " classes" ++ 10 ∷ []))));
+}
+
 -- a write to out that failed
 abbrev pub write_refused : Refusal
 write_refused = record { status = status.Write; line = codes "coho: write failed" ++ 10 ∷ [] }

@@ -42,6 +42,16 @@ pub enum Cause {
         degree: u32,
         dimension: u64,
     },
+    /// This element is not below the order of the group.
+    Element {
+        element: u16,
+        order: u16,
+    },
+    /// This degree has only so many basis classes, fewer than the number of the one that was asked for.
+    Class {
+        degree: u32,
+        count: usize,
+    },
 }
 
 impl Cause {
@@ -57,6 +67,8 @@ impl Cause {
             Cause::Stage { .. } => Status::Limit,
             Cause::Monomials { .. } => Status::Limit,
             Cause::SubgroupStage { .. } => Status::Limit,
+            Cause::Element { .. } => Status::Usage,
+            Cause::Class { .. } => Status::Usage,
         }
     }
 
@@ -98,6 +110,12 @@ impl Cause {
                 format!(in alloc;
                     "coho: limit: stage {degree} of subgroup {subgroup} has dimension {dimension}, above {GREATEST_DIMENSION}\n"
                 )
+            }
+            Cause::Element { element, order } => {
+                format!(in alloc; "coho: element {element} is not below {order}\n")
+            }
+            Cause::Class { degree, count } => {
+                format!(in alloc; "coho: degree {degree} has only {count} classes\n")
             }
         }
     }

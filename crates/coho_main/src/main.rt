@@ -1,10 +1,14 @@
 //! The program: describes the group of a presentation text, finds its minimal resolution, and presents its
-//! cohomology ring. `run` does all that it does, over any files and sinks.
+//! cohomology ring, and evaluates the cocycles of its classes. `run` does all that it does, over any files
+//! and sinks.
 #![tactic(auto)]
 
 mod answers;
 mod cause;
+#[cfg(test)]
+mod cocycle_values;
 mod degree;
+mod evaluating;
 #[cfg(test)]
 mod known_rings;
 mod layers;
@@ -29,10 +33,11 @@ pub use answers::{group_lines, sample_lines, stage_lines};
 pub use cause::Cause;
 use coho_io::{DiskFiles, StdSink};
 pub use degree::read_degree;
+pub use evaluating::{basis_value, fit_elements, value_lines};
 pub use layers::{algebra_of, radical_dimensions};
 pub use loading::{accept, load};
-pub use numbers::read_number;
-pub use operands::{all_plain, one_operand, two_operands};
+pub use numbers::{GREATEST_NUMBER, MOST_ELEMENTS, read_number, read_place};
+pub use operands::{PlaceWords, all_plain, one_operand, place_operands, two_operands};
 pub use products::direct_product;
 pub use reading::read_front;
 pub use running::{outcome_exists, outcome_is_unique, run};

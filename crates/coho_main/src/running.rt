@@ -2,18 +2,21 @@ ghost use Rattle.std.specs.Prelude.{◌≡◌, ◌≢◌, ◌≤◌, ◌⊎◌, 
 ghost use Rattle.std.specs.List.{Contains};
 ghost use Rattle.coho_io.specs.Content.{Content};
 ghost use Rattle.coho_io.specs.Causes.{Rose};
-ghost use Rattle.coho_main.specs.Words.{IsRead, IsWithin, asked, command, contents, read_paths, texts};
+ghost use Rattle.coho_main.specs.Words.{AskForValue, IsPlace, IsRead, IsWithin, asked, command, contents};
+ghost use Rattle.coho_main.specs.Words.{read_paths, texts};
 ghost use Rattle.coho_main.specs.Outcome.{Answer, AnswerGroup, AnswerResolve, AnswerRing, AnswerSample};
-ghost use Rattle.coho_main.specs.Outcome.{Comes, Ending, Given, Outcome};
+ghost use Rattle.coho_main.specs.Outcome.{AnswerValue, Comes, Ending, Given, Outcome};
 ghost use Rattle.coho_main.specs.Refusals.{read_refused, write_refused};
 ghost use Rattle.coho_main.specs.RingAnswers.{TellsRingOf};
+ghost use Rattle.coho_main.specs.ClassAnswers.{HasCocycleClassesOf};
 ghost use Rattle.coho_main.specs.Stops.{Meets, Settles, HasReadCause, OnlyReads};
 ghost use Rattle.coho_main.specs.Run.{OfFiles, IsSettled, MayWrite, Tells, EndsAs, AnswersFront, WantsMemory};
 ghost use Rattle.coho_main.specs.Run.{NoReadFault, Stays};
 
 use crate::{
-    Command, Status, Stop, accept, group_lines, load, radical_dimensions, read_words, report,
-    resolution_of, sample_lines, sample_presentation, stage_lines, write_lines,
+    Command, Status, Stop, accept, basis_value, fit_elements, group_lines, load,
+    radical_dimensions, read_words, report, resolution_of, sample_lines, sample_presentation,
+    stage_lines, value_lines, write_lines,
 };
 use coho_io::{Files, Sink};
 use coho_report::{compose, report_lines};
@@ -56,6 +59,22 @@ fn answer_ring<'a>(alloc: Global, consistent: &Consistent, n: u32) -> Result<Vec
     Ok(report_lines(alloc, &report)?)
 }
 
+// The line of the answer to `value`.
+fn answer_value<'a>(
+    alloc: Global,
+    consistent: &Consistent,
+    class: u16,
+    elements: &[u16],
+) -> Result<Vec<Vec<u8>>, Stop<'a>>
+    requires { IsPlace class elements.now }
+    ensures { Settles (λ lines. contents lines.items) (AnswerValue consistent.now class elements.now) result }
+{
+    fit_elements(consistent, elements)?;
+    let resolution = resolution_of(alloc, consistent, elements.len() as u32)?;
+    let value = basis_value(alloc, &resolution, class, elements)?;
+    Ok(value_lines(alloc, value)?)
+}
+
 // The lines of the answer to `sample`.
 fn answer_sample<'a>(
     alloc: Global,
@@ -88,6 +107,7 @@ fn answer_on<'a>(
         Command::Group(_) => answer_group(alloc, consistent),
         Command::Resolve(_, n) => answer_resolve(alloc, consistent, n),
         Command::Ring(_, n) => answer_ring(alloc, consistent, n),
+        Command::Value(_, class, elements) => { answer_value(alloc, consistent, class, &elements) }
         Command::Sample(k) => answer_sample(alloc, consistent, k),
     }
 }
@@ -95,20 +115,21 @@ fn answer_on<'a>(
 // The consistent presentation that a command is asked about.
 fn given<'a, F: Files>(
     alloc: Global,
-    command: Command<'a>,
+    command: &Command<'a>,
     files: &mut F,
 ) -> Result<Consistent, Stop<'a>>
-    requires { IsWithin (asked command) }
+    requires { IsWithin (asked command.now) }
     ensures step { OfFiles (F.content files.old)
-        (λ seen. Meets (λ c. c) (Given (asked command.entry)) seen seen result) }
-    ensures reads { OnlyReads (HasReadCause (λ path. Contains (read_paths (asked command.entry)) path))
+        (λ seen. Meets (λ c. c) (Given (asked command.now)) seen seen result) }
+    ensures reads { OnlyReads (HasReadCause (λ path. Contains (read_paths (asked command.now)) path))
         (F.content files.old) (F.content files.new)
         (F.read_faults files.old) (F.read_faults files.new) result }
 {
-    match command {
-        Command::Group(path) | Command::Resolve(path, _) | Command::Ring(path, _) => {
-            load(alloc, files, path)
-        }
+    match *command {
+        Command::Group(path)
+        | Command::Resolve(path, _)
+        | Command::Ring(path, _)
+        | Command::Value(path, _, _) => load(alloc, files, path),
         Command::Sample(k) => accept(alloc, sample_presentation(alloc, k)?),
     }
 }
@@ -126,7 +147,7 @@ fn answer<'a, F: Files>(
         (F.read_faults files.old) (F.read_faults files.new) result }
 {
     let command = read_words(alloc, words)?;
-    let consistent = given(alloc, command, files)?;
+    let consistent = given(alloc, &command, files)?;
     answer_on(alloc, command, &consistent)
 }
 
@@ -153,8 +174,15 @@ pub fn run<F: Files, O: Sink, E: Sink>(
     ensures ring { result ≡ Status.Answered → OfFiles (F.content files.old)
         (TellsRingOf (texts words.now) (O.written out.old) (O.written out.new)) }
 
-    // Whether files are told or not, the words decide alone whether they are refused.
-    ensures usage { result ≡ Status.Usage → command (texts words.now) ≡ None }
+    // Where `resolve` or `ring` is answered, the classes of the file's group in each degree through the last
+    // are the cocycles of its bar complex up to coboundaries.
+    ensures classes { result ≡ Status.Answered → OfFiles (F.content files.old)
+        (HasCocycleClassesOf (texts words.now)) }
+
+    // Whether files are told or not, the words decide alone whether they are refused, but for those of
+    // `value`, where the group decides too.
+    ensures usage { result ≡ Status.Usage
+        → (command (texts words.now) ≡ None) ⊎ AskForValue (texts words.now) }
     ensures words { command (texts words.now) ≡ None
         → (result ≡ Status.Usage) ⊎ (result ≡ Status.Memory) }
 

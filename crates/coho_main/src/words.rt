@@ -1,18 +1,19 @@
 ghost use Rattle.std.specs.Prelude.{◌≡◌, ◌≤◌, IfErr, IfOk, None, Some, true};
 ghost use Rattle.std.specs.List.{list_all};
-ghost use Rattle.coho_main.specs.Words.{IsWithin, asked, command, file_and_degree, is_path, sample_number};
-ghost use Rattle.coho_main.specs.Words.{texts};
+ghost use Rattle.coho_main.specs.Words.{IsPlace, IsWithin, asked, command, file_and_degree, file_and_place};
+ghost use Rattle.coho_main.specs.Words.{is_path, sample_number, texts};
 ghost use Rattle.coho_main.specs.Outcome.{Ask};
 ghost use Rattle.coho_main.specs.Stops.{IsWordsStop, Settles};
 
 use crate::{
-    Cause, GREATEST_SAMPLE, Stop, all_plain, one_operand, read_degree, read_sample, two_operands,
+    Cause, GREATEST_SAMPLE, Stop, all_plain, one_operand, place_operands, read_degree, read_place,
+    read_sample, two_operands,
 };
 use limits::GREATEST_DEGREE;
 use std::alloc::Global;
 
 /// What a run is asked for.
-#[derive(Clone, Copy)]
+#[derive(Drop)]
 pub enum Command<'a> {
     /// To describe the group of the file at this path.
     Group(&'a str),
@@ -21,6 +22,9 @@ pub enum Command<'a> {
     /// To find generators and relations of the cohomology ring of the group of the file at this path, through
     /// this degree.
     Ring(&'a str, u32),
+    /// To find the value of the cocycle of a basis class of the group of the file at this path, by its
+    /// number, counted from 1, at elements, of which there are as many as the degree of the class.
+    Value(&'a str, u16, Vec<u16>),
     /// To make the product of small groups that this number names, and to describe its cohomology ring.
     Sample(u32),
 }
@@ -37,6 +41,23 @@ fn file_and_degree<'a>(alloc: Global, words: &'a [String]) -> Result<(&'a str, u
         Some(degree) => Ok((path, degree)),
         None => Err(Stop::Refused(Cause::Words)),
     }
+}
+
+// The words after the command's name: a file, the degree and the number of a class, and as many elements as
+// the degree.
+fn file_and_place<'a>(
+    alloc: Global,
+    words: &'a [String],
+) -> Result<(&'a str, u16, Vec<u16>), Stop<'a>>
+    requires { list_all is_path (texts words.now) ≡ true }
+    ensures found { IfOk result
+        (λ found. file_and_place (texts words.now) ≡ Some (found.0.now, found.1, found.2.items)) }
+    ensures within { IfOk result (λ found. IsPlace found.1 found.2.items) }
+    ensures refused { IfErr result (IsWordsStop (file_and_place (texts words.now) ≡ None)) }
+{
+    let found = place_operands(alloc, words)?;
+    let (class, elements) = read_place(alloc, found.degree, found.class, &found.elements)?;
+    Ok((found.file, class, elements))
 }
 
 // The number that names a product, by the one word after the command's name.
@@ -71,6 +92,10 @@ pub fn read_words<'a>(alloc: Global, words: &'a [String]) -> Result<Command<'a>,
         [name, ..] if name.as_str() == "ring" => {
             let (path, degree) = file_and_degree(alloc, words)?;
             Ok(Command::Ring(path, degree))
+        }
+        [name, ..] if name.as_str() == "value" => {
+            let (path, class, elements) = file_and_place(alloc, words)?;
+            Ok(Command::Value(path, class, elements))
         }
         [name, ..] if name.as_str() == "sample" => {
             Ok(Command::Sample(sample_number(alloc, words)?))

@@ -1,5 +1,5 @@
 use Rattle.std.proofs.Common.{sym, subst}
-use Rattle.coho_main.specs.Outcome.{Answer}
+use Rattle.coho_main.specs.Outcome.{Answer, AnswerValue}
 use Rattle.coho_main.specs.Stops.{Settles}
 use Rattle.coho_main.specs.Words.{asked}
 use Rattle.coho_main.proofs.Replies.{lines_of}
@@ -19,6 +19,13 @@ pub returns-in-Ring : goal.returns-in-Ring
 returns-in-Ring c = subst (λ named. Settles lines_of
     (Answer (asked named) c.args.consistent.now) c.answer_ring.result)
     (sym c.in-Ring.is) c.answer_ring.ensures
+
+pub returns-in-Value : goal.returns-in-Value
+returns-in-Value c = subst (λ named. Settles lines_of
+    (Answer (asked named) c.args.consistent.now) c.answer_value.result)
+    (sym c.in-Value.is)
+    (subst (λ es. Settles lines_of (AnswerValue c.args.consistent.now c.in-Value.class es) c.answer_value.result)
+    c.deref.ensures.value c.answer_value.ensures)
 
 pub returns-in-Sample : goal.returns-in-Sample
 returns-in-Sample c = subst (λ named. Settles lines_of

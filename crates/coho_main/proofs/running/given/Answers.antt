@@ -14,8 +14,8 @@ pub returns-in_err-sample_presentation-in-Sample-clause-step :
     goal.returns-in_err-sample_presentation-in-Sample-clause-step
 returns-in_err-sample_presentation-in-Sample-clause-step g c =
     let p = err_from_is_err_and c.from_residual.result c.from_residual.ensures.1 in
-    rw p.1 (settled_given (g.F.Files.content c.args.files.now) itself (Given (asked c.args.command)) (Err p.0)
-    (memory_settles itself (Given (asked c.args.command)) p.0 p.2))
+    rw p.1 (settled_given (g.F.Files.content c.args.files.now) itself (Given (asked c.args.command.now)) (Err p.0)
+    (memory_settles itself (Given (asked c.args.command.now)) p.0 p.2))
 
 pub returns-in_ok-sample_presentation-in-Sample-clause-step :
     goal.returns-in_ok-sample_presentation-in-Sample-clause-step
@@ -29,5 +29,5 @@ returns-in_ok-sample_presentation-in-Sample-clause-step g c =
 
 pub returns-in-Group-clause-step : goal.returns-in-Group-clause-step
 returns-in-Group-clause-step g c =
-    given_load (g.F.Files.content c.args.files.now) (asked c.args.command) _ c.load.result (search rules)
+    given_load (g.F.Files.content c.args.files.now) (asked c.args.command.now) _ c.load.result (search rules)
     c.load.ensures.step

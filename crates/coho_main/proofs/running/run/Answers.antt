@@ -8,6 +8,7 @@ use Rattle.coho_main.proofs.Run.{wrote_all, wrote_front, answers, told_meets, wr
 use Rattle.coho_main.proofs.Run.{memory_of_write, stopped, usage_stop, read_told, stays, memory_of_stop}
 use Rattle.coho_main.proofs.Run.{complete_stop}
 use Rattle.coho_main.proofs.RingAnswers.{tells_ring, stop_not_answered}
+use Rattle.coho_main.proofs.ClassAnswers.{has_classes}
 use Rattle.coho_main.proofs.running.run.Goals as goal
 
 pub returns-in-Ok-write_lines-clause-outcome : goal.returns-in-Ok-write_lines-clause-outcome
@@ -136,6 +137,23 @@ returns-in-Ok-clause-ring g c =
 
 pub returns-clause-ring : goal.returns-clause-ring
 returns-clause-ring g c =
+    stop_not_answered c.in-Err.stop c.report-in-Err.result (g.E.Sink.written c.args.err.now)
+    (g.E.Sink.written c.report-in-Err.new.err) (g.E.Sink.faults c.args.err.now)
+    (g.E.Sink.faults c.report-in-Err.new.err) c.report-in-Err.ensures.told
+
+pub returns-in-Ok-write_lines-clause-classes : goal.returns-in-Ok-write_lines-clause-classes
+returns-in-Ok-write_lines-clause-classes g c = λ _.
+    has_classes (texts c.args.words.now) (g.F.Files.content c.args.files.now) c.in-Ok.lines
+    c.in-Ok.ensures.step
+
+pub returns-in-Ok-clause-classes : goal.returns-in-Ok-clause-classes
+returns-in-Ok-clause-classes g c =
+    stop_not_answered c.in-Err-write_lines.stop c.report.result (g.E.Sink.written c.args.err.now)
+    (g.E.Sink.written c.report.new.err) (g.E.Sink.faults c.args.err.now)
+    (g.E.Sink.faults c.report.new.err) c.report.ensures.told
+
+pub returns-clause-classes : goal.returns-clause-classes
+returns-clause-classes g c =
     stop_not_answered c.in-Err.stop c.report-in-Err.result (g.E.Sink.written c.args.err.now)
     (g.E.Sink.written c.report-in-Err.new.err) (g.E.Sink.faults c.args.err.now)
     (g.E.Sink.faults c.report-in-Err.new.err) c.report-in-Err.ensures.told

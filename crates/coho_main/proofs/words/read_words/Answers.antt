@@ -3,13 +3,16 @@ use Rattle.std.specs.Str.{bytes_eq}
 use Rattle.std.proofs.lemmas.Result.{err_from_is_err_and}
 use Rattle.clap.specs.Values.{kind_of}
 use Rattle.std.specs.Option.{option_map}
-use Rattle.coho_main.specs.Words.{Resolve, Ring, Sample, file_and_degree, sample_number, texts}
+use Rattle.coho_main.specs.Words.{Resolve, Ring, Sample, file_and_degree, file_and_place, sample_number}
+use Rattle.coho_main.specs.Words.{texts}
 use Rattle.coho_main.specs.declared.words.Command.TheVariants as given
 use Rattle.coho_main.proofs.Commands.{named, reads, unread, stopped, group_found, group_none, at_resolve}
-use Rattle.coho_main.proofs.Commands.{at_ring, at_sample, of_degree, no_words, refuses, unnamed}
+use Rattle.coho_main.proofs.Commands.{at_ring}
+use Rattle.coho_main.proofs.Commands.{at_sample, at_value, dashed_is, of_degree, of_place, no_words, refuses}
+use Rattle.coho_main.proofs.Commands.{unnamed}
 use Rattle.coho_main.proofs.words.read_words.Goals as goal
 use Rattle.coho_main.proofs.words.read_words.Goals.{in_default-via-then-words-lt1}
-use Rattle.coho_main.proofs.words.read_words.Goals.{in_default-via-in-len1-up-4+else-eq-4}
+use Rattle.coho_main.proofs.words.read_words.Goals.{in_default-via-in-len1-up-5+else-eq-5}
 
 pub returns-in_err-one_operand-in-len1-up-clause-step :
     goal.returns-in_err-one_operand-in-len1-up-clause-step
@@ -134,48 +137,90 @@ returns-in_ok-path-in-len1-up-3-clause-step c =
     (at_ring words (drop 1 words) plain name first is_named
     ∙ ap (of_degree Ring) c.in_ok-path-in-len1-up-3.ensures.found)
 
-pub returns-in_err-sample_number-in-len1-up-4-clause-step :
-    goal.returns-in_err-sample_number-in-len1-up-4-clause-step
-returns-in_err-sample_number-in-len1-up-4-clause-step c =
+pub returns-in_err-path-in-len1-up-4-clause-step :
+    goal.returns-in_err-path-in-len1-up-4-clause-step
+returns-in_err-path-in-len1-up-4-clause-step c =
     let words = texts c.args.words.now in
     let first = named c.args.words.now c.name-item-4.result c.in-len1-up.len_at_least c.name-item-4.is in
     let name = string_bytes c.name-item-4.result in
-    let is_named : bytes_eq name (codes "sample") ≡ true =
-    ap (λ t. bytes_eq t (codes "sample")) (sym c.as_str-4.ensures.value) ∙ sym c.eq-4.ensures
+    let is_named : bytes_eq name (codes "value") ≡ true =
+    ap (λ t. bytes_eq t (codes "value")) (sym c.as_str-4.ensures.value) ∙ sym c.eq-4.ensures
     ∙ c.if-eq-4.true in
     let plain = sym c.all_plain.ensures ∙ c.if-not-all_plain.false in
-    let r = c.from_residual-in_err-sample_number-in-len1-up-4 in
+    let r = c.from_residual-in_err-path-in-len1-up-4 in
+    let p = err_from_is_err_and r.result r.ensures.1 in
+    rw (p.1, p.2) (stopped words (file_and_place words
+    ≡ None) c.in_err-path-in-len1-up-4.field-0.0 c.in_err-path-in-len1-up-4.ensures.refused
+    (λ none. at_value words (drop 1 words) plain name first is_named ∙ ap of_place none))
+
+pub returns-in_ok-path-in-len1-up-4-clause-command :
+    goal.returns-in_ok-path-in-len1-up-4-clause-command
+returns-in_ok-path-in-len1-up-4-clause-command c =
+    let words = texts c.args.words.now in
+    let first = named c.args.words.now c.name-item-4.result c.in-len1-up.len_at_least c.name-item-4.is in
+    let name = string_bytes c.name-item-4.result in
+    let is_named : bytes_eq name (codes "value") ≡ true =
+    ap (λ t. bytes_eq t (codes "value")) (sym c.as_str-4.ensures.value) ∙ sym c.eq-4.ensures
+    ∙ c.if-eq-4.true in
+    let plain = sym c.all_plain.ensures ∙ c.if-not-all_plain.false in
+    at_value words (drop 1 words) plain name first is_named
+    ∙ ap of_place c.in_ok-path-in-len1-up-4.ensures.found
+
+pub returns-in_ok-path-in-len1-up-4-clause-step : goal.returns-in_ok-path-in-len1-up-4-clause-step
+returns-in_ok-path-in-len1-up-4-clause-step c =
+    let words = texts c.args.words.now in
+    let first = named c.args.words.now c.name-item-4.result c.in-len1-up.len_at_least c.name-item-4.is in
+    let name = string_bytes c.name-item-4.result in
+    let is_named : bytes_eq name (codes "value") ≡ true =
+    ap (λ t. bytes_eq t (codes "value")) (sym c.as_str-4.ensures.value) ∙ sym c.eq-4.ensures
+    ∙ c.if-eq-4.true in
+    let plain = sym c.all_plain.ensures ∙ c.if-not-all_plain.false in
+    reads words (given.Value c.in_ok-path-in-len1-up-4.path c.in_ok-path-in-len1-up-4.class
+    c.in_ok-path-in-len1-up-4.elements)
+    (at_value words (drop 1 words) plain name first is_named
+    ∙ ap of_place c.in_ok-path-in-len1-up-4.ensures.found)
+
+pub returns-in_err-sample_number-in-len1-up-5-clause-step :
+    goal.returns-in_err-sample_number-in-len1-up-5-clause-step
+returns-in_err-sample_number-in-len1-up-5-clause-step c =
+    let words = texts c.args.words.now in
+    let first = named c.args.words.now c.name-item-5.result c.in-len1-up.len_at_least c.name-item-5.is in
+    let name = string_bytes c.name-item-5.result in
+    let is_named : bytes_eq name (codes "sample") ≡ true =
+    ap (λ t. bytes_eq t (codes "sample")) (sym c.as_str-5.ensures.value) ∙ sym c.eq-5.ensures
+    ∙ c.if-eq-5.true in
+    let plain = sym c.all_plain.ensures ∙ c.if-not-all_plain.false in
+    let r = c.from_residual-in_err-sample_number-in-len1-up-5 in
     let p = err_from_is_err_and r.result r.ensures.1 in
     rw (p.1, p.2) (stopped words (sample_number words
-    ≡ None) c.in_err-sample_number-in-len1-up-4.field-0.0 c.in_err-sample_number-in-len1-up-4.ensures.refused
+    ≡ None) c.in_err-sample_number-in-len1-up-5.field-0.0 c.in_err-sample_number-in-len1-up-5.ensures.refused
     (λ none. at_sample words (drop 1 words) plain name first is_named ∙ ap (option_map Sample) none))
 
-pub returns-in_ok-sample_number-in-len1-up-4-clause-command :
-    goal.returns-in_ok-sample_number-in-len1-up-4-clause-command
-returns-in_ok-sample_number-in-len1-up-4-clause-command c =
+pub returns-in_ok-sample_number-in-len1-up-5-clause-command :
+    goal.returns-in_ok-sample_number-in-len1-up-5-clause-command
+returns-in_ok-sample_number-in-len1-up-5-clause-command c =
     let words = texts c.args.words.now in
-    let first = named c.args.words.now c.name-item-4.result c.in-len1-up.len_at_least c.name-item-4.is in
-    let name = string_bytes c.name-item-4.result in
+    let first = named c.args.words.now c.name-item-5.result c.in-len1-up.len_at_least c.name-item-5.is in
+    let name = string_bytes c.name-item-5.result in
     let is_named : bytes_eq name (codes "sample") ≡ true =
-    ap (λ t. bytes_eq t (codes "sample")) (sym c.as_str-4.ensures.value) ∙ sym c.eq-4.ensures
-    ∙ c.if-eq-4.true in
+    ap (λ t. bytes_eq t (codes "sample")) (sym c.as_str-5.ensures.value) ∙ sym c.eq-5.ensures
+    ∙ c.if-eq-5.true in
     let plain = sym c.all_plain.ensures ∙ c.if-not-all_plain.false in
     at_sample words (drop 1 words) plain name first is_named
-    ∙ ap (option_map Sample) c.in_ok-sample_number-in-len1-up-4.ensures.found
+    ∙ ap (option_map Sample) c.in_ok-sample_number-in-len1-up-5.ensures.found
 
-pub returns-in_ok-sample_number-in-len1-up-4-clause-step :
-    goal.returns-in_ok-sample_number-in-len1-up-4-clause-step
-returns-in_ok-sample_number-in-len1-up-4-clause-step c =
+pub returns-in_ok-sample_number-in-len1-up-5-clause-step : goal.returns-in_ok-sample_number-in-len1-up-5-clause-step
+returns-in_ok-sample_number-in-len1-up-5-clause-step c =
     let words = texts c.args.words.now in
-    let first = named c.args.words.now c.name-item-4.result c.in-len1-up.len_at_least c.name-item-4.is in
-    let name = string_bytes c.name-item-4.result in
+    let first = named c.args.words.now c.name-item-5.result c.in-len1-up.len_at_least c.name-item-5.is in
+    let name = string_bytes c.name-item-5.result in
     let is_named : bytes_eq name (codes "sample") ≡ true =
-    ap (λ t. bytes_eq t (codes "sample")) (sym c.as_str-4.ensures.value) ∙ sym c.eq-4.ensures
-    ∙ c.if-eq-4.true in
+    ap (λ t. bytes_eq t (codes "sample")) (sym c.as_str-5.ensures.value) ∙ sym c.eq-5.ensures
+    ∙ c.if-eq-5.true in
     let plain = sym c.all_plain.ensures ∙ c.if-not-all_plain.false in
-    reads words (given.Sample c.in_ok-sample_number-in-len1-up-4.field-0)
+    reads words (given.Sample c.in_ok-sample_number-in-len1-up-5.field-0)
     (at_sample words (drop 1 words) plain name first is_named
-    ∙ ap (option_map Sample) c.in_ok-sample_number-in-len1-up-4.ensures.found)
+    ∙ ap (option_map Sample) c.in_ok-sample_number-in-len1-up-5.ensures.found)
 
 pub returns-in_default-clause-step : goal.returns-in_default-clause-step
 returns-in_default-clause-step c =
@@ -183,17 +228,26 @@ returns-in_default-clause-step c =
     let words = texts given in
     elim c.in_default.branch [
       | in_default-via-then-words-lt1 w ↦ refuses words (no_words given (search rules))
-      | in_default-via-in-len1-up-4+else-eq-4 w ↦
-          refuses words (unnamed words _ _ _ _
+      | in_default-via-in-len1-up-5+else-eq-5 w ↦
+          refuses words (unnamed words _ _ _ _ _
           (named given w.name-item.result w.in-len1-up.len_at_least w.name-item.is)
           (named given w.name-item-2.result w.in-len1-up.len_at_least w.name-item-2.is)
           (named given w.name-item-3.result w.in-len1-up.len_at_least w.name-item-3.is)
           (named given w.name-item-4.result w.in-len1-up.len_at_least w.name-item-4.is)
-          (ap (λ t. bytes_eq t (codes "group")) (sym w.as_str.ensures.value) ∙ sym w.eq.ensures ∙ w.if-eq.false)
+          (named given w.name-item-5.result w.in-len1-up.len_at_least w.name-item-5.is)
+          (ap (λ t. bytes_eq t (codes "group")) (sym w.as_str.ensures.value) ∙ sym w.eq.ensures
+          ∙ w.if-eq.false)
           (ap (λ t. bytes_eq t (codes "resolve")) (sym w.as_str-2.ensures.value) ∙ sym w.eq-2.ensures
           ∙ w.if-eq-2.false)
           (ap (λ t. bytes_eq t (codes "ring")) (sym w.as_str-3.ensures.value) ∙ sym w.eq-3.ensures
           ∙ w.if-eq-3.false)
-          (ap (λ t. bytes_eq t (codes "sample")) (sym w.as_str-4.ensures.value) ∙ sym w.eq-4.ensures
-          ∙ w.if-eq-4.false))
+          (ap (λ t. bytes_eq t (codes "value")) (sym w.as_str-4.ensures.value) ∙ sym w.eq-4.ensures
+          ∙ w.if-eq-4.false)
+          (ap (λ t. bytes_eq t (codes "sample")) (sym w.as_str-5.ensures.value) ∙ sym w.eq-5.ensures
+          ∙ w.if-eq-5.false))
     ]
+
+pub returns-then-not-all_plain-clause-step : goal.returns-then-not-all_plain-clause-step
+returns-then-not-all_plain-clause-step c =
+    let words = texts c.args.words.now in
+    refuses words (dashed_is words (sym c.all_plain.ensures ∙ c.if-not-all_plain.true))

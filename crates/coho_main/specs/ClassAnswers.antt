@@ -1,0 +1,25 @@
+-- What an answer to `resolve` or to `ring` says of the classes of the group.
+use Rattle.std.specs.Prelude.{◌≡◌, ◌⊎◌, ℕ, ◌≤◌, List}
+use Rattle.std.specs.declared.option.Option.TheVariants.{Some}
+use Rattle.std.specs.declared.result.Result.TheVariants.{Ok}
+use Rattle.coho_io.specs.Content.{Content}
+use Rattle.power_commutator.specs.Presentations.{Presentation}
+use Rattle.coho_main.specs.Evaluating.{AreCocycleClasses}
+use Rattle.coho_main.specs.Groups.{ForGroupOf}
+use Rattle.coho_main.specs.Outcome.{Load}
+use Rattle.coho_main.specs.Words.{Resolve, Ring, command}
+
+-- for the group of the presentation in the file, the classes of each degree through n are the cocycles of its
+-- bar complex up to coboundaries
+pub record HasCocycleClasses (path : List ℕ) (n : ℕ) (files : Content) : Type 0 where
+  pub presentation : Presentation
+  pub left : Content
+  pub loaded : Load path files (Ok presentation) left
+  pub classes : ForGroupOf presentation (λ G. (d : ℕ) → d ≤ n → AreCocycleClasses G d)
+
+-- the same where the words ask for a resolution or for a ring
+abbrev pub HasCocycleClassesOf : List (List ℕ) → Content → Type 0
+HasCocycleClassesOf words files =
+    (path : List ℕ) (n : ℕ)
+    → (command words ≡ Some (Resolve path n)) ⊎ (command words ≡ Some (Ring path n))
+    → HasCocycleClasses path n files
