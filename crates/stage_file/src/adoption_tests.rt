@@ -5,7 +5,7 @@ ghost use Rattle.stage_file.specs.Honest.{IsShapeAt};
 
 use crate::{Record, Shape, next_record};
 use group_algebra::Algebra;
-use group_table::Memory;
+use group_table::{Group, Memory, Prime};
 use min_res::{AdoptFault, Resolution};
 use sha2::{Digest, Sha256};
 use small_groups::SmallGroup;
@@ -118,5 +118,91 @@ fn refuses_rows_that_are_not_minimal(rt: HostRuntime) -> Result<(), Fail> {
         first(&rt, rt.alloc(), SmallGroup::Four, &TOO_MANY)?,
         fails(5)
     );
+    Ok(())
+}
+
+/// The product of cyclic groups of order 4 and 2: element a + 2 b + 4 c is the product of g^a, h^b and g^2c.
+const FOUR_BY_TWO: [u16; 64] = [
+    0, 1, 2, 3, 4, 5, 6, 7, //
+    1, 4, 3, 6, 5, 0, 7, 2, //
+    2, 3, 0, 1, 6, 7, 4, 5, //
+    3, 6, 1, 4, 7, 2, 5, 0, //
+    4, 5, 6, 7, 0, 1, 2, 3, //
+    5, 0, 7, 2, 1, 4, 3, 6, //
+    6, 7, 4, 5, 2, 3, 0, 1, //
+    7, 2, 5, 0, 3, 6, 1, 4, //
+];
+
+// Rows of degree 2 over this group, bit j for the entry at place j, from a plain calculation apart from this
+// program: the kernel and the sections for the rows 1, 2, 3 of the list before, and those for 1, 2, 5. Rows 3
+// and 5 differ by a member of J times the kernel.
+const KERNEL: [u32; 15] = [
+    0x30, 0x40, 0x480, 0x9100, 0x9200, 0x20800, 0x22000, 0xc000, 0x30000, 0x40000, 0x80000,
+    0x100000, 0x200000, 0x400000, 0x800000,
+];
+
+const SECTIONS: [u32; 9] = [
+    0x1, 0x2, 0x4, 0x20020, 0x900c, 0x20400, 0x1000, 0x8000, 0x20000,
+];
+
+const LATER_KERNEL: [u32; 15] = [
+    0x30, 0x40, 0x80, 0x8100, 0x9200, 0x20800, 0x2000, 0x4000, 0x30000, 0x40000, 0x80000, 0x100000,
+    0x200000, 0x400000, 0x800000,
+];
+
+const LATER_SECTIONS: [u32; 9] = [
+    0x1, 0x2, 0x900c, 0x20020, 0x4, 0x20400, 0x1000, 0x8000, 0x20000,
+];
+
+fn four_by_two(rt: &impl Abort, alloc: Global) -> Result<Resolution, Fail> {
+    let mut table = Vec::new(alloc);
+    table.extend_from_slice(&FOUR_BY_TWO)?;
+    assert_eq!(rt; table.len(), 64);
+    assert!(rt; table.iter().all(|e| *e < 8));
+    let algebra = Algebra::build(alloc, &Group::from_table(alloc, Prime::P2, 3, table)?)?;
+    let mut resolution = Resolution::start(alloc, algebra)?;
+    assert!(rt; resolution.last() < 24);
+    resolution.extend(4096)?;
+    Ok(resolution)
+}
+
+fn push_bits(out: &mut Vec<u8>, rows: &[u32]) -> Result<(), Memory> {
+    for row in rows {
+        for j in 0..24u32 {
+            out.push(((*row >> j) & 1) as u8)?;
+        }
+    }
+    Ok(())
+}
+
+/// What comes of the record of degree 2 with these positions, rows of the kernel and sections.
+fn second(
+    rt: &impl Abort,
+    alloc: Global,
+    positions: [u8; 3],
+    kernel: &[u32],
+    sections: &[u32],
+) -> Result<Option<Result<(), AdoptFault>>, Fail> {
+    let mut resolution = four_by_two(rt, alloc)?;
+    let [a, b, c] = positions;
+    let mut body = Vec::new(alloc);
+    body.extend_from_slice(&[0, 2, 0, 3, 0, a, 0, b, 0, c])?;
+    push_bits(&mut body, kernel)?;
+    push_bits(&mut body, sections)?;
+    assert!(rt; body.len() < 1000);
+    let bytes = sealed(alloc, &body)?;
+    let taken = adopt(rt, &mut resolution, &bytes);
+    Ok(taken)
+}
+
+#[test]
+fn refuses_rows_that_come_later(rt: HostRuntime) -> Result<(), Fail> {
+    let alloc = rt.alloc();
+    assert_eq!(rt;
+        second(&rt, alloc, [1, 2, 3], &KERNEL, &SECTIONS)?,
+        Some(Ok(()))
+    );
+    let later = second(&rt, alloc, [1, 2, 5], &LATER_KERNEL, &LATER_SECTIONS)?;
+    assert_eq!(rt; later, Some(Err(AdoptFault::False { check: 6, row: 2 })));
     Ok(())
 }
