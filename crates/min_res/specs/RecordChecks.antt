@@ -33,13 +33,13 @@ module _ (G : PGroup) (d : ℕ) (Q : StageParts) where
   abbrev pub list_before : List (List ℕ)
   list_before = (stage_rows G).kernel d
 
-  -- they have the sizes of the next stage
+  -- Q has the sizes of the parts of the stage of degree d + 1
   abbrev pub MayFollow : Type 0
   MayFollow =
       HasShape (largest_residue G) (group G) (layer_coordinates G) (rank_of G d) list_before Q
       × HasCount (largest_residue G) (group G) (layer_coordinates G) (rank_of G d) list_before Q
 
-  -- they pass the six checks
+  -- Q passes the six checks
   abbrev pub Passes : Type 0
   Passes = PassesChecks (largest_residue G) (group G) (layer_coordinates G) (rank_of G d) list_before Q
 
@@ -47,7 +47,7 @@ module _ (G : PGroup) (d : ℕ) (Q : StageParts) where
   abbrev pub new_boundary : (free_module G (length Q.positions)).of → (free_module G (rank_of G d)).of
   new_boundary u = del (largest_residue G) (group G) (layer_coordinates G) (rank_of G d) list_before Q u
 
-  -- its value at the table of a row
+  -- the value of that boundary at the table of a row
   abbrev pub boundary_at : List ℕ → (free_module G (rank_of G d)).of
   boundary_at x = new_boundary (table_of G (length Q.positions) x)
 

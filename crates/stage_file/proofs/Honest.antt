@@ -2,7 +2,7 @@
 use Rattle.std.proofs.Common.{◌≡◌, ℕ, suc, ◌-◌, ◌*◌, ◌^◌, ◌<◌, ◌≤◌, List, length, take, None, sym, ◌∙◌}
 use mathlib.Core.Path.{subst}
 use Rattle.resolution_stages.specs.Checks.{StageParts}
-use Rattle.p_groups.specs.PGroups.{PGroup, largest_residue, group}
+use Rattle.p_groups.specs.PGroups.{PGroup, largest_residue, group, order_of}
 use Rattle.p_groups.proofs.Fields.{field, residues}
 use Rattle.group_algebra.specs.Coordinates.{layer_coordinates}
 use Rattle.min_res.specs.Stages.{stage_rows}
