@@ -118,8 +118,10 @@ impl<'a> RowRef<'a> {
         ensures below { result < modulus_of self.now }
     {
         let mut sum = 0u8;
-        for i in 0..self.len() {
+        let mut i = self.next_place(0);
+        while i < self.len() {
             sum = add_product(self.modulus, sum, 1, self.get(i));
+            i = self.next_place(i + 1);
         }
         sum
     }
