@@ -1,9 +1,9 @@
-use Rattle.std.proofs.Common.{◌≡◌, ◌+◌, ◌-◌, ◌*◌, ◌%◌, ◌<◌, ◌≤◌, ℕ, zero, suc, length, add-one, arith, ap, sym, ◌∙◌}
+use Rattle.std.proofs.Common.{◌≡◌, ◌+◌, ◌-◌, ◌<◌, ◌≤◌, ℕ, zero, suc, arith, ap}
+use Rattle.std.proofs.Common.{sym, ◌∙◌}
 use Rattle.std.proofs.Common.{rules}
-use Rattle.std.proofs.lemmas.Grind.{common_steps}
 use Rattle.linear_algebra.specs.Modular.{sum_below}
 use Rattle.linear_algebra.specs.Rows.{entry}
-use Rattle.fp_rows.specs.Refs.{entries_of, modulus_of}
+use Rattle.fp_rows.specs.Refs.{entries_of}
 use Rattle.fp_rows.proofs.row_ref.RowRef.sum.Goals as goal
 
 -- a sum passes over numbers that are 0
