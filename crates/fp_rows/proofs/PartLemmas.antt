@@ -242,7 +242,8 @@ next_in_word xs from done count x a w f n bits rest zero =
     go h j l m (inl b) = zero j l b
     go h j l m (inr b) = let t : trailing_zeros w64 x < count = place_in_word x count f n rest in
         let e : done + (j - done) ≡ j = omega (arith, b) in
-        ap (entry xs) (sym e) ∙ sym (bits (j - done) (omega (arith, b, m, t))) ∙ h (j - done) (omega (arith, b, m))
+        ap (entry xs) (sym e) ∙ sym (bits (j - done) (omega (arith, b, m, t)))
+        ∙ h (j - done) (omega (arith, b, m))
 
 pub no_place_so_far : (xs : List ℕ) (from done count x : ℕ) → ((b : ℕ) → b < count
     → bit_at x b ≡ entry xs (done + b)) → x ≡ 0 → ((j : ℕ) → from ≤ j → j < done → entry xs j ≡ 0)

@@ -1,6 +1,6 @@
 -- The zeros of short rows.
 use Rattle.std.proofs.Common.{◌≡◌, ◌≢◌, ℕ, ◌+◌, ◌-◌, ◌*◌, ◌/◌, ◌%◌, ◌++◌, ◌<◌, ◌≤◌, ◌⊎◌, inl, inr, List}
-use Rattle.std.proofs.Common.{length, replicate, take, drop, arith, ap, sym, ◌∙◌, refl}
+use Rattle.std.proofs.Common.{length, replicate, take, drop, arith, ap, sym, ◌∙◌}
 use Rattle.std.proofs.lemmas.Bool.{cases_eq}
 use Rattle.std.proofs.lemmas.List.{take-replicate, length-replicate, get_or-replicate, get_or-take}
 use Rattle.std.proofs.lemmas.List.{get_or_append_left}

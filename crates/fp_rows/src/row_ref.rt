@@ -86,8 +86,8 @@ impl<'a> RowRef<'a> {
         self.entries.is_zero()
     }
 
-    /// The first place from place `from` on, which is at most the length, at which the number is not 0, and the
-    /// length where there is none.
+    /// The first place from place `from` on at which the number is not 0, and the length where there is none.
+    /// The place is at most the length.
     pub fn next_place(&self, from: usize) -> usize
         requires { from ≤ length (entries_of self.now) }
         ensures { IsNextPlace (entries_of self.now) from result }
@@ -118,8 +118,10 @@ impl<'a> RowRef<'a> {
         ensures below { result < modulus_of self.now }
     {
         let mut sum = 0u8;
-        for i in 0..self.len() {
+        let mut i = self.next_place(0);
+        while i < self.len() {
             sum = add_product(self.modulus, sum, 1, self.get(i));
+            i = self.next_place(i + 1);
         }
         sum
     }

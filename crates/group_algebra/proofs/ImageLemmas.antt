@@ -190,7 +190,8 @@ module _ (G : PGroup) where
   no-products b a w zero h = refl
   no-products b a w (suc k) h = ap (first_products b a w) (let z : suc k ≡ k + 1 = omega arith in z)
       ∙ products-next b a w k
-      ∙ ap (λ c. (M b).add (times (M b).add (M b).zero c (product_with G b (member G k) w)) (first_products b a w k))
+      ∙ ap (λ c. (M b).add (times (M b).add (M b).zero c (product_with G b (member G k) w))
+      (first_products b a w k))
       (h k (omega arith))
       ∙ ap ((M b).add (M b).zero) (no-products b a w k (λ i l. h i (omega arith)))
       ∙ (M b).add-zero (M b).zero

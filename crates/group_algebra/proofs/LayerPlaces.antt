@@ -266,7 +266,8 @@ zero-part ss b m i v layer w h j l =
 -- the members before layer i have places before those of the layer
 pub place-before : (ss : List ℕ) (b m i k : ℕ) → m < b → k < start_at ss i
     → place_of ss b m k < b * start_at ss i
-place-before [] b m i k l h = let z : start_at [] i ≡ 0 = start-end [] i (omega arith) in absurd (omega (arith, z, h))
+place-before [] b m i k l h = let z : start_at [] i ≡ 0 =
+    start-end [] i (omega arith) in absurd (omega (arith, z, h))
 place-before (s ∷ ss) b m zero k l h = absurd (omega arith)
 place-before (s ∷ ss) b m (suc i) k l h =
     let d : b * (s + start_at ss i) ≡ b * s + b * start_at ss i = omega arith in

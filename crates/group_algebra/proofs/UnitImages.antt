@@ -1,5 +1,6 @@
 -- The values of a linear map of free modules at unit rows.
-use Rattle.std.proofs.Common.{◌≡◌, ◌≢◌, ℕ, suc, ◌+◌, ◌*◌, ◌<◌, ◌≤◌, ◌⊎◌, List, length, replicate, inl, inr, arith, ap}
+use Rattle.std.proofs.Common.{◌≡◌, ◌≢◌, ℕ, suc, ◌+◌, ◌*◌, ◌<◌, ◌≤◌, ◌⊎◌, List, length, replicate, inl, inr}
+use Rattle.std.proofs.Common.{arith, ap}
 use Rattle.std.proofs.Common.{sym, ◌∙◌, refl}
 use Rattle.std.proofs.lemmas.Bool.{cases_eq}
 use Rattle.std.proofs.Math.Nat.{mul-le-mul_right}
@@ -23,7 +24,8 @@ use Rattle.group_algebra.specs.Gains.{stepped, GainsImage}
 use Rattle.group_algebra.specs.RowMaps.{map_row}
 use Rattle.group_algebra.specs.Tables.{IsProductRow, EachRow}
 use Rattle.group_algebra.proofs.BlockSums.{block, entry-block, block-is-row, map-is}
-use Rattle.group_algebra.proofs.ImageLemmas.{row-back, zero-table, image-gained, block-product, product-additive}
+use Rattle.group_algebra.proofs.ImageLemmas.{row-back, zero-table, image-gained, block-product}
+use Rattle.group_algebra.proofs.ImageLemmas.{product-additive}
 use Rattle.group_algebra.proofs.ImageLemmas.{zeros-are-row, products-all, no-products}
 use Rattle.group_algebra.proofs.LayerRows.{size-is}
 use Rattle.group_algebra.proofs.Members.{residue-row}
@@ -121,6 +123,7 @@ module _ (G : PGroup) where
       part y = subst (λ p. IsRow p n (block G (length rows) x y)) (residues G)
           (block-is-row G (length rows) x whole y)
 
-      apart : (y t : ℕ) → y < length rows → t < n → place_of (sizes G) (length rows) y t ≡ j → (y ≡ i) × (t ≡ k)
+      apart : (y t : ℕ) → y < length rows → t < n → place_of (sizes G) (length rows) y t ≡ j
+          → (y ≡ i) × (t ≡ k)
       apart y t a h f = place-differs-of (sizes G) (length rows) y t i k a
           (subst (λ z. t < z) (sym (size-is G)) h) o (subst (λ z. k < z) (sym (size-is G)) m) (f ∙ sym e)

@@ -47,8 +47,12 @@ pub(crate) fn write_translate(group: &Group, g: u16, a: RowRef<'_>, out: &mut Ro
     ensures prime { out.new.p ≡ out.old.p }
     ensures translate { IsTranslate group.now g (entries_of a.entry) out.new.entries }
 {
-    let i = group.inv(g);
-    for k in 0..group.order() {
-        out.set(k as usize, a.get(group.mul(i, k) as usize));
+    let _order = group.order();
+    out.clear();
+    let mut k = a.next_place(0);
+    while k < a.len() {
+        out.set(group.mul(g, k as u16) as usize, a.get(k));
+        k = a.next_place(k + 1);
     }
+    let _length = out.len();
 }

@@ -5,7 +5,8 @@ ghost use Rattle.linear_algebra.specs.Modular.{IsCongruent, sum_below};
 ghost use Rattle.linear_algebra.specs.Rows.{entry, IsRow};
 ghost use Rattle.radical_layers.specs.Placing.{size_of, place_of};
 ghost use Rattle.fp_rows.specs.Refs.{entries_of, modulus_of};
-ghost use Rattle.group_algebra.specs.Gains.{stepped, BlockGains, image_entry, GainsImage, IsZeroBlock, BeginsAt};
+ghost use Rattle.group_algebra.specs.Gains.{stepped, BlockGains, image_entry, GainsImage, IsZeroBlock};
+ghost use Rattle.group_algebra.specs.Gains.{BeginsAt};
 
 use crate::places::Places;
 use fp_rows::{Matrix, Row, RowRef, ShortRow};
@@ -157,7 +158,8 @@ fn block_image(
     ensures prime { result.p ≡ modulus_of v.entry.row }
     ensures length { length result.entries ≡ size_of places.now }
     ensures image { (j : ℕ) → j < size_of places.now → IsCongruent result.p (entry result.entries j)
-        (sum_below (size_of places.now) (λ k. entry (entries_of v.entry.row) (place_of places.now rank block k)
+        (sum_below (size_of places.now) (λ k. entry (entries_of v.entry.row)
+        (place_of places.now rank block k)
         * entry (stepped images.entry.rows.now.rows images.entry.first images.entry.step k) j)) }
 {
     let _length = v.row.len();
@@ -196,7 +198,8 @@ fn add_block_image(
     requires short { size_of places.now ≤ 256 }
     ensures prime { out.new.p ≡ out.old.p }
     ensures gains { BlockGains out.old.p places.now rank block
-        (image_entry places.now rank (stepped images.entry.rows.now.rows images.entry.first images.entry.step) c (entries_of v.entry.row) block)
+        (image_entry places.now rank (stepped images.entry.rows.now.rows images.entry.first
+        images.entry.step) c (entries_of v.entry.row) block)
         out.old.entries out.new.entries }
 {
     prove!(out.len() == v.row.len());

@@ -294,12 +294,42 @@ fn applied(
     Ok(out)
 }
 
+// The same at the unit row of place j.
+fn applied_to_unit(
+    rt: &impl Abort,
+    alloc: Global,
+    algebra: &Algebra,
+    rows: (&[u8], &[u8]),
+    j: usize,
+) -> Result<Row, Fail> {
+    let p = algebra.group().prime();
+    let n = algebra.group().order() as usize;
+    assert!(rt; rows.0.len() == n && rows.1.len() == n && j < n * 2);
+    let mut map = Matrix::new(alloc, p, n);
+    map.push(row_of(rt, alloc, p, rows.0)?.view())?;
+    map.push(row_of(rt, alloc, p, rows.1)?.view())?;
+    let mut out = Row::zero(alloc, p, n)?;
+    algebra.apply_to_unit(1, &map, j, &mut out);
+    Ok(out)
+}
+
 // In the algebra of C2, with x = g - 1 and x^2 = 0: x 1 + (1 + x) (1 + x) = 1 + x, and 1 + (1 + x) = x.
 #[test]
 fn applies_maps_given_by_rows(rt: HostRuntime) -> Result<(), Fail> {
     let algebra = algebra_of(&rt, rt.alloc(), TWO)?;
     for (v, value) in [(&[0, 1, 1, 1], &[1, 1]), (&[1, 1, 0, 0], &[0, 1])] {
         let out = applied(&rt, rt.alloc(), &algebra, (&[1, 0], &[1, 1]), v)?;
+        assert!(rt; shows(&out, value));
+    }
+    Ok(())
+}
+
+// There the values at the unit rows are 1, 1 + x, x 1 and x (1 + x).
+#[test]
+fn applies_maps_to_unit_rows(rt: HostRuntime) -> Result<(), Fail> {
+    let algebra = algebra_of(&rt, rt.alloc(), TWO)?;
+    for (j, value) in [(0, &[1, 0]), (1, &[1, 1]), (2, &[0, 1]), (3, &[0, 1])] {
+        let out = applied_to_unit(&rt, rt.alloc(), &algebra, (&[1, 0], &[1, 1]), j)?;
         assert!(rt; shows(&out, value));
     }
     Ok(())

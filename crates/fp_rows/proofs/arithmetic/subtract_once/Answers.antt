@@ -1,4 +1,4 @@
-use Rattle.std.proofs.Common.{◌≡◌, ◌≢◌, ◌+◌, ◌-◌, ◌*◌, ◌%◌, ◌<◌, length, arith, ap, sym, ◌∙◌, below_more}
+use Rattle.std.proofs.Common.{◌≢◌, ◌+◌, ◌-◌, ◌%◌, ◌<◌, length, arith, ap, ◌∙◌, below_more}
 use Rattle.std.proofs.Common.{get_or-set_same, get_or-set_other}
 use Rattle.linear_algebra.specs.Rows.{entry}
 use Rattle.fp_rows.proofs.Primes.{minus_once}

@@ -1,13 +1,17 @@
-use Rattle.std.proofs.Common.{◌≡◌, ◌+◌, ◌≤◌, ◌<◌, length, arith}
+use Rattle.std.proofs.Common.{◌+◌, ◌≤◌, length, arith}
 use Rattle.fp_rows.specs.Numbers.{numbers_of}
-use Rattle.fp_rows.proofs.PartLemmas.{more_added, none_added_more, AreAddedAt}
+use Rattle.fp_rows.proofs.PartLemmas.{more_added, none_added_more}
 use Rattle.fp_rows.proofs.cells.add_at.Goals as goal
-use Rattle.fp_rows.proofs.cells.add_at.Goals.{then-len-done-lt64, else-len-done-lt64, then-word-ne0, else-word-ne0}
+use Rattle.fp_rows.proofs.cells.add_at.Goals.{then-len-done-lt64, else-len-done-lt64, then-word-ne0}
+use Rattle.fp_rows.proofs.cells.add_at.Goals.{else-word-ne0}
 
 pub loop-done-preserved : goal.loop-done-preserved
 loop-done-preserved c =
     let within : c.loop-done.done + c.if-len-done-lt64.count ≤ length (numbers_of c.args.r) =
-    elim c.if-len-done-lt64.branch [ then-len-done-lt64 w ↦ omega arith | else-len-done-lt64 w ↦ omega arith ] in
+    elim c.if-len-done-lt64.branch [
+      | then-len-done-lt64 w ↦ omega arith
+      | else-len-done-lt64 w ↦ omega arith
+    ] in
     elim c.if-word-ne0.branch [
       | then-word-ne0 w ↦ rw w.b-is (more_added c.args.at c.loop-done.done c.if-len-done-lt64.count
           c.word-word.result (numbers_of c.args.r) c.args.b.now c.loop-done.b w.add_word.new.self

@@ -1,6 +1,4 @@
-use Rattle.std.proofs.Common.{◌≡◌, ◌+◌, ◌-◌, length, take, drop}
 use Rattle.group_table.specs.Prime.{prime_value}
-use Rattle.linear_algebra.specs.Rows.{add_multiple}
 use Rattle.fp_rows.specs.Numbers.{numbers_of}
 use Rattle.fp_rows.proofs.PartLemmas.{part_summed}
 use Rattle.fp_rows.proofs.cells.add_part_to_bytes.Goals as goal

@@ -1,4 +1,4 @@
-use Rattle.std.proofs.Common.{◌≡◌, ◌+◌, ◌≤◌, length, arith, sym, ◌∙◌}
+use Rattle.std.proofs.Common.{◌+◌, ◌≤◌, length, arith, ◌∙◌}
 use Rattle.fp_rows.specs.Bits.{bits_of}
 use Rattle.fp_rows.proofs.PartLemmas.{no_bits, zero_so_far}
 use Rattle.fp_rows.proofs.numbers.are_zero.Goals as goal

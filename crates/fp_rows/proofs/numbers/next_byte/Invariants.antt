@@ -1,4 +1,4 @@
-use Rattle.std.proofs.Common.{◌≡◌, ℕ, ◌<◌, ◌≤◌, length}
+use Rattle.std.proofs.Common.{◌≡◌, ℕ, ◌<◌, ◌≤◌}
 use Rattle.linear_algebra.specs.Rows.{entry}
 use Rattle.fp_rows.proofs.numbers.next_byte.Given as goal
 

@@ -1,5 +1,3 @@
-use Rattle.std.proofs.Common.{arith}
-use Rattle.linear_algebra.specs.Rows.{entry}
 use Rattle.fp_rows.proofs.ShortLemmas.{byte_one, byte_zero}
 use Rattle.fp_rows.proofs.short_row.add_bytes_to_words.Goals as goal
 use Rattle.fp_rows.proofs.short_row.add_bytes_to_words.Goals.{then-x-eq1, else-x-eq1}

@@ -1,7 +1,6 @@
-use Rattle.std.proofs.Common.{◌≡◌, ◌+◌, ◌/◌, ◌%◌, ◌<◌, length, arith, ap, sym, ◌∙◌}
+use Rattle.std.proofs.Common.{◌≡◌, ◌+◌, ◌/◌, ◌<◌, length, arith, ap, ◌∙◌}
 use Rattle.fp_rows.specs.Bits.{bits_of}
 use Rattle.fp_rows.specs.Numbers.{numbers_of}
-use Rattle.fp_rows.specs.Places.{place}
 use Rattle.fp_rows.proofs.PlaceLemmas.{length-places, entry-places}
 use Rattle.fp_rows.proofs.short_row.add_to_words.Goals as goal
 

@@ -42,7 +42,8 @@ loop-i-preserved c =
     ∙ ap (entry (entries_of c.args.target)) c.pivot.ensures.place in
     elim c.if-c-ne0.branch [
       | then-c-ne0 w ↦
-          let rr : IsRow P c.args.n r = rw (c.requires.primes.1, c.requires.widths.1) at w.row.ensures.is_row in
+          let rr : IsRow P c.args.n r = rw
+          (c.requires.primes.1, c.requires.widths.1) at w.row.ensures.is_row in
           let e : c.if-c-ne0.u.entries ≡ add_multiple P c.get-c.result c.loop-i.u.entries r =
           ap (λ (v : RowValue). v.entries) w.u-is
           ∙ (rw (w.add.ensures, c.loop-i.invariant.prime, w.row.ensures.entries) refl) in

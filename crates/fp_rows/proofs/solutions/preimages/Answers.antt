@@ -1,4 +1,3 @@
-use Rattle.std.proofs.Common.{◌≡◌}
 use mathlib.Core.Path.{subst}
 use Rattle.linear_algebra.specs.Choices.{ArePreimages}
 use Rattle.linear_algebra.proofs.Laws.{kernel_is_one}

@@ -35,7 +35,8 @@ loop-k-preserved c =
     record {
       within = c.next_place-k-in-loop-k.ensures.within;
       added = images-to c.args.sum.now.p c.args.sum.now.entries (λ k j. entry a k * entry (R k) j)
-          (c.loop-k.k + 1) c.next_place-k-in-loop-k.result c.add.new.self c.next_place-k-in-loop-k.ensures.after A
+          (c.loop-k.k + 1) c.next_place-k-in-loop-k.result c.add.new.self
+          c.next_place-k-in-loop-k.ensures.after A
           (λ i l m j. let z : entry a i ≡ 0 = c.next_place-k-in-loop-k.ensures.before i l m in
           rw z (omega arith));
     }

@@ -1,4 +1,5 @@
-use Rattle.std.proofs.Common.{◌≡◌, ℕ, List, ◌+◌, ◌*◌, ◌<◌, ◌≤◌, get_or, length, slice_range, arith, ap, sym, ◌∙◌, refl}
+use Rattle.std.proofs.Common.{◌≡◌, ℕ, List, ◌+◌, ◌*◌, ◌<◌, ◌≤◌, get_or, length, slice_range, arith, ap, sym}
+use Rattle.std.proofs.Common.{◌∙◌, refl}
 use Rattle.fp_rows.specs.Parts.{GainsPart}
 use Rattle.fp_rows.specs.Refs.{entries_of}
 use Rattle.fp_rows.specs.Values.{RowValue}
@@ -35,7 +36,8 @@ loop-i-preserved c =
     (sym (start-next c.args.places.now c.loop-i.i layer)) in
     elim c.if-first-start.branch [
       | then-first-start w ↦
-          let G : GainsPart c.args.out.now.p at c.args.c part c.loop-i.out.entries w.add_part.new.self.entries =
+          let G : GainsPart c.args.out.now.p at c.args.c part c.loop-i.out.entries
+          w.add_part.new.self.entries =
           rw (
             w.part.ensures.entries,
             w.layer_place-at.ensures.value,

@@ -15,7 +15,8 @@ use Rattle.group_algebra.proofs.combinations.block_image.Goals as goal
 
 -- products with zeros
 no-terms : (n : ℕ) (x y : ℕ → ℕ) → ((k : ℕ) → k < n → x k ≡ 0) → sum_below n (λ k. x k * y k) ≡ 0
-no-terms n x y h = sum_below-same n (λ k. x k * y k) (λ k. 0) (λ k l. rw (h k l) (omega arith)) ∙ sum_below-zero n
+no-terms n x y h = sum_below-same n (λ k. x k * y k) (λ k. 0) (λ k l. rw (h k l) (omega arith))
+    ∙ sum_below-zero n
 
 pub loop-i-init : goal.loop-i-init
 loop-i-init c = record {

@@ -9,7 +9,8 @@ pub returns-then-first-rank-clause-begins : goal.returns-then-first-rank-clause-
 returns-then-first-rank-clause-begins c = record {
   within = omega (arith, c.loop-layer-test.true, c.layers-layer-end.ensures);
   start_is = c.loop-layer.invariant.0;
-  zero = λ i k l m. c.next_place-first.ensures.before (place_of c.args.places.now c.args.rank i k) (omega arith)
+  zero = λ i k l m. c.next_place-first.ensures.before (place_of c.args.places.now c.args.rank i k)
+      (omega arith)
       (let p : place_of c.args.places.now c.args.rank i k
       < c.args.rank * start_at c.args.places.now c.loop-layer.layer =
       place-before c.args.places.now c.args.rank i c.loop-layer.layer k l

@@ -16,7 +16,8 @@ loop-j-preserved c =
     let same : order_of c.args.algebra.now * length c.args.rows.now.rows ≡ dimension =
     ap₂ (λ m n. m * n) (ap order_of (sym c.group.ensures) ∙ sym c.order.ensures.value)
     (sym c.rows.ensures.count) in
-    let value : c.apply_to_unit.new.out.entries ≡ map_row c.args.algebra.now c.args.target c.args.rows.now.rows
+    let value : c.apply_to_unit.new.out.entries
+    ≡ map_row c.args.algebra.now c.args.target c.args.rows.now.rows
     (unit_row dimension c.loop-j.j) =
     c.apply_to_unit.ensures.value
     ∙ ap (λ n. map_row c.args.algebra.now c.args.target c.args.rows.now.rows (unit_row n c.loop-j.j)) same in

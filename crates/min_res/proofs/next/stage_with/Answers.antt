@@ -141,5 +141,6 @@ returns-clause-stage c =
     c.in_ok-solved.ensures.primes.1 c.in_ok-solved.ensures.widths.1
     (subst (λ E. ArePreimages M.p M.rows E c.args.last.now.kernel.rows c.in_ok-solved.solved.preimages.rows)
     list-rows
-    (subst (λ E. ArePreimages M.p M.rows c.in_ok-solved.solved.kernel.rows E c.in_ok-solved.solved.preimages.rows)
+    (subst (λ E. ArePreimages M.p M.rows c.in_ok-solved.solved.kernel.rows E
+    c.in_ok-solved.solved.preimages.rows)
     (ap (λ (m : MatrixValue). m.rows) (c.deref-2.ensures ∙ source)) c.in_ok-solved.ensures.preimages))

@@ -1,10 +1,7 @@
-use Rattle.std.proofs.Common.{◌≡◌, ℕ, ◌<◌, ◌+◌, List, length, arith, ap, sym, ◌∙◌, refl}
-use mathlib.Core.Path.{subst}
+use Rattle.std.proofs.Common.{ℕ, ◌<◌, arith}
 use Rattle.group_table.specs.Prime.{prime_value}
-use Rattle.linear_algebra.specs.Rows.{entry, IsRow}
 use Rattle.fp_rows.specs.Cells.{cells_of}
 use Rattle.fp_rows.specs.Numbers.{numbers_of}
-use Rattle.fp_rows.specs.Values.{RowValue}
 use Rattle.fp_rows.proofs.ListLemmas.{row_at_length}
 use Rattle.fp_rows.proofs.PartLemmas.{part_is_row}
 use Rattle.fp_rows.proofs.Primes.{prime_above_one}

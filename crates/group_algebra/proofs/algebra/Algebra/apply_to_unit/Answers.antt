@@ -39,7 +39,8 @@ add_image-requires-clause-lengths c =
     ap size_of c.self.invariant.sizes_are ∙ size-is c.self.inside.group in
     let wide : c.args.rows.now.width ≡ order c.self.inside.group.table * c.args.rank =
     rw (← c.self.view_is) at c.requires.rows_width in (
-      ap length c.row-row.ensures.entries ∙ c.row-row.ensures.is_row.length_is ∙ wide ∙ ap (λ k. k * c.args.rank) (sym size),
+      ap length c.row-row.ensures.entries ∙ c.row-row.ensures.is_row.length_is ∙ wide
+          ∙ ap (λ k. k * c.args.rank) (sym size),
       (ap (λ r. length r.entries) c.clear.ensures ∙ length-replicate (length c.args.out.now.entries) 0
           ∙ (rw (← c.self.view_is) at c.requires.out_length)) ∙ ap (λ k. k * c.args.rank) (sym size),
     )
@@ -94,7 +95,8 @@ returns-clause-value c =
     (row rows i) (replicate (order G.table * b) 0) c.add_image.new.out.entries
     = rw (p, zeros, c.order.ensures.value, c.row-row.ensures.entries) at c.add_image.ensures.gains in
     let r : IsRow G.table.p (order G.table * b) (row rows i) =
-    rw (← c.self.view_is) at (rw (c.requires.rows_prime, c.requires.rows_width) at c.row-row.ensures.is_row) in
+    rw (← c.self.view_is) at (rw (c.requires.rows_prime, c.requires.rows_width) at c.row-row.ensures.is_row)
+    in
     let l : k < order G.table = subst (λ m. k < m) size c.location-location.ensures.member in
     let o : i < length rows = rw c.rows.ensures.count at c.location-location.ensures.block in
     let e : place_of (sizes G) (length rows) i k ≡ c.args.j =
@@ -103,6 +105,7 @@ returns-clause-value c =
     let j : c.args.j < order G.table * length rows = rw (← c.self.view_is) at c.requires.place in
     subst (λ (X : PGroup). c.add_image.new.out.entries
     ≡ map_row X b rows (unit_row (order X.table * length rows) c.args.j)) c.self.view_is
-    (multiplied G c.self.inside.products.rows c.self.invariant.product_shape.rows c.self.invariant.products_are
+    (multiplied G c.self.inside.products.rows c.self.invariant.product_shape.rows
+    c.self.invariant.products_are
     b k c.self.inside.places (row rows i) c.add_image.new.out.entries c.self.invariant.sizes_are l r C
     ∙ sym (unit-value G b rows c.args.j i k j o l e))

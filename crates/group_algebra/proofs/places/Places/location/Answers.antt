@@ -1,4 +1,5 @@
-use Rattle.std.proofs.Common.{◌≡◌, ℕ, zero, suc, ◌+◌, ◌-◌, ◌*◌, ◌/◌, ◌%◌, ◌≤◌, ◌<◌, get_or, length, arith, ap, sym, ◌∙◌}
+use Rattle.std.proofs.Common.{◌≡◌, ℕ, zero, suc, ◌+◌, ◌-◌, ◌*◌, ◌/◌, ◌%◌, ◌≤◌, ◌<◌, get_or, length, arith, ap}
+use Rattle.std.proofs.Common.{sym, ◌∙◌}
 use Rattle.std.proofs.lemmas.Nat.{mod_below}
 use Rattle.radical_layers.specs.Placing.{place_of, size_of}
 use Rattle.group_algebra.specs.Places.{start_at}
@@ -17,7 +18,8 @@ returns-then-place-rank-clause-place c =
     rw (c.loop-layer.invariant.0, c.size-size.ensures.value) at c.if-place-rank.true in
     let inside : ℕ = c.args.place - c.args.rank * S in
     let d : c.args.rank * (S + s) ≡ c.args.rank * S + c.args.rank * s = omega arith in
-    let some : 0 < s = positive c.args.rank s (c.args.place - c.args.rank * S) (omega (arith, low, high, d)) in
+    let some : 0 < s = positive c.args.rank s (c.args.place - c.args.rank * S) (omega
+    (arith, low, high, d)) in
     rw (c.loop-layer.invariant.0, c.size-size.ensures.value)
     (place-in-layer c.args.self.now c.args.rank ((c.args.place - c.args.rank * S) / s) c.loop-layer.layer
     ((c.args.place - c.args.rank * S) % s) layer (mod_below (c.args.place - c.args.rank * S) s some)
