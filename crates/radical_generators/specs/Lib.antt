@@ -1,0 +1,3 @@
+pub mod FirstLayer
+pub mod Images
+pub mod Claims
