@@ -1,13 +1,16 @@
 -- Presentations that agree in more and more words, and at last are equal.
-use Rattle.std.proofs.Common.{◌≡◌, ◌≢◌, ◌∙◌, ◌⊎◌, inl, inr, ℕ, ◌+◌, ◌-◌, ◌<◌, ◌≤◌, List, [], length, get_or, set, refl, sym, ap, subst, arith, get_or-set_same, get_or-set_other}
+use Rattle.std.proofs.Common.{◌≡◌, ◌≢◌, ◌∙◌, ◌⊎◌, inl, inr, ℕ, ◌+◌, ◌-◌, ◌<◌, ◌≤◌, List, [], length, get_or}
+use Rattle.std.proofs.Common.{set, refl, sym, ap, subst, arith, get_or-set_same, get_or-set_other}
 use Rattle.std.proofs.lemmas.List.{ext_get_or}
-use Rattle.power_commutator.specs.Presentations.{Presentation, IsPresentation, IsWord, commutator_word, power_word}
+use Rattle.power_commutator.specs.Presentations.{Presentation, IsPresentation, IsWord, commutator_word}
+use Rattle.power_commutator.specs.Presentations.{power_word}
 use Rattle.power_commutator.proofs.Cyclic.{less-or}
 use Rattle.pc_group.specs.Parts.{elementary_abelian, with_power, with_commutator}
 use Rattle.pc_group.proofs.MadeParts.{elementary-valid, with_power-valid, with_commutator-valid}
 use Rattle.coho_main.specs.Products.{Agrees}
 
--- P agrees with Q in the words of powers, in those of [g_m, g_k] for m < j, and in those of [g_j, g_k] for k < i
+-- P agrees with Q in the words of powers, in those of [g_m, g_k] for m < j, and in those of [g_j, g_k] for
+-- each k below i
 abbrev pub RowAgrees : Presentation → (j i : ℕ) → Presentation → Type 0
 RowAgrees Q j i P = Agrees Q Q.gens (j - 1) P
     × ((k : ℕ) → 0 < k → k < i → commutator_word P j k ≡ commutator_word Q j k)
@@ -29,7 +32,8 @@ module _ (Q : Presentation) (V : IsPresentation Q) where
       subst (IsWord P.prime P.gens i) (sym e)
       (subst (λ p. IsWord p P.gens i u) (sym prime) (subst (λ n. IsWord Q.prime n i u) (sym gens) W))
 
-  module _ (P : Presentation) (i : ℕ) (w : List ℕ) (h : Agrees Q (i - 1) 0 P) (low : 0 < i) (high : i ≤ Q.gens)
+  module _ (P : Presentation) (i : ℕ) (w : List ℕ) (h : Agrees Q (i - 1) 0 P) (low : 0 < i)
+      (high : i ≤ Q.gens)
       (is : w ≡ power_word Q i) where
     pub power_fits : IsWord P.prime P.gens i w
     power_fits = word_of P i w (power_word Q i) h.prime h.gens is (V.power i low high)
@@ -43,7 +47,8 @@ module _ (Q : Presentation) (V : IsPresentation Q) where
         let c = h.valid.power-count in
         let g = h.gens in
         ap (power_word (with_power P i w)) e
-        ∙ get_or-set_same P.powers (i - 1) w [] (omega (arith, low, high, c, g)) ∙ is ∙ ap (power_word Q) (sym e)
+        ∙ get_or-set_same P.powers (i - 1) w [] (omega (arith, low, high, c, g)) ∙ is
+        ∙ ap (power_word Q) (sym e)
 
     pub power_agrees : Agrees Q i 0 (with_power P i w)
     power_agrees = record {
@@ -60,7 +65,8 @@ module _ (Q : Presentation) (V : IsPresentation Q) where
   module _ (P : Presentation) (j i : ℕ) (w : List ℕ) (h : RowAgrees Q j i P) (low : 0 < i) (less : i < j)
       (high : j ≤ Q.gens) (is : w ≡ commutator_word Q j i) where
     pub commutator_fits : IsWord P.prime P.gens j w
-    commutator_fits = word_of P j w (commutator_word Q j i) h.0.prime h.0.gens is (V.commutator j i low less high)
+    commutator_fits = word_of P j w (commutator_word Q j i) h.0.prime h.0.gens is
+        (V.commutator j i low less high)
 
     abbrev row : List (List ℕ)
     row = get_or P.commutators (j - 1) []
@@ -82,7 +88,8 @@ module _ (Q : Presentation) (V : IsPresentation Q) where
         → commutator_word (with_commutator P j i w) m k ≡ commutator_word Q m k
     other_at m k a b c =
         let ne : m - 1 ≢ j - 1 = λ e. omega (arith, e, a, b, c) in
-        ap (λ r. get_or r (k - 1) []) (get_or-set_other P.commutators (j - 1) (m - 1) (set row (i - 1) w) [] ne)
+        ap (λ r. get_or r (k - 1) [])
+        (get_or-set_other P.commutators (j - 1) (m - 1) (set row (i - 1) w) [] ne)
         ∙ h.0.commutators m k a b c
 
     row_at : (k : ℕ) → 0 < k → k < i + 1 → (k < i) ⊎ (i ≤ k)
@@ -94,7 +101,8 @@ module _ (Q : Presentation) (V : IsPresentation Q) where
         let e : k ≡ i = omega (arith, b, l) in
         let c = row_count in
         ap (λ r. get_or r (k - 1) []) row_is ∙ ap (λ k. get_or (set row (i - 1) w) (k - 1) []) e
-        ∙ get_or-set_same row (i - 1) w [] (omega (arith, low, less, c)) ∙ is ∙ ap (commutator_word Q j) (sym e)
+        ∙ get_or-set_same row (i - 1) w [] (omega (arith, low, less, c)) ∙ is
+        ∙ ap (commutator_word Q j) (sym e)
 
     pub row_agrees : RowAgrees Q j (i + 1) (with_commutator P j i w)
     row_agrees = (
@@ -117,11 +125,13 @@ module _ (Q : Presentation) (V : IsPresentation Q) where
     commutators = λ m k a b c. at m k a b c (less-or m j);
   }
     where
-      at : (m k : ℕ) → 0 < k → k < m → m ≤ j → (m < j) ⊎ (j ≤ m) → commutator_word P m k ≡ commutator_word Q m k
+      at : (m k : ℕ) → 0 < k → k < m → m ≤ j → (m < j) ⊎ (j ≤ m)
+          → commutator_word P m k ≡ commutator_word Q m k
       at m k a b c (inl l) = h.0.commutators m k a b (omega (arith, l))
       at m k a b c (inr l) =
           let e : m ≡ j = omega (arith, c, l) in
-          ap (λ m. commutator_word P m k) e ∙ h.1 k a (omega (arith, b, e)) ∙ ap (λ m. commutator_word Q m k) (sym e)
+          ap (λ m. commutator_word P m k) e ∙ h.1 k a (omega (arith, b, e))
+          ∙ ap (λ m. commutator_word Q m k) (sym e)
 
   -- ---- where all words agree
 
@@ -150,7 +160,8 @@ module _ (Q : Presentation) (V : IsPresentation Q) where
           let a = h.valid.row-count (j + 1) (omega arith) (omega (arith, l, g)) in
           let b = V.row-count (j + 1) (omega arith) (omega (arith, l)) in
           subst (λ m. get_or P.commutators m [] ≡ get_or Q.commutators m []) (one_less j)
-          (ext_get_or [] (get_or P.commutators (j + 1 - 1) []) (get_or Q.commutators (j + 1 - 1) []) (a ∙ sym b)
+          (ext_get_or [] (get_or P.commutators (j + 1 - 1) []) (get_or Q.commutators (j + 1 - 1) []) (a
+          ∙ sym b)
           (λ i k. subst (λ n. get_or (get_or P.commutators (j + 1 - 1) []) n []
           ≡ get_or (get_or Q.commutators (j + 1 - 1) []) n []) (one_less i)
           (h.commutators (j + 1) (i + 1) (omega arith) (omega (arith, k, a)) (omega (arith, l, to)))))

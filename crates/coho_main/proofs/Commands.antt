@@ -1,5 +1,7 @@
 -- The command of the words, by its name and the words after it.
-use Rattle.std.proofs.Common.{◌≡◌, ◌∙◌, ◌⊎◌, inl, inr, Bool, true, false, not, ◌&&◌, ◌==◌, ℕ, List, [], ◌∷◌, length, slice_index_or, drop, string_bytes, String, Global, ◌<◌, ◌≤◌, cond, sym, ap, subst, refl, codes, arith, true≢false}
+use Rattle.std.proofs.Common.{◌≡◌, ◌∙◌, ◌⊎◌, inl, inr, Bool, true, false, not, ◌&&◌, ◌==◌, ℕ, List, [], ◌∷◌}
+use Rattle.std.proofs.Common.{length, slice_index_or, drop, string_bytes, String, Global, ◌<◌, ◌≤◌, cond, sym}
+use Rattle.std.proofs.Common.{ap, subst, refl, codes, arith, true≢false}
 use Rattle.std.proofs.lemmas.Slice.Eq.{bytes_eq-Decides}
 use Rattle.std.proofs.lemmas.Bool.Decides.{nat_tests}
 use Rattle.std.specs.declared.option.Option.{Option}
@@ -237,13 +239,15 @@ pub dashed_is : (words : List Text) → list_all is_path words ≡ false → com
 dashed_is [] h = refl
 dashed_is (name ∷ []) h = refl
 dashed_is (name ∷ a ∷ []) h =
-    let dashed = λ (known : Text) (k : is_path known ≡ true) (e : bytes_eq name known ≡ true). after_name name known (a ∷ []) h k e in
+    let dashed = λ (known : Text) (k : is_path known ≡ true) (e : bytes_eq name known ≡ true).
+    after_name name known (a ∷ []) h k e in
     unless (bytes_eq name (codes "group")) (is_path a) (Some (Group a)) _
     (λ e p. absurd (true≢false (after_file a [] (dashed (codes "group") refl e) p)))
     (unless_named (bytes_eq name (codes "sample")) (option_map Sample (numeral 0 GREATEST_SAMPLE a)) None
     (λ e. ap (option_map Sample) (dash_first 0 GREATEST_SAMPLE a (ends a (dashed (codes "sample") refl e)))) refl)
 dashed_is (name ∷ a ∷ b ∷ []) h =
-    let no_degree = λ (known : Text) (k : is_path known ≡ true) (e : bytes_eq name known ≡ true) (p : is_path a ≡ true). dash_first 1 GREATEST_DEGREE b (ends b (after_file a (b ∷ []) (after_name name known (a ∷ b ∷ []) h k e) p)) in
+    let no_degree = λ (known : Text) (k : is_path known ≡ true) (e : bytes_eq name known ≡ true)
+    (p : is_path a ≡ true). dash_first 1 GREATEST_DEGREE b (ends b (after_file a (b ∷ []) (after_name name known (a ∷ b ∷ []) h k e) p)) in
     unless (bytes_eq name (codes "resolve")) (is_path a)
     (option_map (Resolve a) (numeral 1 GREATEST_DEGREE b)) _
     (λ e p. ap (option_map (Resolve a)) (no_degree (codes "resolve") refl e p))
@@ -365,7 +369,8 @@ module _ (words rest : List Text) (plain : list_all is_path words ≡ true) (nam
   at_value e = subst (λ ws. command ws ≡ of_place (file_and_place ws)) (sym first)
       (value_is name rest (subst (λ ws. list_all is_path ws ≡ true) first plain) e)
 
-  pub at_sample : bytes_eq name (codes "sample") ≡ true → command words ≡ option_map Sample (sample_number words)
+  pub at_sample : bytes_eq name (codes "sample") ≡ true
+      → command words ≡ option_map Sample (sample_number words)
   at_sample e = subst (λ ws. command ws ≡ option_map Sample (sample_number ws)) (sym first)
       (sample_is name rest (subst (λ ws. list_all is_path ws ≡ true) first plain) e)
 

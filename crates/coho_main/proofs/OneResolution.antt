@@ -2,7 +2,8 @@
 use Rattle.std.proofs.Common.{◌≡◌, ◌∙◌, ◌⊎◌, inl, inr, ℕ, suc, ◌<◌, List, ap, refl, sym, arith}
 use Rattle.p_groups.specs.PGroups.{PGroup}
 use Rattle.coho_main.specs.Refusals.{stage_refused}
-use Rattle.coho_main.specs.Stages.{Summary, stages_below, dimension, Fit, IsFirstAbove, AreStagesTo, IsStageRefusal}
+use Rattle.coho_main.specs.Stages.{Summary, stages_below, dimension, Fit, IsFirstAbove, AreStagesTo}
+use Rattle.coho_main.specs.Stages.{IsStageRefusal}
 use Rattle.coho_main.specs.Steps.{Refusal}
 use Rattle.coho_main.proofs.Proper.{IsDecided}
 use Rattle.coho_main.proofs.StagesExist.{fit_or_first}
@@ -62,7 +63,8 @@ stages_decided n = record {
   keeps = λ G q a e. let is = a.3 in let no = sym (ap (λ (q : Refusal). q.status) is) ∙ e in cc;
 }
 
-pub fit_decided : (n : ℕ) → IsDecided ⊥ (λ G (x : Unit {0}). Fit G n) (λ G refusal. IsStageRefusal G n refusal)
+pub fit_decided : (n : ℕ)
+    → IsDecided ⊥ (λ G (x : Unit {0}). Fit G n) (λ G refusal. IsStageRefusal G n refusal)
 fit_decided n = record {
   one_value = λ G x y a b. refl;
   one_refusal = λ G q r a b. one_refused G n q r a b;

@@ -1,6 +1,7 @@
 -- Words and files have one outcome, which has the status of the words where they are not those of a command, and
 -- else only for those of `value`.
-use Rattle.std.proofs.Common.{◌≡◌, ◌∙◌, ◌⊎◌, inl, inr, ℕ, ◌+◌, List, [], ◌∷◌, codes, length, nat_le, take, refl, sym, ap, subst}
+use Rattle.std.proofs.Common.{◌≡◌, ◌∙◌, ◌⊎◌, inl, inr, ℕ, ◌+◌, List, [], ◌∷◌, codes, length, nat_le, take}
+use Rattle.std.proofs.Common.{refl, sym, ap, subst}
 use Rattle.std.specs.Prelude.{⊤}
 use Rattle.std.specs.List.{find}
 use Rattle.std.specs.declared.option.Option.{Option}
@@ -20,9 +21,12 @@ use Rattle.power_commutator.specs.Presentations.{Presentation, first_fault}
 use Rattle.coho_report.specs.Lines.{report_lines}
 use Rattle.coho_main.specs.declared.status.Status.TheVariants as status
 use Rattle.coho_main.specs.Groups.{IsTableOf}
-use Rattle.coho_main.specs.Outcome.{Ask, ReadFront, ReadText, FitLength, OrFault, FitOrder, UnlessFalse, Accept}
-use Rattle.coho_main.specs.Outcome.{Load, Layers, Stages, FitStages, Report, FitElements, UnlessElement, FitClass}
-use Rattle.coho_main.specs.Outcome.{Evaluate, Given, order, line, Answer, AnswerGroup, AnswerResolve, AnswerRing}
+use Rattle.coho_main.specs.Outcome.{Ask, ReadFront, ReadText, FitLength, OrFault, FitOrder, UnlessFalse}
+use Rattle.coho_main.specs.Outcome.{Accept}
+use Rattle.coho_main.specs.Outcome.{Load, Layers, Stages, FitStages, Report, FitElements, UnlessElement}
+use Rattle.coho_main.specs.Outcome.{FitClass}
+use Rattle.coho_main.specs.Outcome.{Evaluate, Given, order, line, Answer, AnswerGroup, AnswerResolve}
+use Rattle.coho_main.specs.Outcome.{AnswerRing}
 use Rattle.coho_main.specs.Outcome.{AnswerValue, AnswerSample, Reply, Comes, group_lines, stage_lines}
 use Rattle.coho_main.specs.Outcome.{Ending, ending, Outcome}
 use Rattle.coho_main.specs.Refusals.{read_refused, words_refused}
@@ -32,7 +36,8 @@ use Rattle.coho_main.specs.Words.{AskForValue, Command, Group, Resolve, Ring, Va
 use Rattle.coho_main.proofs.Loads.{after_length, after_order, after_text}
 use Rattle.coho_main.proofs.OneResolution.{fit_decided, stages_decided}
 use Rattle.coho_main.proofs.OneValue.{class_decided, value_decided}
-use Rattle.coho_main.proofs.Proper.{Ends, IsDecided, IsFunctional, IsProper, gives, loose, on_group, or_refuse}
+use Rattle.coho_main.proofs.Proper.{Ends, IsDecided, IsFunctional, IsProper, gives, loose, on_group}
+use Rattle.coho_main.proofs.Proper.{or_refuse}
 use Rattle.coho_main.proofs.Proper.{refuse_if, refuses, then, then_ends, then_one, weaker}
 use Rattle.coho_main.proofs.Replies.{after_class, after_elements, after_fit, after_sample_fit, after_stages}
 use Rattle.coho_main.proofs.Replies.{group_answer, report_answer, sample_answer, stage_answer, value_answer}
@@ -116,7 +121,8 @@ given (Ring path n) = load path
 given (Value path k es) = load path
 given (Sample k) = accept (sample k)
 
-given_loaded : (asked : Command) (P : Presentation) (old new : Content) → Given asked old (Ok P) new → IsLoaded P
+given_loaded : (asked : Command) (P : Presentation) (old new : Content) → Given asked old (Ok P) new
+    → IsLoaded P
 given_loaded (Group path) = loaded path
 given_loaded (Resolve path n) = loaded path
 given_loaded (Ring path n) = loaded path

@@ -1,8 +1,11 @@
 -- The words of a direct product, and that they keep the rules for words.
-use Rattle.std.proofs.Common.{◌≡◌, ◌∙◌, ◌⊎◌, inl, inr, ℕ, ◌+◌, ◌-◌, ◌<◌, ◌≤◌, List, [], ◌++◌, map, length, get_or, replicate, refl, sym, ap, subst, arith}
-use Rattle.std.proofs.lemmas.List.{get_or_append_left, get_or-append_right, get_or-map, get_or-replicate, length-append, length-map, length-replicate}
+use Rattle.std.proofs.Common.{◌≡◌, ◌∙◌, ◌⊎◌, inl, inr, ℕ, ◌+◌, ◌-◌, ◌<◌, ◌≤◌, List, [], ◌++◌, map, length}
+use Rattle.std.proofs.Common.{get_or, replicate, refl, sym, ap, subst, arith}
+use Rattle.std.proofs.lemmas.List.{get_or_append_left, get_or-append_right, get_or-map, get_or-replicate}
+use Rattle.std.proofs.lemmas.List.{length-append, length-map, length-replicate}
 use Rattle.std.proofs.lemmas.List.Elements.{All-append}
-use Rattle.power_commutator.specs.Presentations.{Presentation, IsPresentation, IsWord, commutator_word, identity, power_word}
+use Rattle.power_commutator.specs.Presentations.{Presentation, IsPresentation, IsWord, commutator_word}
+use Rattle.power_commutator.specs.Presentations.{identity, power_word}
 use Rattle.power_commutator.proofs.Cyclic.{less-or}
 use Rattle.pc_group.proofs.MadeParts.{identity-word}
 use Rattle.coho_main.specs.Products.{direct_product}
@@ -23,7 +26,8 @@ word_before p n j m w positive W = record {
     at k l (inr a) = get_or-append_right w (identity m) (length w) k 0 refl a
         ∙ empty.later (k - length w) (omega (arith, l))
 
-pub word_after : (p n j m : ℕ) (w : List ℕ) → 0 < p → IsWord p n j w → IsWord p (m + n) (m + j) (identity m ++ w)
+pub word_after : (p n j m : ℕ) (w : List ℕ) → 0 < p → IsWord p n j w
+    → IsWord p (m + n) (m + j) (identity m ++ w)
 word_after p n j m w positive W = record {
   len = length-append (identity m) w ∙ (let a = W.len in let b = empty.len in omega arith);
   small = All-append (λ e. e < p) (identity m) w empty.small W.small;
@@ -36,7 +40,8 @@ word_after p n j m w positive W = record {
     at : (k : ℕ) → k < m + j → (k < m) ⊎ (m ≤ k) → get_or (identity m ++ w) k 0 ≡ 0
     at k l (inl a) =
         get_or_append_left (identity m) w 0 k (let b = empty.len in omega (arith, a, b)) ∙ empty.later k a
-    at k l (inr a) = get_or-append_right (identity m) w m k 0 empty.len a ∙ W.later (k - m) (omega (arith, l, a))
+    at k l (inr a) = get_or-append_right (identity m) w m k 0 empty.len a
+        ∙ W.later (k - m) (omega (arith, l, a))
 
 module _ (P Q : Presentation) (V : IsPresentation P) (W : IsPresentation Q) where
   abbrev left_word : List ℕ → List ℕ
@@ -67,7 +72,8 @@ module _ (P Q : Presentation) (V : IsPresentation P) (W : IsPresentation Q) wher
   left_power i low high =
       let c = power_left_count in
       let d = V.power-count in
-      get_or_append_left (map left_word P.powers) (map right_word Q.powers) [] (i - 1) (omega (arith, low, high, c))
+      get_or_append_left (map left_word P.powers) (map right_word Q.powers) [] (i - 1)
+      (omega (arith, low, high, c))
       ∙ get_or-map left_word P.powers (i - 1) [] [] (omega (arith, low, high, d))
 
   pub right_power : (i : ℕ) → P.gens < i → i ≤ P.gens + Q.gens
@@ -75,7 +81,8 @@ module _ (P Q : Presentation) (V : IsPresentation P) (W : IsPresentation Q) wher
   right_power i low high =
       let d = W.power-count in
       let e : (i - 1) - P.gens ≡ (i - P.gens) - 1 = omega arith in
-      get_or-append_right (map left_word P.powers) (map right_word Q.powers) P.gens (i - 1) [] power_left_count
+      get_or-append_right (map left_word P.powers) (map right_word Q.powers) P.gens
+      (i - 1) [] power_left_count
       (omega (arith, low))
       ∙ get_or-map right_word Q.powers ((i - 1) - P.gens) [] [] (omega (arith, low, high, d))
       ∙ ap (λ k. right_word (get_or Q.powers k [])) e
@@ -125,7 +132,8 @@ module _ (P Q : Presentation) (V : IsPresentation P) (W : IsPresentation Q) wher
       let c = W.row-count (j - P.gens) (omega (arith, low, less)) (omega (arith, high)) in
       let e : (i - 1) - P.gens ≡ (i - P.gens) - 1 = omega arith in
       ap (λ row. get_or row (i - 1) []) (right_row_is j (omega (arith, low, less)) high)
-      ∙ get_or-append_right (replicate P.gens empty) (map right_word (row_of Q (j - P.gens))) P.gens (i - 1) []
+      ∙ get_or-append_right (replicate P.gens empty) (map right_word (row_of Q (j - P.gens))) P.gens
+      (i - 1) []
       (length-replicate P.gens empty) (omega (arith, low))
       ∙ get_or-map right_word (row_of Q (j - P.gens)) ((i - 1) - P.gens) [] [] (omega (arith, low, less, c))
       ∙ ap (λ k. right_word (get_or (row_of Q (j - P.gens)) k [])) e
@@ -145,7 +153,8 @@ module _ (P Q : Presentation) (V : IsPresentation P) (W : IsPresentation Q) wher
         → IsWord P.prime (P.gens + Q.gens) i (power_word (direct_product P Q) i)
     power_valid i low high = at (less-or P.gens i)
       where
-        at : (P.gens < i) ⊎ (i ≤ P.gens) → IsWord P.prime (P.gens + Q.gens) i (power_word (direct_product P Q) i)
+        at : (P.gens < i) ⊎ (i ≤ P.gens)
+            → IsWord P.prime (P.gens + Q.gens) i (power_word (direct_product P Q) i)
         at (inl l) = subst (IsWord P.prime (P.gens + Q.gens) i) (sym (right_power i l high))
             (right_valid i i (power_word Q (i - P.gens)) (omega (arith, l))
             (W.power (i - P.gens) (omega (arith, l)) (omega (arith, high))))

@@ -63,7 +63,8 @@ refuses {A} {U} q other = record {
   ends = λ old. (Err q, old, (refl, refl));
 }
 
-pub or_refuse : {A : Type 0} (q : Refusal) (o : Option A) → q.status ≢ status.Usage → IsProper ⊥ (OrRefuse q o)
+pub or_refuse : {A : Type 0} (q : Refusal) (o : Option A) → q.status ≢ status.Usage
+    → IsProper ⊥ (OrRefuse q o)
 or_refuse q None other = refuses q other
 or_refuse q (Some x) other = gives x
 

@@ -1,5 +1,6 @@
 -- The answers to commands, as the calls make them.
-use Rattle.std.proofs.Common.{◌≡◌, ◌∙◌, List, [], ◌∷◌, codes, length, ℕ, Vec, Global, refl, ap, sym, subst, inl}
+use Rattle.std.proofs.Common.{◌≡◌, ◌∙◌, List, [], ◌∷◌, codes, length, ℕ, Vec, Global, refl, ap, sym, subst}
+use Rattle.std.proofs.Common.{inl}
 use Rattle.std.proofs.Common.{inr}
 use Rattle.std.specs.List.{Contains}
 use Rattle.std.specs.declared.option.Option.{Option}
@@ -14,7 +15,8 @@ use Rattle.power_commutator.specs.Presentations.{Presentation}
 use Rattle.coho_main.specs.declared.stop.Stop.{Stop}
 use Rattle.coho_main.specs.declared.words.Command.{Command as Named}
 use Rattle.coho_main.specs.Groups.{ForGroupOf}
-use Rattle.coho_main.specs.Outcome.{Ask, Load, Given, Report, FitStages, FitElements, FitClass, Evaluate, Answer}
+use Rattle.coho_main.specs.Outcome.{Ask, Load, Given, Report, FitStages, FitElements, FitClass, Evaluate}
+use Rattle.coho_main.specs.Outcome.{Answer}
 use Rattle.coho_main.specs.Outcome.{AnswerGroup, AnswerResolve, AnswerRing, AnswerValue, AnswerSample}
 use Rattle.coho_main.specs.Outcome.{Reply, Comes, group_lines, line, stage_lines}
 use Rattle.coho_main.specs.Evaluating.{HasClass, IsClassRefusal, IsValue}
@@ -126,7 +128,8 @@ module _ (P : Presentation) (k : ℕ) (es : List ℕ) where
         → Settles lines_of (AnswerValue P k es) r
     then_stages r h = settled_after_ok unit lines_of (FitElements P es) (after_elements P k es) tt r elements h
 
-    pub stage_stop : (s : Stop) → IsRefused (λ refusal. ForGroupOf P (λ G. IsStageRefusal G (length es) refusal)) s
+    pub stage_stop : (s : Stop)
+        → IsRefused (λ refusal. ForGroupOf P (λ G. IsStageRefusal G (length es) refusal)) s
         → Settles lines_of (AnswerValue P k es) (Err s)
     stage_stop s h =
         then_stages (Err s)
@@ -156,12 +159,14 @@ module _ (P : Presentation) (k : ℕ) (es : List ℕ) where
           ))
 
 module _ (P : Presentation) (k : ℕ) where
-  pub sample_refused : (s : Stop) → IsRefused (StageRefusal P 4) s → Settles lines_of (AnswerSample P k) (Err s)
+  pub sample_refused : (s : Stop) → IsRefused (StageRefusal P 4) s
+      → Settles lines_of (AnswerSample P k) (Err s)
   sample_refused s h = refused_settles lines_of (AnswerSample P k) (StageRefusal P 4) s h
       (λ r q files. inr (r, (q, refl), refl))
 
   module _ (fit : ForGroupOf P (λ G. Fit G 4)) where
-    pub sample_too_many : (s : Stop) → IsRefused (λ refusal. ForGroupOf P (λ G. IsReportRefusal G 4 refusal)) s
+    pub sample_too_many : (s : Stop)
+        → IsRefused (λ refusal. ForGroupOf P (λ G. IsReportRefusal G 4 refusal)) s
         → Settles lines_of (AnswerSample P k) (Err s)
     sample_too_many s h =
         refused_settles lines_of (AnswerSample P k)
@@ -215,12 +220,15 @@ module _ (known : Option Content) where
   )
 
   -- the file of a command was read
-  pub given_load : (named : Command) (path : List ℕ) (r : Result Presentation Stop) → path_of named ≡ Some path
+  pub given_load : (named : Command) (path : List ℕ) (r : Result Presentation Stop)
+      → path_of named ≡ Some path
       → MeetsOf itself (Load path) known r → MeetsOf itself (Given named) known r
   given_load (Group p) path r e h = subst (λ p. MeetsOf itself (Load p) known r) (sym (same_path p path e)) h
-  given_load (Resolve p n) path r e h = subst (λ p. MeetsOf itself (Load p) known r) (sym (same_path p path e)) h
+  given_load (Resolve p n) path r e h = subst (λ p. MeetsOf itself (Load p) known r)
+      (sym (same_path p path e)) h
   given_load (Ring p n) path r e h = subst (λ p. MeetsOf itself (Load p) known r) (sym (same_path p path e)) h
-  given_load (Value p k es) path r e h = subst (λ p. MeetsOf itself (Load p) known r) (sym (same_path p path e)) h
+  given_load (Value p k es) path r e h = subst (λ p. MeetsOf itself (Load p) known r)
+      (sym (same_path p path e)) h
   given_load (Sample k) path r e h = absurd (let no : ◌≡◌ {A = Option (List ℕ)} None (Some path) = e in cc)
 
   -- a call that reads no file met its step

@@ -29,7 +29,8 @@ use Rattle.coho_main.proofs.Run.{Reported}
 abbrev Answers : Type 0
 Answers = List (List ℕ)
 
-pub some_is : {A : Type 0} (o : Option A) (x y : A) (old new : Content) → OrRefuse words_refused o old (Ok y) new
+pub some_is : {A : Type 0} (o : Option A) (x y : A) (old new : Content)
+    → OrRefuse words_refused o old (Ok y) new
     → o ≡ Some x → (y ≡ x) × (new ≡ old)
 some_is None x y old new h e = absurd (let no = e in cc)
 some_is (Some z) x y old new h e = ((let first = h.0 in let second = e in cc), h.1)
@@ -104,4 +105,5 @@ not_answered stop.Memory e = cc
 pub stop_not_answered : {P : Type 0} (s : Stop) (ended : Status) (err err_now : Option (List ℕ)) (k m : ℕ)
     → Reported s ended err err_now k m → ended ≡ status.Answered → P
 stop_not_answered s ended err err_now k m r e =
-    absurd (not_answered s (sym (r (λ is. let no : status.Answered ≡ status.Memory = sym e ∙ is in cc)).0 ∙ e))
+    absurd (not_answered s (sym (r (λ is. let no : status.Answered ≡ status.Memory = sym e ∙ is in cc)).0
+    ∙ e))

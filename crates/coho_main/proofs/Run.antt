@@ -20,7 +20,8 @@ use Rattle.coho_main.specs.declared.cause.Cause.TheVariants as cause
 use Rattle.coho_main.specs.Refusals.{words_refused, read_refused, write_refused, memory_refused}
 use Rattle.coho_main.specs.Steps.{Refusal}
 use Rattle.coho_main.specs.Stops.{refusal_of, told, Meets, HasReadCause, IsWriteStop}
-use Rattle.coho_main.specs.Run.{Agrees, Answers, OfFiles, IsSettled, Leaves, Tells, EndsAs, AnswersFront, MayTell, Stays, ToldFront, WantsMemory, NoReadFault}
+use Rattle.coho_main.specs.Run.{Agrees, Answers, OfFiles, IsSettled, Leaves, Tells, EndsAs, AnswersFront}
+use Rattle.coho_main.specs.Run.{MayTell, Stays, ToldFront, WantsMemory, NoReadFault}
 use Rattle.coho_main.specs.Words.{AskForValue, Command, IsRead, command}
 use Rattle.coho_main.proofs.Replies.{Lines, lines_of, MeetsOf}
 use Rattle.coho_main.proofs.Outcomes.{none_comes, outcome_unique, usage_is}

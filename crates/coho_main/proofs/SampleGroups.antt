@@ -1,5 +1,7 @@
 -- The factors of samples keep the rules for words, and so do samples, which have at most 6 generators.
-use Rattle.std.proofs.Common.{◌≡◌, ◌∙◌, ◌⊎◌, inl, inr, ℕ, zero, suc, ◌+◌, ◌-◌, ◌^◌, ◌%◌, ◌<◌, ◌≤◌, Bool, true, false, cond, leb, List, [], ◌∷◌, ◌++◌, length, get_or, drop, decimal, refl, sym, ap, subst, arith}
+use Rattle.std.proofs.Common.{◌≡◌, ◌∙◌, ◌⊎◌, inl, inr, ℕ, zero, suc, ◌+◌, ◌-◌, ◌^◌, ◌%◌, ◌<◌, ◌≤◌, Bool, true}
+use Rattle.std.proofs.Common.{false, cond, leb, List, [], ◌∷◌, ◌++◌, length, get_or, drop, decimal, refl, sym}
+use Rattle.std.proofs.Common.{ap, subst, arith}
 use Rattle.std.proofs.lemmas.Bool.Decides.{nat_tests}
 use Rattle.std.proofs.lemmas.List.Elements.{All-cons, All-nil}
 use Rattle.std.proofs.lemmas.List.{drop_more}
@@ -12,7 +14,8 @@ use Rattle.pc_text.specs.Texts.{prime}
 use Rattle.pc_text.proofs.Valid.{IsGiven}
 use Rattle.std.specs.declared.option.Option.TheVariants.{Some}
 use Rattle.coho_main.specs.Products.{direct_product}
-use Rattle.coho_main.specs.Samples.{IsSmall, four, eight, dihedral, quaternion, factor_of, with_factor, with_digits, sample}
+use Rattle.coho_main.specs.Samples.{IsSmall, four, eight, dihedral, quaternion, factor_of, with_factor}
+use Rattle.coho_main.specs.Samples.{with_digits, sample}
 use Rattle.coho_main.proofs.ProductWords.{product_valid, word_after, word_before}
 
 one_word : IsWord 2 1 0 (1 ∷ [])
@@ -50,8 +53,8 @@ empty_valid : (n : ℕ) → IsPresentation (elementary_abelian 2 n)
 empty_valid n = elementary-valid 2 n (omega arith)
 
 four_valid : IsPresentation four
-four_valid = with_power-valid (elementary_abelian 2 2) (empty_valid 2) 1 (0 ∷ 1 ∷ []) (omega arith) (omega arith)
-    last_of_two
+four_valid = with_power-valid (elementary_abelian 2 2) (empty_valid 2) 1 (0 ∷ 1 ∷ []) (omega arith)
+    (omega arith) last_of_two
 
 eight_valid : IsPresentation eight
 eight_valid =
@@ -60,8 +63,8 @@ eight_valid =
     second_of_three) 2 (0 ∷ 0 ∷ 1 ∷ []) (omega arith) (omega arith) last_of_three
 
 dihedral_valid : IsPresentation dihedral
-dihedral_valid = with_commutator-valid (elementary_abelian 2 3) (empty_valid 3) 2 1 (0 ∷ 0 ∷ 1 ∷ []) (omega arith)
-    (omega arith) (omega arith) last_of_three
+dihedral_valid = with_commutator-valid (elementary_abelian 2 3) (empty_valid 3) 2 1 (0 ∷ 0 ∷ 1 ∷ [])
+    (omega arith) (omega arith) (omega arith) last_of_three
 
 quaternion_valid : IsPresentation quaternion
 quaternion_valid =

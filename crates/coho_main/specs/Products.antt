@@ -1,6 +1,7 @@
 -- The direct product of the groups of two presentations.
 use Rattle.std.specs.Prelude.{◌≡◌, ℕ, ◌+◌, ◌<◌, ◌≤◌, ◌++◌, map, replicate}
-use Rattle.power_commutator.specs.Presentations.{Presentation, IsPresentation, commutator_word, identity, power_word}
+use Rattle.power_commutator.specs.Presentations.{Presentation, IsPresentation, commutator_word, identity}
+use Rattle.power_commutator.specs.Presentations.{power_word}
 
 -- the direct product of the groups of presentations over one prime: the generators of Q come after those of P
 abbrev pub direct_product : Presentation → Presentation → Presentation
@@ -14,7 +15,8 @@ direct_product P Q = record {
       Q.commutators;
 }
 
--- P agrees with Q in the prime, the generators, the words of g_1^p to g_i^p, and those of [g_m, g_k] for m ≤ j
+-- P agrees with Q in the prime, the generators, the words of g_1^p to g_i^p, and those of [g_m, g_k] for each
+-- m up to j
 pub record Agrees (Q : Presentation) (i j : ℕ) (P : Presentation) : Type 0 where
   pub valid : IsPresentation P
   pub prime : P.prime ≡ Q.prime

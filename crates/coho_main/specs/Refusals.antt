@@ -1,6 +1,7 @@
 -- The refusals of a run: the status, and the line on err.
 use Rattle.std.specs.Prelude.{ℕ, List, [], ◌∷◌, ◌++◌, codes, decimal}
-use Rattle.limits.specs.declared.TheConstants.{GREATEST_DIMENSION, GREATEST_ORDER, LONGEST_TEXT, MOST_MONOMIALS}
+use Rattle.limits.specs.declared.TheConstants.{GREATEST_DIMENSION, GREATEST_ORDER, LONGEST_TEXT}
+use Rattle.limits.specs.declared.TheConstants.{MOST_MONOMIALS}
 use Rattle.power_commutator.specs.declared.TestName.{TestName}
 use Rattle.power_commutator.specs.declared.TestName.TheVariants as test
 use Rattle.pc_text.specs.Faults.{Fault}

@@ -1,5 +1,6 @@
 -- The products of small groups that the digits of a number name.
-use Rattle.std.specs.Prelude.{◌≡◌, ℕ, zero, suc, ◌+◌, ◌-◌, ◌%◌, ◌^◌, ◌≤◌, cond, leb, List, [], ◌∷◌, codes, decimal}
+use Rattle.std.specs.Prelude.{◌≡◌, ℕ, zero, suc, ◌+◌, ◌-◌, ◌%◌, ◌^◌, ◌≤◌, cond, leb, List, [], ◌∷◌, codes}
+use Rattle.std.specs.Prelude.{decimal}
 use Rattle.power_commutator.specs.Presentations.{Presentation, IsPresentation}
 use Rattle.pc_group.specs.Parts.{elementary_abelian, with_power, with_commutator}
 use Rattle.coho_report.specs.Lines.{numbered, summary_lines}

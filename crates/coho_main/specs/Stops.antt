@@ -13,7 +13,9 @@ use Rattle.coho_main.specs.declared.cause.Cause.TheVariants as cause
 use Rattle.coho_main.specs.declared.stop.Stop.{Stop}
 use Rattle.coho_main.specs.declared.stop.Stop.TheVariants as stop
 use Rattle.coho_main.specs.Steps.{Refusal, Step}
-use Rattle.coho_main.specs.Refusals.{words_refused, read_refused, length_refused, text_refused, order_refused, test_refused, stage_refused, monomials_refused, subgroup_refused, element_refused, class_refused, write_refused, memory_refused}
+use Rattle.coho_main.specs.Refusals.{words_refused, read_refused, length_refused, text_refused, order_refused}
+use Rattle.coho_main.specs.Refusals.{test_refused, stage_refused, monomials_refused, subgroup_refused}
+use Rattle.coho_main.specs.Refusals.{element_refused, class_refused, write_refused, memory_refused}
 
 -- the refusal of a cause
 abbrev pub refusal_of : Cause → Refusal

@@ -35,8 +35,8 @@ pub enum Cause {
         degree: u32,
         count: u64,
     },
-    /// The free module of the stage of this degree of a listed subgroup, counted from 1, has a dimension above
-    /// `GREATEST_DIMENSION`.
+    /// The free module of the stage of this degree of a listed subgroup, counted from 1, has a dimension
+    /// above `GREATEST_DIMENSION`.
     SubgroupStage {
         subgroup: u32,
         degree: u32,

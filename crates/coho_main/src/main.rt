@@ -1,5 +1,6 @@
 //! The program: describes the group of a presentation text, finds its minimal resolution, and presents its
-//! cohomology ring, and evaluates the cocycles of its classes. `run` does all that it does, over any files and sinks.
+//! cohomology ring, and evaluates the cocycles of its classes. `run` does all that it does, over any files
+//! and sinks.
 #![tactic(auto)]
 
 mod answers;

@@ -10,7 +10,8 @@ ghost use Rattle.coho_main.specs.Refusals.{read_refused, write_refused};
 ghost use Rattle.coho_main.specs.RingAnswers.{TellsRingOf};
 ghost use Rattle.coho_main.specs.ClassAnswers.{HasCocycleClassesOf};
 ghost use Rattle.coho_main.specs.Stops.{Meets, Settles, HasReadCause, OnlyReads};
-ghost use Rattle.coho_main.specs.Run.{OfFiles, IsSettled, MayWrite, Tells, EndsAs, AnswersFront, WantsMemory, NoReadFault, Stays};
+ghost use Rattle.coho_main.specs.Run.{OfFiles, IsSettled, MayWrite, Tells, EndsAs, AnswersFront, WantsMemory};
+ghost use Rattle.coho_main.specs.Run.{NoReadFault, Stays};
 
 use crate::{
     Command, Status, Stop, accept, basis_value, fit_elements, group_lines, load,
@@ -178,8 +179,8 @@ pub fn run<F: Files, O: Sink, E: Sink>(
     ensures classes { result ≡ Status.Answered → OfFiles (F.content files.old)
         (HasCocycleClassesOf (texts words.now)) }
 
-    // Whether files are told or not, the words decide alone whether they are refused, but for those of `value`,
-    // where the group decides too.
+    // Whether files are told or not, the words decide alone whether they are refused, but for those of
+    // `value`, where the group decides too.
     ensures usage { result ≡ Status.Usage
         → (command (texts words.now) ≡ None) ⊎ AskForValue (texts words.now) }
     ensures words { command (texts words.now) ≡ None

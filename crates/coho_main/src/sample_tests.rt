@@ -1,71 +1,76 @@
-//! Products of small groups by `run`, worked out by hand from the definitions.
+//! Products of small groups, worked out by hand from the definitions.
 
-use crate::{Status, run};
+use crate::{GREATEST_SAMPLE, Status, run, sample_presentation};
 use coho_io::{MemFiles, MemSink};
-use std::alloc::{AllocError, Global};
-use std::process::Abort;
+use pc_text::write_presentation;
 use std::test::Fail;
 
-// How `sample` with this word ends, and what it writes.
-fn sampled(alloc: Global, word: &str) -> Result<(Status, MemSink), AllocError> {
-    let mut files = MemFiles::new(alloc);
-    let mut words = Vec::new(alloc);
-    words.push(String::from_str(alloc, "sample")?)?;
-    words.push(String::from_str(alloc, word)?)?;
-    let mut out = MemSink::new(alloc);
-    let mut err = MemSink::new(alloc);
-    let status = run(alloc, &words, &mut files, &mut out, &mut err);
-    Ok((status, out))
-}
+// A number, and the relations of its product: the third digit of 342 would bring the order above 64.
+const PRODUCTS: [(u32, &str); 4] = [
+    (9, "gens 3\ng1^2 = g3\ng2^2 = g3\n[g2,g1] = g3\n"),
+    (17, "gens 5\ng1^2 = g2\ng3^2 = g4\ng4^2 = g5\n"),
+    (105, "gens 4\ng1^2 = g2\n"),
+    (
+        342,
+        "gens 6\ng4^2 = g6\ng5^2 = g6\n[g2,g1] = g3\n[g5,g4] = g6\n",
+    ),
+];
 
-fn describes(
-    rt: &impl Abort,
-    alloc: Global,
-    word: &str,
-    answer: &str,
-) -> Result<(), Fail> {
-    let (status, out) = sampled(alloc, word)?;
-    assert_eq!(rt; status, Status::Answered, "{word}");
-    assert_eq!(rt; out.bytes(), answer.as_bytes(), "{word}");
+#[test]
+fn makes_products(rt: HostRuntime) -> Result<(), Fail> {
+    let alloc = rt.alloc();
+    for (k, relations) in PRODUCTS {
+        assert!(rt; k <= GREATEST_SAMPLE);
+        let made = sample_presentation(alloc, k)?;
+        let text = format!(in alloc; "pgroup 1\nprime 2\n{relations}")?;
+        assert_eq!(rt;
+            write_presentation(alloc, &made)?.as_slice(),
+            text.as_bytes(),
+            "{k}"
+        );
+    }
     Ok(())
 }
 
-#[test]
-fn describes_the_dihedral_group(rt: HostRuntime) -> Result<(), Fail> {
-    describes(
-        &rt,
-        rt.alloc(),
+// The word after `sample`, how the run ends, and what it writes.
+const SAMPLES: [(&str, Status, &str); 7] = [
+    (
         "3",
-        "sample 3\nprime 2\norder 8\ndegree 4\nranks 1 2 3 4 5\ngenerators 3\nrelations 1\nsubgroups 2\nverdict complete\n",
-    )
-}
-
-#[test]
-fn describes_the_dihedral_group_times_the_quaternion_group(rt: HostRuntime) -> Result<(), Fail> {
-    describes(
-        &rt,
-        rt.alloc(),
+        Status::Answered,
+        "sample 3\nprime 2\norder 8\ndegree 4\nranks 1 2 3 4 5\ngenerators 3\nrelations 1\n\
+            subgroups 2\nverdict complete\n",
+    ),
+    (
         "34",
-        "sample 34\nprime 2\norder 64\ndegree 4\nranks 1 4 9 15 22\ngenerators 6\nrelations 3\nsubgroups 2\nverdict not complete\n",
-    )
-}
-
-#[test]
-fn describes_the_square_of_the_quaternion_group(rt: HostRuntime) -> Result<(), Fail> {
-    describes(
-        &rt,
-        rt.alloc(),
+        Status::Answered,
+        "sample 34\nprime 2\norder 64\ndegree 4\nranks 1 4 9 15 22\ngenerators 6\nrelations 3\n\
+            subgroups 2\nverdict not complete\n",
+    ),
+    (
         "44",
-        "sample 44\nprime 2\norder 64\ndegree 4\nranks 1 4 8 10 10\ngenerators 6\nrelations 4\nsubgroups 1\nverdict not complete\n",
-    )
-}
+        Status::Answered,
+        "sample 44\nprime 2\norder 64\ndegree 4\nranks 1 4 8 10 10\ngenerators 6\nrelations 4\n\
+            subgroups 1\nverdict not complete\n",
+    ),
+    ("1000", Status::Usage, ""),
+    ("03", Status::Usage, ""),
+    ("-3", Status::Usage, ""),
+    ("x", Status::Usage, ""),
+];
 
 #[test]
-fn refuses_other_words(rt: HostRuntime) -> Result<(), Fail> {
+fn describes_samples(rt: HostRuntime) -> Result<(), Fail> {
     let alloc = rt.alloc();
-    for word in ["1000", "03", "-3", "x", "3 "] {
-        let (status, _out) = sampled(alloc, word)?;
-        assert_eq!(rt; status, Status::Usage, "{word}");
+    for (word, ends, answer) in SAMPLES {
+        let mut files = MemFiles::new(alloc);
+        let mut words = Vec::new(alloc);
+        words.push(String::from_str(alloc, "sample")?)?;
+        words.push(String::from_str(alloc, word)?)?;
+        let mut out = MemSink::new(alloc);
+        let mut err = MemSink::new(alloc);
+        let status = run(alloc, &words, &mut files, &mut out, &mut err);
+        assert_eq!(rt; status, ends, "{word}");
+        assert_eq!(rt; out.bytes(), answer.as_bytes(), "{word}");
     }
     Ok(())
 }

@@ -95,8 +95,9 @@ fn with_factor(
 }
 
 /// The presentation of the direct product that the decimal digits of k name, from the left and each modulo 5:
-/// 0 is the cyclic group of order 2, 1 that of order 4, 2 that of order 8, 3 the dihedral and 4 the quaternion
-/// group of order 8. A factor that would bring the order above 64 is left out. k is at most `GREATEST_SAMPLE`.
+/// 0 is the cyclic group of order 2, 1 that of order 4, 2 that of order 8, 3 the dihedral and 4 the
+/// quaternion group of order 8. A factor that would bring the order above 64 is left out. k is at most
+/// `GREATEST_SAMPLE`.
 pub fn sample_presentation(alloc: Global, k: u32) -> Result<Presentation, Memory>
     requires { k ≤ GREATEST_SAMPLE }
     ensures { IfOk result (λ p. p ≡ sample k) }

@@ -22,8 +22,8 @@ pub enum Command<'a> {
     /// To find generators and relations of the cohomology ring of the group of the file at this path, through
     /// this degree.
     Ring(&'a str, u32),
-    /// To find the value of the cocycle of a basis class of the group of the file at this path, by its number,
-    /// counted from 1, at elements, of which there are as many as the degree of the class.
+    /// To find the value of the cocycle of a basis class of the group of the file at this path, by its
+    /// number, counted from 1, at elements, of which there are as many as the degree of the class.
     Value(&'a str, u16, Vec<u16>),
     /// To make the product of small groups that this number names, and to describe its cohomology ring.
     Sample(u32),
@@ -97,9 +97,9 @@ pub fn read_words<'a>(alloc: Global, words: &'a [String]) -> Result<Command<'a>,
             let (path, class, elements) = file_and_place(alloc, words)?;
             Ok(Command::Value(path, class, elements))
         }
-        [name, ..] if name.as_str() == "sample" => Ok(Command::Sample(sample_number(
-            alloc, words,
-        )?)),
+        [name, ..] if name.as_str() == "sample" => {
+            Ok(Command::Sample(sample_number(alloc, words)?))
+        }
         _ => Err(Stop::Refused(Cause::Words)),
     }
 }

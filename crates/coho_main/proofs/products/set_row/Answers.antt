@@ -5,7 +5,8 @@ use Rattle.coho_main.proofs.products.set_row.Goals as goal
 
 pub set_commutator-requires-clause-word : goal.set_commutator-requires-clause-word
 set_commutator-requires-clause-word c =
-    commutator_fits (direct_product c.args.p.now c.args.q.now) c.requires.valid c.loop-i.made c.args.j c.loop-i.i
+    commutator_fits
+    (direct_product c.args.p.now c.args.q.now) c.requires.valid c.loop-i.made c.args.j c.loop-i.i
     c.in_ok-commutator_in_product.field-0.items c.loop-i.invariant (omega arith) (omega arith)
     c.requires.last c.in_ok-commutator_in_product.ensures
 

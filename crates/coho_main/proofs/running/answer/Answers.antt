@@ -44,7 +44,8 @@ returns-in_err-consistent-clause-reads g c =
     let s = c.in_err-consistent.field-0.0 in
     let p = err_from_is_err_and c.from_residual-in_err-consistent.result
     c.from_residual-in_err-consistent.ensures.1 in
-    rw (p.1, p.2) (reads_stop {T = Presentation} {U = Lines} (HasReadCause (λ p. Contains (read_paths named) p))
+    rw (p.1, p.2)
+    (reads_stop {T = Presentation} {U = Lines} (HasReadCause (λ p. Contains (read_paths named) p))
     (HasReadCause (IsRead words)) (g.F.Files.content c.args.files.now)
     (g.F.Files.content c.given.new.files) before now s c.in_err-consistent.ensures.reads
     (cause_weaker (λ p. Contains (read_paths named) p) (IsRead words)

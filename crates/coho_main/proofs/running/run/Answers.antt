@@ -4,7 +4,9 @@ use Rattle.std.specs.Io.KnownBytes.{Appends}
 use Rattle.coho_io.specs.Bytes.{AppendsFront}
 use Rattle.coho_io.specs.Causes.{Rose}
 use Rattle.coho_main.specs.Words.{contents, texts}
-use Rattle.coho_main.proofs.Run.{wrote_all, wrote_front, answers, told_meets, write_told, write_complete, memory_of_write, stopped, usage_stop, read_told, stays, memory_of_stop, complete_stop}
+use Rattle.coho_main.proofs.Run.{wrote_all, wrote_front, answers, told_meets, write_told, write_complete}
+use Rattle.coho_main.proofs.Run.{memory_of_write, stopped, usage_stop, read_told, stays, memory_of_stop}
+use Rattle.coho_main.proofs.Run.{complete_stop}
 use Rattle.coho_main.proofs.RingAnswers.{tells_ring, stop_not_answered}
 use Rattle.coho_main.proofs.ClassAnswers.{has_classes}
 use Rattle.coho_main.proofs.running.run.Goals as goal

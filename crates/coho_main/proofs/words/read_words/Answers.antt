@@ -3,13 +3,16 @@ use Rattle.std.specs.Str.{bytes_eq}
 use Rattle.std.proofs.lemmas.Result.{err_from_is_err_and}
 use Rattle.clap.specs.Values.{kind_of}
 use Rattle.std.specs.Option.{option_map}
-use Rattle.coho_main.specs.Words.{Resolve, Ring, Sample, file_and_degree, file_and_place, sample_number, texts}
+use Rattle.coho_main.specs.Words.{Resolve, Ring, Sample, file_and_degree, file_and_place, sample_number}
+use Rattle.coho_main.specs.Words.{texts}
 use Rattle.coho_main.specs.declared.words.Command.TheVariants as given
-use Rattle.coho_main.proofs.Commands.{named, reads, unread, stopped, group_found, group_none, at_resolve, at_ring}
+use Rattle.coho_main.proofs.Commands.{named, reads, unread, stopped, group_found, group_none, at_resolve}
+use Rattle.coho_main.proofs.Commands.{at_ring}
 use Rattle.coho_main.proofs.Commands.{at_sample, at_value, dashed_is, of_degree, of_place, no_words, refuses}
 use Rattle.coho_main.proofs.Commands.{unnamed}
 use Rattle.coho_main.proofs.words.read_words.Goals as goal
-use Rattle.coho_main.proofs.words.read_words.Goals.{in_default-via-then-words-lt1, in_default-via-in-len1-up-5+else-eq-5}
+use Rattle.coho_main.proofs.words.read_words.Goals.{in_default-via-then-words-lt1}
+use Rattle.coho_main.proofs.words.read_words.Goals.{in_default-via-in-len1-up-5+else-eq-5}
 
 pub returns-in_err-one_operand-in-len1-up-clause-step :
     goal.returns-in_err-one_operand-in-len1-up-clause-step
