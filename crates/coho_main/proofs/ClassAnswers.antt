@@ -1,5 +1,5 @@
 -- An answer to `resolve` or to `ring` is for a group whose classes are cocycles up to coboundaries.
-use Rattle.std.proofs.Common.{◌≡◌, ◌⊎◌, ◌≤◌, List, ℕ, inl, inr, subst}
+use Rattle.std.proofs.Common.{◌≡◌, ◌⊎◌, List, ℕ, inl, inr, subst}
 use Rattle.std.specs.declared.option.Option.{Option}
 use Rattle.std.specs.declared.option.Option.TheVariants.{Some}
 use Rattle.std.specs.declared.result.Result.TheVariants.{Ok}
@@ -9,7 +9,7 @@ use Rattle.power_commutator.specs.Presentations.{Presentation}
 use Rattle.bar_eval.proofs.ClassMaps.{is_linear, are_cocycles, is_injective, each_has_one}
 use Rattle.coho_main.specs.ClassAnswers.{HasCocycleClasses, HasCocycleClassesOf}
 use Rattle.coho_main.specs.Evaluating.{AreCocycleClasses}
-use Rattle.coho_main.specs.Groups.{ForGroupOf, IsTableOf}
+use Rattle.coho_main.specs.Groups.{IsTableOf}
 use Rattle.coho_main.specs.Outcome.{Load, AnswerResolve, AnswerRing, Reply, Comes}
 use Rattle.coho_main.specs.Run.{OfFiles}
 use Rattle.coho_main.specs.Words.{Command, Resolve, Ring, command}

@@ -1,5 +1,5 @@
 -- The steps of `value`, as the calls make them.
-use Rattle.std.proofs.Common.{◌≡◌, ◌∙◌, ℕ, zero, suc, ◌<◌, ◌≤◌, ◌^◌, List, [], ◌∷◌, length, All, Bool, true}
+use Rattle.std.proofs.Common.{◌≡◌, ◌∙◌, ℕ, zero, suc, ◌<◌, ◌^◌, List, [], ◌∷◌, length, All, Bool, true}
 use Rattle.std.proofs.Common.{false}
 use Rattle.std.proofs.Common.{cond, leb, refl, ap, sym, subst, arith}
 use Rattle.std.proofs.lemmas.Bool.Decides.{nat_tests}
@@ -21,8 +21,7 @@ use Rattle.coho_main.specs.Groups.{ForGroupOf}
 use Rattle.coho_main.specs.Outcome.{FitElements, UnlessElement, order}
 use Rattle.coho_main.specs.Refusals.{element_refused}
 use Rattle.coho_main.specs.Resolving.{IsResolutionTo}
-use Rattle.coho_main.specs.Steps.{Refusal}
-use Rattle.coho_main.specs.Stops.{IsRefused, refusal_of}
+use Rattle.coho_main.specs.Stops.{IsRefused}
 
 -- the elements
 

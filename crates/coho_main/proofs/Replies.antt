@@ -1,5 +1,5 @@
 -- The answers to commands, as the calls make them.
-use Rattle.std.proofs.Common.{◌≡◌, ◌∙◌, List, [], ◌∷◌, codes, length, ℕ, Vec, Global, refl, ap, sym, subst}
+use Rattle.std.proofs.Common.{◌≡◌, List, [], ◌∷◌, codes, length, ℕ, Vec, Global, refl, ap, sym, subst}
 use Rattle.std.proofs.Common.{inl}
 use Rattle.std.proofs.Common.{inr}
 use Rattle.std.specs.List.{Contains}
