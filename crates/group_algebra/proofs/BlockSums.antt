@@ -14,7 +14,7 @@ use Rattle.group_modules.proofs.SumLaws.{total-map}
 use Rattle.group_modules.specs.Tables.{Group, monoid, terms, part}
 use Rattle.group_modules.proofs.TermLaws.{lin-terms}
 use Rattle.linear_algebra.specs.Rows.{entry, row, IsRow}
-use Rattle.radical_layers.specs.Placing.{size_of, place_of}
+use Rattle.radical_layers.specs.Placing.{place_of}
 use Rattle.radical_layers.specs.LayerBasis.{layer_basis}
 use Rattle.radical_layers.proofs.BasisForm.{list_of, length-list_of, entry-list_of}
 use Rattle.p_groups.specs.PGroups.{PGroup, largest_residue, group}

@@ -1,9 +1,7 @@
 -- Layer coordinates from sum coordinates and from coefficients, and back.
-use Rattle.std.proofs.Common.{◌≡◌, ◌≢◌, ℕ, suc, ◌+◌, ◌*◌, ◌%◌, ◌<◌, ◌≤◌, ◌⊎◌, true, false, eqb, List, length}
-use Rattle.std.proofs.Common.{replicate, inl, inr, arith, ap, ap₂, sym, ◌∙◌, refl}
-use Rattle.std.proofs.lemmas.Bool.{cases_lt}
+use Rattle.std.proofs.Common.{◌≡◌, ◌≢◌, ℕ, suc, ◌*◌, ◌%◌, ◌<◌, ◌⊎◌, true, false, eqb, List, length}
+use Rattle.std.proofs.Common.{inl, inr, arith, ap, ap₂, sym, ◌∙◌, refl}
 use Rattle.std.proofs.lemmas.Bool.Decides.{eqb_tells}
-use Rattle.std.proofs.lemmas.List.{get_or_past, get_or-replicate, length-replicate}
 use Rattle.std.proofs.lemmas.Grind.{same_number_lists}
 use Rattle.std.proofs.Math.Nat.{mod-eq_of_lt}
 use mathlib.Core.Path.{subst, fun_ext}
@@ -16,7 +14,7 @@ use Rattle.linear_algebra.proofs.AugmentLemmas.{entry_unit_same, entry_unit_othe
 use Rattle.linear_algebra.proofs.Congruences.{congruent_trans, congruent_eq, congruent_sym}
 use Rattle.linear_algebra.proofs.Congruences.{congruent_mul_right, congruent_mod, same_below}
 use Rattle.linear_algebra.proofs.Independence.{combine_combinations}
-use Rattle.linear_algebra.proofs.Sums.{sum_below-same, sum_below-congruent}
+use Rattle.linear_algebra.proofs.Sums.{sum_below-congruent}
 use Rattle.radical_layers.proofs.UnitRow.{unit-is-row}
 use Rattle.group_modules.specs.Module.{Module, lin, times}
 use Rattle.group_modules.specs.Field.{Below, Fp, residue}

@@ -6,10 +6,9 @@ use Rattle.std.proofs.lemmas.Bool.{cases_eq}
 use Rattle.std.proofs.lemmas.List.{length-set}
 use mathlib.Core.Path.{subst}
 use Rattle.linear_algebra.specs.Modular.{IsCongruent, sum_below}
-use Rattle.linear_algebra.specs.Rows.{entry, add_multiple, IsRow}
+use Rattle.linear_algebra.specs.Rows.{entry, IsRow}
 use Rattle.linear_algebra.proofs.Congruences.{congruent_trans, congruent_eq, congruent_add}
 use Rattle.linear_algebra.proofs.Congruences.{congruent_mul_right, congruent_mod}
-use Rattle.linear_algebra.proofs.Reducing.{entry_congruent}
 use Rattle.radical_layers.specs.Placing.{place_of, size_of}
 use Rattle.group_algebra.specs.Gains.{BlockGains}
 use Rattle.group_algebra.proofs.PlaceLemmas.{place-inside-of, place-differs-of}

@@ -1,11 +1,10 @@
 -- Sums of images, one member at a time.
-use Rattle.std.proofs.Common.{◌≡◌, ℕ, zero, suc, ◌+◌, ◌-◌, ◌*◌, ◌%◌, ◌<◌, ◌≤◌, List, length, arith, ap, sym}
+use Rattle.std.proofs.Common.{◌≡◌, ℕ, zero, suc, ◌+◌, ◌-◌, ◌*◌, ◌%◌, ◌<◌, ◌≤◌, List, length, arith, ap}
 use Rattle.std.proofs.Common.{◌∙◌, refl, add-one}
 use mathlib.Core.Path.{subst}
 use Rattle.linear_algebra.specs.Modular.{IsCongruent, sum_below}
 use Rattle.linear_algebra.specs.Rows.{entry, add_multiple}
 use Rattle.linear_algebra.proofs.Congruences.{congruent_trans, congruent_eq, congruent_mod, congruent_add}
-use Rattle.linear_algebra.proofs.Congruences.{congruent_refl}
 use Rattle.linear_algebra.proofs.RowLemmas.{entry-add_multiple, length-add_multiple}
 use Rattle.fp_rows.specs.Values.{RowValue}
 

@@ -1,6 +1,5 @@
 -- The sum coordinates, the radical layers and the layer basis of the group algebra of a p-group are what
 -- their names say.
-use Rattle.std.specs.Prelude.{ℕ}
 use Rattle.radical_layers.specs.LayerBasis.{IsSumForm, AreLayers, LayerBasisClaims}
 use Rattle.p_groups.specs.PGroups.{PGroup, largest_residue, group}
 use Rattle.p_groups.proofs.Layers.{sum_coordinates_exist, layers_exist, layer_claims_of}

@@ -1,10 +1,10 @@
 -- The places of a layer of one block are one part of a row.
-use Rattle.std.proofs.Common.{◌≡◌, ◌≢◌, ℕ, zero, suc, ◌+◌, ◌-◌, ◌*◌, ◌%◌, ◌<◌, ◌≤◌, ◌⊎◌, List, [], ◌∷◌}
-use Rattle.std.proofs.Common.{length, take, drop, get_or, slice_range, inl, inr, cond, ltb, arith, ap, sym}
+use Rattle.std.proofs.Common.{◌≡◌, ℕ, zero, suc, ◌+◌, ◌-◌, ◌*◌, ◌%◌, ◌<◌, ◌≤◌, ◌⊎◌, List, [], ◌∷◌}
+use Rattle.std.proofs.Common.{length, take, drop, get_or, slice_range, inl, inr, arith, ap, sym}
 use Rattle.std.proofs.Common.{◌∙◌, refl}
-use Rattle.std.proofs.lemmas.Bool.{cases_lt, cases_eq}
+use Rattle.std.proofs.lemmas.Bool.{cases_lt}
 use Rattle.std.proofs.lemmas.List.{get_or-take, get_or-drop, length-take, length-drop}
-use Rattle.std.proofs.Math.Nat.{mul-le-mul_left, mul-le-mul_right, mod-eq_of_lt}
+use Rattle.std.proofs.Math.Nat.{mul-le-mul_right, mod-eq_of_lt}
 use mathlib.Core.Path.{subst}
 use Rattle.linear_algebra.specs.Modular.{IsCongruent, sum_below}
 use Rattle.linear_algebra.specs.Rows.{entry, IsRow}
@@ -15,7 +15,7 @@ use Rattle.fp_rows.specs.Parts.{GainsPart, IsZero}
 use Rattle.fp_rows.proofs.PartLemmas.{part_is_row}
 use Rattle.group_algebra.specs.Gains.{BlockGains, IsZeroBlock}
 use Rattle.group_algebra.specs.Places.{start_at}
-use Rattle.group_algebra.proofs.PlaceLemmas.{yes, otherwise, place-inside-of, place-differs-of}
+use Rattle.group_algebra.proofs.PlaceLemmas.{yes, otherwise, place-differs-of}
 
 pub start-next : (ss : List ℕ) (i : ℕ) → i < length ss → start_at ss (i + 1) ≡ start_at ss i + get_or ss i 0
 start-next [] i l = absurd (omega arith)

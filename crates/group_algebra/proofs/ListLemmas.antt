@@ -1,10 +1,9 @@
 -- Lists that a loop makes one member at a time.
-use Rattle.std.proofs.Common.{◌≡◌, ℕ, ◌+◌, ◌<◌, List, [], ◌∷◌, ◌++◌, length, map, take, replicate, slice_set}
+use Rattle.std.proofs.Common.{◌≡◌, ℕ, ◌+◌, ◌<◌, List, [], ◌∷◌, ◌++◌, length, map, take}
 use Rattle.std.proofs.Common.{ap, sym, ◌∙◌, arith, append_assoc, below_more}
-use Rattle.std.proofs.lemmas.List.{take_more, map-append, set-set, set-get_or, get_or-replicate, get_or_push}
+use Rattle.std.proofs.lemmas.List.{take_more, map-append, get_or_push}
 use mathlib.Core.Path.{subst}
 use Rattle.linear_algebra.specs.Rows.{row}
-use Rattle.linear_algebra.specs.Kernels.{unit_row}
 use Rattle.linear_algebra.proofs.Spans.{row_before_push}
 
 -- the images of the first rows, after some others

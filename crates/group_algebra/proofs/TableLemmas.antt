@@ -1,6 +1,6 @@
 -- The rows that an algebra keeps, one at a time.
 use Rattle.std.proofs.Common.{◌≡◌, ℕ, ◌+◌, ◌*◌, ◌/◌, ◌%◌, ◌<◌, ◌≤◌, ◌⊎◌, List, [], ◌∷◌, ◌++◌, length}
-use Rattle.std.proofs.Common.{replicate, inl, inr, suc, arith, ap, ap₂, ◌-◌, sym, ◌∙◌, refl}
+use Rattle.std.proofs.Common.{inl, inr, suc, arith, ap, ap₂, ◌-◌, sym, ◌∙◌, refl}
 use Rattle.std.proofs.lemmas.Bool.{cases_lt}
 use Rattle.std.proofs.lemmas.List.{get_or_push, length_push, length-append, get_or-append-add}
 use Rattle.std.proofs.Math.ListN.{get_or-append}

@@ -1,7 +1,7 @@
 -- The values of a linear map of free modules at unit rows.
 use Rattle.std.proofs.Common.{◌≡◌, ◌≢◌, ℕ, suc, ◌+◌, ◌*◌, ◌<◌, ◌≤◌, ◌⊎◌, List, length, replicate, inl, inr}
 use Rattle.std.proofs.Common.{arith, ap}
-use Rattle.std.proofs.Common.{sym, ◌∙◌, refl}
+use Rattle.std.proofs.Common.{sym, ◌∙◌}
 use Rattle.std.proofs.lemmas.Bool.{cases_eq}
 use Rattle.std.proofs.Math.Nat.{mul-le-mul_right}
 use mathlib.Core.Path.{subst}
@@ -11,7 +11,6 @@ use Rattle.linear_algebra.specs.Kernels.{unit_row}
 use Rattle.linear_algebra.proofs.AugmentLemmas.{entry_unit_same, entry_unit_other, length-unit_row}
 use Rattle.group_modules.specs.Module.{Module, times}
 use Rattle.group_modules.specs.Field.{Below}
-use Rattle.group_modules.specs.Sums.{below, total}
 use Rattle.group_modules.proofs.Laws.{zero-add}
 use Rattle.group_modules.proofs.SumLaws.{total-only}
 use Rattle.group_modules.specs.Tables.{monoid}
@@ -28,7 +27,6 @@ use Rattle.group_algebra.proofs.ImageLemmas.{row-back, zero-table, image-gained,
 use Rattle.group_algebra.proofs.ImageLemmas.{product-additive}
 use Rattle.group_algebra.proofs.ImageLemmas.{zeros-are-row, products-all, no-products}
 use Rattle.group_algebra.proofs.LayerRows.{size-is}
-use Rattle.group_algebra.proofs.Members.{residue-row}
 use Rattle.group_algebra.proofs.PlaceLemmas.{place-differs-of}
 
 unit-is-row : (p w j : ℕ) → 1 < p → IsRow p w (unit_row w j)

@@ -1,5 +1,5 @@
 -- The rows that an algebra keeps, by their position in a list.
-use Rattle.std.specs.Prelude.{◌≡◌, ℕ, List, ◌+◌, ◌*◌, ◌<◌, length, replicate}
+use Rattle.std.specs.Prelude.{◌≡◌, ℕ, List, ◌+◌, ◌*◌, ◌<◌, length}
 use Rattle.linear_algebra.specs.Rows.{entry, row, combination_row}
 use Rattle.group_modules.specs.Field.{Below, residue}
 use Rattle.group_modules.specs.Tables.{unit}

@@ -1,5 +1,4 @@
-use Rattle.std.proofs.Common.{◌≡◌, ℕ, List, length, ap, refl}
-use Rattle.linear_algebra.specs.Rows.{IsRow}
+use Rattle.std.proofs.Common.{◌≡◌, ℕ, List, length}
 use Rattle.linear_algebra.specs.Modular.{IsCongruent, sum_below}
 use Rattle.linear_algebra.specs.Rows.{entry}
 use Rattle.linear_algebra.proofs.Congruences.{congruent_mod}

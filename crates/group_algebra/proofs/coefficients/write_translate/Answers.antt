@@ -1,8 +1,6 @@
-use Rattle.std.proofs.Common.{◌≡◌, ◌<◌, ℕ, length, arith}
+use Rattle.std.proofs.Common.{◌≡◌, ◌<◌, arith}
 use Rattle.group_table.specs.Tables.{order, product, IsInverse}
 use Rattle.group_table.specs.Groups.{IsGroup}
-use Rattle.linear_algebra.specs.Rows.{IsRow}
-use Rattle.fp_rows.specs.Refs.{entries_of}
 use Rattle.group_algebra.proofs.coefficients.write_translate.Goals as goal
 
 pub returns-clause-translate : goal.returns-clause-translate

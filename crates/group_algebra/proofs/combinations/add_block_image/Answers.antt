@@ -1,9 +1,7 @@
-use Rattle.std.proofs.Common.{◌≡◌, ℕ, List, ◌+◌, ◌*◌, ◌<◌, length, arith, ap, sym, ◌∙◌}
-use Rattle.linear_algebra.specs.Modular.{IsCongruent}
+use Rattle.std.proofs.Common.{◌*◌, ◌∙◌}
 use Rattle.linear_algebra.specs.Rows.{entry}
 use Rattle.linear_algebra.proofs.Congruences.{congruent_mul_left}
-use Rattle.radical_layers.specs.Placing.{place_of, size_of}
-use Rattle.fp_rows.specs.Refs.{entries_of, modulus_of}
+use Rattle.fp_rows.specs.Refs.{entries_of}
 use Rattle.group_algebra.specs.Gains.{stepped, image_entry}
 use Rattle.group_algebra.proofs.LayerPlaces.{gains-congruent}
 use Rattle.group_algebra.proofs.combinations.add_block_image.Goals as goal

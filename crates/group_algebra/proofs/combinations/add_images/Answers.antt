@@ -1,7 +1,6 @@
-use Rattle.std.proofs.Common.{◌≡◌, ℕ, List, ◌+◌, ◌-◌, ◌*◌, ◌≤◌, ◌<◌, length, arith, ap, sym, ◌∙◌}
+use Rattle.std.proofs.Common.{◌≡◌, ℕ, List, ◌+◌, ◌*◌, arith, ap, sym, ◌∙◌}
 use Rattle.linear_algebra.specs.Rows.{entry}
 use Rattle.fp_rows.specs.Refs.{entries_of}
-use Rattle.fp_rows.specs.Values.{RowValue}
 use Rattle.group_algebra.specs.Gains.{stepped}
 use Rattle.group_algebra.proofs.ImageSums.{AreImagesAdded, images-none, images-to, images-next}
 use Rattle.group_algebra.proofs.combinations.add_images.Goals as goal

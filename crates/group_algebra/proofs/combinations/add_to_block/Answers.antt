@@ -3,7 +3,7 @@ use Rattle.std.proofs.Common.{◌∙◌, refl}
 use Rattle.fp_rows.specs.Parts.{GainsPart}
 use Rattle.fp_rows.specs.Refs.{entries_of}
 use Rattle.fp_rows.specs.Values.{RowValue}
-use Rattle.linear_algebra.specs.Rows.{entry, IsRow}
+use Rattle.linear_algebra.specs.Rows.{entry}
 use Rattle.radical_layers.specs.Placing.{size_of}
 use Rattle.group_algebra.specs.Places.{start_at}
 use Rattle.group_algebra.proofs.LayerPlaces.{layers-none, layers-next, layers-all, start-next, start_within}

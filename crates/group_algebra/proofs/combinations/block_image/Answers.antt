@@ -1,16 +1,16 @@
-use Rattle.std.proofs.Common.{◌≡◌, ℕ, List, ◌+◌, ◌*◌, ◌<◌, get_or, length, slice_range, replicate, arith, ap}
-use Rattle.std.proofs.Common.{sym, ◌∙◌, refl}
+use Rattle.std.proofs.Common.{◌≡◌, ℕ, ◌*◌, ◌<◌, get_or, length, arith, ap}
+use Rattle.std.proofs.Common.{sym, ◌∙◌}
 use Rattle.std.proofs.lemmas.List.{length-replicate, get_or-replicate}
-use Rattle.linear_algebra.specs.Modular.{IsCongruent, sum_below}
+use Rattle.linear_algebra.specs.Modular.{sum_below}
 use Rattle.linear_algebra.specs.Rows.{entry}
 use Rattle.linear_algebra.proofs.Congruences.{congruent_eq}
 use Rattle.linear_algebra.proofs.Sums.{sum_below-same, sum_below-zero}
-use Rattle.radical_layers.specs.Placing.{place_of, size_of}
-use Rattle.fp_rows.specs.Refs.{entries_of, modulus_of}
+use Rattle.radical_layers.specs.Placing.{place_of}
+use Rattle.fp_rows.specs.Refs.{entries_of}
 use Rattle.fp_rows.specs.Values.{RowValue}
 use Rattle.group_algebra.specs.Gains.{stepped}
 use Rattle.group_algebra.specs.Places.{start_at}
-use Rattle.group_algebra.proofs.LayerPlaces.{image-next, start-next, start-end, length-part}
+use Rattle.group_algebra.proofs.LayerPlaces.{image-next, start-next, length-part}
 use Rattle.group_algebra.proofs.combinations.block_image.Goals as goal
 
 -- products with zeros

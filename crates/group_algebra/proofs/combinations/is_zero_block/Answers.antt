@@ -1,13 +1,10 @@
-use Rattle.std.proofs.Common.{◌≡◌, ◌+◌, ◌*◌, ◌<◌, ◌≤◌, ℕ, get_or, length, slice_range, arith, ap, sym, ◌∙◌}
-use Rattle.std.proofs.Common.{refl, IsTrue}
+use Rattle.std.proofs.Common.{◌≡◌, ◌+◌, ◌*◌, ◌<◌, get_or, length, slice_range, arith, sym}
+use Rattle.std.proofs.Common.{refl}
 use mathlib.Core.Path.{subst}
-use Rattle.linear_algebra.specs.Rows.{entry}
 use Rattle.fp_rows.specs.Parts.{IsZero}
 use Rattle.fp_rows.specs.Refs.{entries_of}
-use Rattle.radical_layers.specs.Placing.{place_of, size_of}
 use Rattle.group_algebra.specs.Places.{start_at}
-use Rattle.group_algebra.specs.Gains.{IsZeroBlock}
-use Rattle.group_algebra.proofs.LayerPlaces.{zero-next, zero-part, start-next, start-end}
+use Rattle.group_algebra.proofs.LayerPlaces.{zero-next, zero-part, start-next}
 use Rattle.group_algebra.proofs.combinations.is_zero_block.Goals as goal
 
 pub loop-i-preserved : goal.loop-i-preserved

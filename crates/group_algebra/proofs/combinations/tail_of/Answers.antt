@@ -1,8 +1,7 @@
-use Rattle.std.proofs.Common.{◌≡◌, ℕ, ◌+◌, ◌*◌, ◌≤◌, ◌<◌, get_or, length, arith, ap, sym, ◌∙◌}
-use Rattle.std.proofs.Math.Nat.{mul-le-mul_left}
-use Rattle.radical_layers.specs.Placing.{place_of, size_of}
+use Rattle.std.proofs.Common.{◌*◌, ◌≤◌, ◌<◌, length, arith, sym}
+use Rattle.radical_layers.specs.Placing.{place_of}
 use Rattle.group_algebra.specs.Places.{start_at}
-use Rattle.group_algebra.proofs.LayerPlaces.{start-next, start_within, start-end, place-before}
+use Rattle.group_algebra.proofs.LayerPlaces.{start-next, place-before}
 use Rattle.group_algebra.proofs.combinations.tail_of.Goals as goal
 
 pub returns-then-first-rank-clause-begins : goal.returns-then-first-rank-clause-begins

@@ -4,7 +4,6 @@ use Rattle.std.proofs.lemmas.List.{append-nil}
 use mathlib.Core.Path.{subst}
 use Rattle.std.specs.Slice.Iter.{iter_rest}
 use Rattle.linear_algebra.specs.Choices.{rows_at}
-use Rattle.linear_algebra.specs.Rows.{row}
 use Rattle.fp_rows.specs.Refs.{entries_of}
 use Rattle.fp_rows.specs.Values.{MatrixValue}
 use Rattle.group_algebra.proofs.layers.push_layer.Goals as goal

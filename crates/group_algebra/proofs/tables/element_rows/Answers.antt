@@ -1,5 +1,4 @@
-use Rattle.std.proofs.Common.{◌≡◌, ◌<◌, ℕ, List, length, ap, sym, ◌∙◌}
-use Rattle.group_table.specs.Prime.{prime_value}
+use Rattle.std.proofs.Common.{◌≡◌, ℕ, List, length, ap, sym, ◌∙◌}
 use Rattle.group_table.specs.Tables.{order}
 use Rattle.linear_algebra.specs.Kernels.{unit_row}
 use Rattle.linear_algebra.specs.Rows.{combination_row, entry, IsRow, IsMatrix}

@@ -1,13 +1,12 @@
-use Rattle.std.proofs.Common.{◌≡◌, ◌<◌, ◌≤◌, ◌+◌, ◌++◌, ◌*◌, [], ℕ, List, length, map, get_or, arith, ap, sym}
+use Rattle.std.proofs.Common.{◌≡◌, ◌<◌, ◌≤◌, ◌+◌, ◌++◌, ◌*◌, [], ℕ, List, length, map, arith, ap, sym}
 use Rattle.std.proofs.Common.{◌∙◌, refl}
 use Rattle.std.proofs.lemmas.List.{length-map, get_or-map}
 use Rattle.std.proofs.Math.Nat.{mul-le-mul_right}
 use mathlib.Core.Path.{subst}
 use Rattle.group_table.specs.Tables.{order}
 use Rattle.linear_algebra.specs.Rows.{combination_row, entry, row, IsMatrix}
-use Rattle.fp_rows.specs.Values.{MatrixValue}
 use Rattle.p_groups.specs.PGroups.{PGroup}
-use Rattle.group_algebra.specs.Tables.{HasShape, IsProductRow, EachRow}
+use Rattle.group_algebra.specs.Tables.{HasShape, IsProductRow}
 use Rattle.group_algebra.proofs.Combined.{combined, positive}
 use Rattle.group_algebra.proofs.TableLemmas.{each-appended, shape-appended, product-of-members}
 use Rattle.group_algebra.proofs.tables.product_rows.Goals as goal

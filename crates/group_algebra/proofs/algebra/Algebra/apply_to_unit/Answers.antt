@@ -1,13 +1,12 @@
-use Rattle.std.proofs.Common.{◌≡◌, ◌<◌, ◌≤◌, ℕ, List, ◌*◌, ◌^◌, length, replicate, ap, sym, ◌∙◌}
+use Rattle.std.proofs.Common.{◌≡◌, ◌<◌, ℕ, List, ◌*◌, ◌^◌, length, replicate, ap, sym, ◌∙◌}
 use Rattle.std.proofs.lemmas.List.{length-replicate}
 use mathlib.Core.Path.{subst}
 use Rattle.group_table.specs.Tables.{order}
 use Rattle.linear_algebra.specs.Kernels.{unit_row}
 use Rattle.linear_algebra.specs.Rows.{row, IsRow}
 use Rattle.radical_layers.specs.Placing.{size_of, place_of}
-use Rattle.fp_rows.specs.Refs.{entries_of}
 use Rattle.p_groups.specs.PGroups.{PGroup}
-use Rattle.group_algebra.specs.Coordinates.{sizes, row_of, table_of, member, product_with}
+use Rattle.group_algebra.specs.Coordinates.{sizes}
 use Rattle.group_algebra.specs.Gains.{stepped, GainsImage}
 use Rattle.group_algebra.specs.RowMaps.{map_row}
 use Rattle.group_algebra.proofs.LayerRows.{size-is}

@@ -1,4 +1,4 @@
-use Rattle.std.proofs.Common.{◌≡◌, List, ℕ, ap}
+use Rattle.std.proofs.Common.{List, ℕ, ap}
 use Rattle.group_table.specs.Tables.{order}
 use Rattle.linear_algebra.specs.Rows.{row, IsRow}
 use Rattle.fp_rows.specs.Refs.{entries_of}

@@ -1,6 +1,6 @@
 use Rattle.std.proofs.Common.{◌≡◌, ap, ◌∙◌}
 use Rattle.group_table.specs.Tables.{order}
-use Rattle.linear_algebra.specs.Rows.{combination_row, entry, row}
+use Rattle.linear_algebra.specs.Rows.{row}
 use Rattle.fp_rows.specs.Refs.{entries_of}
 use Rattle.fp_rows.specs.Values.{RowValue}
 use Rattle.p_groups.specs.PGroups.{PGroup}
