@@ -89,10 +89,12 @@ find_rewritten path q bytes (e ∷ es) there =
       | true ↦ λ h there. rewritten_there q path bytes e (find (is_at q) es) (same_text path e.path h)
       | false ↦ λ h there. elim (bytes_eq q e.path) as (λ b. bytes_eq q e.path ≡ b
           → option_map (λ e. e.bytes) (cond b (Some e)
-          (find (is_at q) (change_first (is_at path) (with_bytes bytes) es))) ≡ cond (bytes_eq q path) (Some bytes)
+          (find (is_at q) (change_first (is_at path) (with_bytes bytes) es))) ≡ cond (bytes_eq q path)
+          (Some bytes)
           (option_map (λ e. e.bytes) (cond b (Some e) (find (is_at q) es)))) [
             | true ↦ λ k. ap (λ b. cond b (Some bytes) (Some e.bytes))
-                (sym (subst (λ p. bytes_eq p path ≡ false) (sym (same_text q e.path k)) (other_text path e.path h)))
+                (sym (subst (λ p. bytes_eq p path ≡ false) (sym (same_text q e.path k))
+                (other_text path e.path h)))
             | false ↦ λ k. find_rewritten path q bytes es there
           ] refl
     ] refl there
@@ -154,8 +156,10 @@ same_count p q bytes outside (e ∷ es) same = elim (p e) as
           (elim (q e) as (λ b. counts_of outside (cond b (Some (with_bytes bytes e)) (find q es)) ≡ counts_of
           outside (cond b (Some e) (find q es))) [ true ↦ refl | false ↦ refl ])
       | false ↦ elim (q e) as
-          (λ b. counts_of outside (cond b (Some e) (find q (change_first p (with_bytes bytes) es))) ≡ counts_of
-          outside (cond b (Some e) (find q es))) [ true ↦ refl | false ↦ same_count p q bytes outside es same ]
+          (λ b. counts_of outside (cond b (Some e) (find q
+          (change_first p (with_bytes bytes) es))) ≡ counts_of
+          outside (cond b (Some e) (find q es)))
+          [ true ↦ refl | false ↦ same_count p q bytes outside es same ]
     ]
 
 pushed_count : (q : Entry → Bool) (e : Entry) (es : List Entry)

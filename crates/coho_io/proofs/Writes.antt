@@ -17,7 +17,8 @@ use Rattle.coho_io.proofs.Faults.{content-fault, later-fault, rose-fault}
 use Rattle.coho_io.proofs.Puts.{content-put, content-extended, later-put}
 
 -- the clauses of the trait on a call that writes
-pub record WriteTells (r : Result (Unit {0}) Fault) (s s' : FilesState) (path : List ℕ) (Done Stopped : Type 0) : Type 0 where
+pub record WriteTells (r : Result (Unit {0}) Fault) (s s' : FilesState) (path : List ℕ)
+    (Done Stopped : Type 0) : Type 0 where
   pub ok : OnOk r Done
   pub err : OnErr r Stopped
   pub later : (k : Kind) → NoneFell (fault_count k s) (fault_count k s')
@@ -102,12 +103,14 @@ module _ (s : FilesState) (path : List ℕ) where
         later = λ k. then-later k s (extended (counted s) path front) (cut_append s path piece F.0)
             (later-extended k (counted s) path front)
             (later-fault Write k (extended (counted s) path front) path);
-        cause = λ e. rose-after s (extended (counted s) path front) path (later-extended Write (counted s) path front);
+        cause = λ e. rose-after s (extended (counted s) path front) path
+            (later-extended Write (counted s) path front);
       })
   appended-tells piece (Err fault.Memory) s' ok failed memory =
       subst (λ t. WriteTells (Err fault.Memory) s t path
       (AppendsPiece (Some (content_of s)) (Some (content_of t)) path piece)
-      (AppendsFrontOrStays (Some (content_of s)) (Some (content_of t)) path piece)) (sym (memory refl)) (record {
+      (AppendsFrontOrStays (Some (content_of s)) (Some (content_of t)) path piece)) (sym (memory refl))
+      (record {
         ok = tt;
         err = inl refl;
         later = λ k q. omega arith;

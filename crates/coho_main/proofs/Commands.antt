@@ -247,7 +247,8 @@ dashed_is (name ∷ a ∷ []) h =
     (λ e. ap (option_map Sample) (dash_first 0 GREATEST_SAMPLE a (ends a (dashed (codes "sample") refl e)))) refl)
 dashed_is (name ∷ a ∷ b ∷ []) h =
     let no_degree = λ (known : Text) (k : is_path known ≡ true) (e : bytes_eq name known ≡ true)
-    (p : is_path a ≡ true). dash_first 1 GREATEST_DEGREE b (ends b (after_file a (b ∷ []) (after_name name known (a ∷ b ∷ []) h k e) p)) in
+    (p : is_path a ≡ true). dash_first 1 GREATEST_DEGREE b
+    (ends b (after_file a (b ∷ []) (after_name name known (a ∷ b ∷ []) h k e) p)) in
     unless (bytes_eq name (codes "resolve")) (is_path a)
     (option_map (Resolve a) (numeral 1 GREATEST_DEGREE b)) _
     (λ e p. ap (option_map (Resolve a)) (no_degree (codes "resolve") refl e p))

@@ -60,9 +60,11 @@ module _ (P : Presentation) (es : List ℕ) (n : ℕ) (same : n ≡ order P) (fi
 
 -- the class and its value, for the group of the presentation
 
-module _ (P : Presentation) (d : ℕ) (r : ResolutionValue) (R : IsResolutionTo P d r) (k : ℕ) (es : List ℕ) where
+module _ (P : Presentation) (d : ℕ) (r : ResolutionValue) (R : IsResolutionTo P d r) (k : ℕ)
+    (es : List ℕ) where
   pub below_order : All (λ e. e < order P) es → All (λ e. e < order_of r.group) es
-  below_order below = subst (λ n. All (λ e. e < n) es) (sym (same_order P r.group.table R.is_table.group)) below
+  below_order below = subst (λ n. All (λ e. e < n) es)
+      (sym (same_order P r.group.table R.is_table.group)) below
 
   pub has_class : HasClass r.group (length es) k → ForGroupOf P (λ G. HasClass G (length es) k)
   has_class has = record { group = r.group; is_table = R.is_table; holds = has }

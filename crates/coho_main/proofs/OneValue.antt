@@ -1,4 +1,5 @@
--- Values of cocycles: there is one, the class is there or it is not, and classes are cocycles up to coboundaries.
+-- Values of cocycles: there is one, the class is there or it is not, and classes are cocycles up to
+-- coboundaries.
 use Rattle.std.proofs.Common.{◌∙◌, ◌⊎◌, inl, inr, ℕ, List, length, refl, sym, arith}
 use Rattle.std.proofs.lemmas.Bool.{cases_lt}
 use Rattle.std.specs.Prelude.{⊤}

@@ -1,4 +1,5 @@
--- Words and files have one outcome, which has the status of the words where they are not those of a command, and
+-- Words and files have one outcome, which has the status of the words where they are not those of a
+-- command, and
 -- else only for those of `value`.
 use Rattle.std.proofs.Common.{◌≡◌, ◌∙◌, ◌⊎◌, inl, inr, ℕ, ◌+◌, List, [], ◌∷◌, codes, length, nat_le, take}
 use Rattle.std.proofs.Common.{refl, sym, ap, subst}

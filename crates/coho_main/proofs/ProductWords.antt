@@ -168,7 +168,8 @@ module _ (P Q : Presentation) (V : IsPresentation P) (W : IsPresentation Q) wher
         at : (P.gens < j) ⊎ (j ≤ P.gens) → (P.gens < i) ⊎ (i ≤ P.gens)
             → IsWord P.prime (P.gens + Q.gens) j (commutator_word (direct_product P Q) j i)
         at (inr l) k = subst (IsWord P.prime (P.gens + Q.gens) j) (sym (left_commutator j i low less l))
-            (word_before P.prime P.gens j Q.gens (commutator_word P j i) positive (V.commutator j i low less l))
+            (word_before P.prime P.gens j Q.gens (commutator_word P j i) positive
+            (V.commutator j i low less l))
         at (inl l) (inr k) = subst (IsWord P.prime (P.gens + Q.gens) j)
             (sym (mixed_commutator j i low k l high))
             (identity-word P.prime (P.gens + Q.gens) j positive)

@@ -126,7 +126,8 @@ module _ (P : Presentation) (k : ℕ) (es : List ℕ) where
   module _ (elements : Settles unit (FitElements P es) (Ok tt)) where
     then_stages : (r : Result Lines Stop) → Settles lines_of (after_elements P k es tt) r
         → Settles lines_of (AnswerValue P k es) r
-    then_stages r h = settled_after_ok unit lines_of (FitElements P es) (after_elements P k es) tt r elements h
+    then_stages r h = settled_after_ok unit lines_of (FitElements P es)
+        (after_elements P k es) tt r elements h
 
     pub stage_stop : (s : Stop)
         → IsRefused (λ refusal. ForGroupOf P (λ G. IsStageRefusal G (length es) refusal)) s

@@ -24,7 +24,8 @@ module _ (G : PGroup) where
   abbrev pub IsValue : ℕ → List ℕ → ℕ → Type 0
   IsValue k es v = v ≡ value_at G (basis_class (length es) k) es
 
-  -- the classes of degree d are the cocycles of the bar complex up to coboundaries: the class map is linear and
+  -- the classes of degree d are the cocycles of the bar complex up to coboundaries: the class map is
+  -- linear and
   -- gives cocycles, a coboundary only for the class 0, and each cocycle up to a coboundary exactly once
   pub record AreCocycleClasses (d : ℕ) : Type 0 where
     pub linear : IsLinear G d

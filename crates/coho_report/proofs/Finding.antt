@@ -64,7 +64,8 @@ module _ (G : PGroup) (gs : List (Generator (Vector (largest_residue G)))) where
       go true e = subst (λ fs. (length fs ≤ 63) × Ascend d (suc d) fs) (sym e) (omega arith, omega arith)
       go false c = subst (λ fs. (length fs ≤ 63) × Ascend d (suc d) fs) (sym c.polynomials_are) (
         (let most = c.rows_are.at_most in
-            let f : List ℕ → Polynomial = λ row. record { degree = suc d; terms = polynomial_of c.monomials row } in
+            let f : List ℕ → Polynomial = λ row. record
+            { degree = suc d; terms = polynomial_of c.monomials row } in
             let count = length-map c.rows f in
             omega (arith, most, count)),
         ascend-rows d (suc d) c.monomials c.rows (omega arith),

@@ -31,7 +31,8 @@ use Rattle.param_test.proofs.Restricting.{variables-are}
 use Rattle.param_test.proofs.VariableDegrees.{low-degree}
 use Rattle.coho_report.proofs.ListsBelow.{decide_equal}
 
-module _ (g : Generators) (fs : List Polynomial) (prime : IsSmallPrime g.prime) (all-variables : AreVariables g)
+module _ (g : Generators) (fs : List Polynomial) (prime : IsSmallPrime g.prime)
+    (all-variables : AreVariables g)
     (over : All (IsOverGenerators g) fs) where
   positive : Each (λ d. 0 < d) g.degrees
   positive = each-map (λ d. d ≡ unit_degree g) (λ d. 0 < d) g.degrees

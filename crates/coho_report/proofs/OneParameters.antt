@@ -32,7 +32,8 @@ before-self ds a (inr h) = less-self a h.1
 one_found : (t : TableValue) (r : ℕ) (a b : Option (List ℕ)) → IsFoundIn t r a → IsFoundIn t r b → a ≡ b
 one_found t r a b f g =
     let ds = degrees_of t.candidates in
-    found_is_one (IsTuple (length ds) r) (IsBefore ds) (before-self ds) (before-trans ds) 5000 (Passes t) a b f g
+    found_is_one (IsTuple (length ds) r) (IsBefore ds) (before-self ds) (before-trans ds) 5000
+    (Passes t) a b f g
 
 module _ (G : PGroup) (n : ℕ) where
   one_restriction : (g : Generator (Vector (largest_residue G))) (v : SubgroupValue) (e f : Polynomial)

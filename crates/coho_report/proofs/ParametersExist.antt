@@ -75,7 +75,8 @@ module _ (G : PGroup) (n : ℕ) where
     OverAt cs j g = Each (λ (c : CandidateValue).
         IsOverGenerators g (slice_index_or c.images j (record { degree = 0; terms = [] }))) cs
 
-    images-over : (h : Generator (Vector (largest_residue G))) (vs : List SubgroupValue) (fs : List Polynomial)
+    images-over : (h : Generator (Vector (largest_residue G))) (vs : List SubgroupValue)
+        (fs : List Polynomial)
         → Each TellsOwn vs → AreRelated (IsRestriction G n h) vs fs → (j : ℕ) (v : SubgroupValue)
         → slice_get vs j ≡ Some v
         → IsOverGenerators (ring_of v) (slice_index_or fs j (record { degree = 0; terms = [] }))

@@ -61,6 +61,7 @@ module _ (R : RingValue) (cs : List Candidate) (ks : List ℕ) (fs : List Polyno
       let c : Candidate = record { degree = 0; class = record { p = 0; entries = [] } } in
       all-related (IsFormAt R cs)
       (IsOverGenerators (record { prime = R.prime; degrees = map (λ g. g.degree) R.generators }))
-      (λ k f at. subst (λ p. IsPolynomial (p - 1) (map (λ g. g.degree) R.generators) f.degree f.terms) (sym prime)
+      (λ k f at. subst (λ p. IsPolynomial (p - 1) (map (λ g. g.degree) R.generators) f.degree f.terms)
+      (sym prime)
       (subst (λ ds. IsPolynomial q ds f.degree f.terms) (degrees-are q R.generators)
       (at.form G group c).polynomial)) ks fs related

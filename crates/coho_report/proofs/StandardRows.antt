@@ -96,7 +96,8 @@ class_of_row G n p gs d width ms values S V M prime rank from to u comb x degree
       };
       degree_is = degree;
       form = subst (λ k. IsNormalForm q (cohomology G) gs k (vector q x.class.entries) (polynomial_of ms u))
-          (sym degree) (combination-form G gs d width ms values S V matrix u x.class.entries coefficients row);
+          (sym degree) (combination-form G gs d width ms values S V matrix u x.class.entries coefficients
+          row);
     }
 
 -- the first combinations of the standard monomials, of which there are as many as classes

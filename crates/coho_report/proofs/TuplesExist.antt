@@ -59,7 +59,8 @@ module _ (ds : List ℕ) (r : ℕ) where
       → (o : Option (List ℕ)) × IsFound ds r Passes o
   search_has_answer Passes decide =
       let members = members_of Member decide_tuple (lists_below (length ds) r) in
-      found_exists Member (IsBefore ds) (parameters.before-self ds) (positions.before-trans ds) compare_tuples 5000
+      found_exists Member (IsBefore ds) (parameters.before-self ds)
+      (positions.before-trans ds) compare_tuples 5000
       Passes decide members.0 members.1 (λ t m. members.2 t m (all_below (length ds) r t m.length_is
       (ascends_below 0 (length ds) t m.ascends)))
 
@@ -104,7 +105,8 @@ row-told i (zero ∷ c) (zero ∷ d) l p k = ap (λ xs. zero ∷ xs) (row-told (
 row-told i (zero ∷ c) (suc y ∷ d) l p k = absurd (not-here i c (places_from (suc i) d) p)
 row-told i (suc x ∷ c) (zero ∷ d) l p k = absurd (not-here i d (places_from (suc i) c) (sym p))
 row-told i (suc x ∷ c) (suc y ∷ d) l p k =
-    ap₂ (λ z zs. z ∷ zs) (ap head-of k) (row-told (suc i) c d (omega (arith, l)) (ap tail-of p) (ap tail-of k))
+    ap₂ (λ z zs. z ∷ zs) (ap head-of k) (row-told (suc i) c d (omega (arith, l)) (ap tail-of p)
+    (ap tail-of k))
 
 module _ (p count : ℕ) where
   compare_combinations : (a b : List ℕ) → IsCombination p count a → IsCombination p count b

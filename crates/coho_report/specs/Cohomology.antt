@@ -17,7 +17,8 @@ use Rattle.coho_report.specs.Values.{ReportValue, SubgroupValue}
 use Rattle.coho_report.specs.Verdicts.{bound_of, is_complete}
 
 module _ (G : PGroup) where
-  -- f, in the generators own of the subgroup with this basis, differs by a coboundary from the cocycle of h at
+  -- f, in the generators own of the subgroup with this basis, differs by a coboundary from the cocycle
+  -- of h at
   -- tuples of the subgroup
   abbrev pub IsRestriction : (basis : List ℕ) → Generators (elementary G (length basis))
       → Generator (GroupCochain G) → Polynomial → Type 0

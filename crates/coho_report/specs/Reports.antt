@@ -17,7 +17,8 @@ module _ (G : PGroup) where
   ranks_below zero = []
   ranks_below (suc c) = ranks_below c ++ rank_of G c ∷ []
 
-  -- the report has the ranks of degrees 0 to n, the generators and relations of degrees 1 to n, what is told of
+  -- the report has the ranks of degrees 0 to n, the generators and relations of degrees 1 to n, what is
+  -- told of
   -- each maximal elementary abelian subgroup, one of each conjugacy class, and the parameters
   pub record IsReport (n : ℕ) (r : ReportValue) : Type 0 where
     pub prime : r.prime ≡ prime_of G

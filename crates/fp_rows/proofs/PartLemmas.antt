@@ -58,7 +58,8 @@ more_added start done count x part old mid new A w bits len inside before after 
         inside (start + j) (omega arith) (omega arith)
         ∙ ap (λ z. (entry mid (start + j) + z) % 2) b
         ∙ ap (λ z. (z + entry part j) % 2) (A.after (start + j) (omega arith))
-        ∙ (let z : (entry old (start + j) + entry part j) % 2 ≡ (entry old (start + j) + 1 * entry part j) % 2 =
+        ∙ (let z : (entry old (start + j) + entry part j) % 2 ≡ (entry old
+        (start + j) + 1 * entry part j) % 2 =
         omega arith in z)
 
 -- a word of zeros need not be added
@@ -101,7 +102,8 @@ pub no_part : (p start : ℕ) (part old : List ℕ) → ((j : ℕ) → j < lengt
     → start + length part ≤ length old → GainsPart p start 0 part old old
 no_part p start part old h w = record {
   same_length = refl;
-  inside = λ j l. sym (ap (λ x. x % p) (let z : entry old (start + j) + 0 * entry part j ≡ entry old (start + j) =
+  inside = λ j l. sym (ap (λ x. x % p) (let z : entry old (start + j) + 0 * entry part j ≡ entry old
+      (start + j) =
       omega arith in z) ∙ mod-eq_of_lt (h (start + j) (omega arith)));
   before = λ j l. refl;
   after = λ j l. refl;
@@ -192,7 +194,8 @@ no_bits x count f low high = go (cases_eq x 0)
   where
     go : (x ≡ 0) ⊎ (x ≡ 0 → ⊥) → x ≡ 0
     go (inl e) = e
-    go (inr n) = let h = bit_at-trailing_zeros w64 x (omega arith) f in at (cases_lt (trailing_zeros w64 x) count) h.0 h.1
+    go (inr n) = let h = bit_at-trailing_zeros w64 x (omega arith) f in at
+        (cases_lt (trailing_zeros w64 x) count) h.0 h.1
       where
         at : (trailing_zeros w64 x < count) ⊎ (count ≤ trailing_zeros w64 x) → trailing_zeros w64 x < 64
             → bit_at x (trailing_zeros w64 x) ≡ 1 → x ≡ 0

@@ -80,7 +80,8 @@ pub added_in_front : (new old ys : List ℕ) (n len : ℕ) → length new ≡ n 
     → length ys ≡ len
     → ((j : ℕ) → j < len → place new j ≡ (place (take n old) j + entry ys j) % 2)
     → places (new ++ drop n old) 0 len ≡ add_multiple 2 1 (places old 0 len) ys
-added_in_front new old ys n len e m f h = is_add_multiple 2 1 (places old 0 len) ys (places (new ++ drop n old) 0 len)
+added_in_front new old ys n len e m f h = is_add_multiple 2 1 (places old 0 len) ys
+    (places (new ++ drop n old) 0 len)
     (f ∙ sym (length-places old 0 len))
     (length-places (new ++ drop n old) 0 len ∙ sym (length-places old 0 len))
     (λ j l. let k : j < len = omega (arith, l, length-places old 0 len) in

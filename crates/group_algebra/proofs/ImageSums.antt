@@ -29,7 +29,8 @@ images-skip p old g k sum A h = record {
   prime = A.prime;
   count = A.count;
   sums = λ j l. congruent_trans (A.sums j l) (congruent_eq (rw (add-one, h j)
-      (let z : entry old j + sum_below k (λ i. g i j) ≡ entry old j + (sum_below k (λ i. g i j) + 0) = omega arith in
+      (let z : entry old j + sum_below k (λ i. g i j) ≡ entry old j +
+      (sum_below k (λ i. g i j) + 0) = omega arith in
       z)));
 }
 
@@ -46,7 +47,8 @@ images-next p old g k x r mid new A len e h = record {
       (congruent_trans (congruent_mod (entry mid.entries j + x * entry r j))
       (congruent_trans (congruent_add (A.sums j l) (congruent_eq (h j)))
       (congruent_eq (rw add-one
-      (let z : entry old j + sum_below k (λ i. g i j) + g k j ≡ entry old j + (sum_below k (λ i. g i j) + g k j) =
+      (let z : entry old j + sum_below k (λ i. g i j) + g k j ≡ entry old j +
+      (sum_below k (λ i. g i j) + g k j) =
       omega arith in z)))));
 }
 

@@ -28,7 +28,8 @@ start-next (s ∷ ss) (suc i) l =
 pub start_within : (ss : List ℕ) (i : ℕ) → i < length ss → start_at ss i + get_or ss i 0 ≤ size_of ss
 start_within [] i l = absurd (omega arith)
 start_within (s ∷ ss) zero l = let z : 0 + s ≤ s + size_of ss = omega arith in z
-start_within (s ∷ ss) (suc i) l = let h : start_at ss i + get_or ss i 0 ≤ size_of ss = start_within ss i (omega arith) in
+start_within (s ∷ ss) (suc i) l = let h : start_at ss i + get_or ss i 0 ≤ size_of ss = start_within ss i
+    (omega arith) in
     let z : s + start_at ss i + get_or ss i 0 ≤ s + size_of ss = omega arith in z
 
 pub start-end : (ss : List ℕ) (i : ℕ) → length ss ≤ i → start_at ss i ≡ size_of ss
@@ -94,7 +95,8 @@ module _ {p : ℕ} (ss : List ℕ) (b m i c : ℕ) (part mid new : List ℕ) (in
   s = get_or ss i 0
 
   pub layer-here : (j : ℕ) → j < s
-      → IsCongruent p (entry new (place_of ss b m (S + j))) (entry mid (place_of ss b m (S + j)) + c * entry part j)
+      → IsCongruent p (entry new (place_of ss b m (S + j)))
+      (entry mid (place_of ss b m (S + j)) + c * entry part j)
   layer-here j l = rw (place-in-layer ss b m i j layer l)
       (congruent_trans (congruent_eq (G.inside j (omega (arith, l, count)))) (congruent_mod _))
 
@@ -104,7 +106,8 @@ module _ {p : ℕ} (ss : List ℕ) (b m i c : ℕ) (part mid new : List ℕ) (in
       (cases_lt (place_of ss b n k) (b * S + m * s + length part))
     where
       go : (place_of ss b n k < b * S + m * s) ⊎ (b * S + m * s ≤ place_of ss b n k)
-          → (place_of ss b n k < b * S + m * s + length part) ⊎ (b * S + m * s + length part ≤ place_of ss b n k)
+          → (place_of ss b n k < b * S + m * s + length part)
+          ⊎ (b * S + m * s + length part ≤ place_of ss b n k)
           → entry new (place_of ss b n k) ≡ entry mid (place_of ss b n k)
       go (inl x) y = G.before (place_of ss b n k) x
       go (inr x) (inr y) = G.after (place_of ss b n k) y
@@ -162,7 +165,8 @@ layers-next p ss b m c r old mid new i o inside layer A len G = record {
 
     count : length part ≡ get_or ss i 0
     count = length-part r (start_at ss i) (get_or ss i 0)
-        (let w : start_at ss i + get_or ss i 0 ≤ size_of ss = start_within ss i layer in omega (arith, w, len))
+        (let w : start_at ss i + get_or ss i 0 ≤ size_of ss = start_within ss i layer in omega
+        (arith, w, len))
 
     gain : (k : ℕ) → k < start_at ss i + get_or ss i 0 → (k < start_at ss i) ⊎ (start_at ss i ≤ k)
         → IsCongruent p (entry new (place_of ss b m k)) (entry old (place_of ss b m k) + c * entry r k)
@@ -204,11 +208,13 @@ pub image-next : (p : ℕ) (ss : List ℕ) (b m i : ℕ) (v : List ℕ) (R : ℕ
     → IsCongruent p y (sum_below (start_at ss (i + 1)) (λ k. entry v (place_of ss b m k) * entry (R k) j))
 image-next p ss b m i v R j x y l h g =
     congruent_trans g (congruent_trans (congruent_add h (congruent_eq
-    (sum_below-same (get_or ss i 0) _ (λ k. entry v (place_of ss b m (start_at ss i + k)) * entry (R (start_at ss i + k)) j)
+    (sum_below-same (get_or ss i 0) _ (λ k. entry v (place_of ss b m (start_at ss i + k)) * entry
+    (R (start_at ss i + k)) j)
     (λ k q. ap (λ z. z * entry (R (start_at ss i + k)) j)
     (entry-part v (b * start_at ss i + m * get_or ss i 0) (get_or ss i 0) k q
     ∙ ap (entry v) (sym (place-in-layer ss b m i k l q)))))))
-    (congruent_eq (sym (ap (λ n. sum_below n (λ k. entry v (place_of ss b m k) * entry (R k) j)) (start-next ss i l)
+    (congruent_eq (sym (ap (λ n. sum_below n (λ k. entry v (place_of ss b m k) * entry (R k) j))
+    (start-next ss i l)
     ∙ sum-split (start_at ss i) (get_or ss i 0) (λ k. entry v (place_of ss b m k) * entry (R k) j)))))
 
 -- congruent gains

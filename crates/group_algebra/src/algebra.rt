@@ -124,7 +124,8 @@ impl Algebra {
         requires length { length (entries_of v) ≡ order_of self.now * rank }
         ensures value { (b : block < rank)
             → result
-            ≡ (block-sum (largest_residue self.now) (group_of self.now) rank (table_of self.now rank (entries_of v.entry)) (block, b)).0 }
+            ≡ (block-sum (largest_residue self.now) (group_of self.now) rank
+            (table_of self.now rank (entries_of v.entry)) (block, b)).0 }
         ensures below { result < prime_of self.now }
     {
         v.get(block)
@@ -151,7 +152,8 @@ impl Algebra {
         requires length { length (entries_of v) ≡ order_of self.now }
         requires out_length { length out.old.entries ≡ order_of self.now }
         ensures prime { out.new.p ≡ out.old.p }
-        ensures coefficients { AreCoefficients self.now out.new.entries (table_of self.now 1 (entries_of v.entry)) }
+        ensures coefficients { AreCoefficients self.now out.new.entries
+            (table_of self.now 1 (entries_of v.entry)) }
     {
         let _members = self.members.rows();
         self.members.combine(v, out);
@@ -167,7 +169,8 @@ impl Algebra {
         ensures prime { out.new.p ≡ out.old.p }
         ensures moved { (b : g < order_of self.now)
             → out.new.entries
-            ≡ row_of self.now rank ((free_module self.now rank).act (g, b) (table_of self.now rank (entries_of v.entry))) }
+            ≡ row_of self.now rank ((free_module self.now rank).act (g, b)
+            (table_of self.now rank (entries_of v.entry))) }
     {
         let _length = v.len();
         let images = Images {

@@ -15,7 +15,8 @@ pub(crate) fn write_sum_coordinates(a: RowRef<'_>, out: &mut Row)
     requires same_length { length out.old.entries ≡ length (entries_of a) }
     requires some { 0 < length (entries_of a) }
     ensures prime { out.new.p ≡ out.old.p }
-    ensures coordinates { AreSumCoordinates (modulus_of a.entry) (length (entries_of a.entry)) (entries_of a.entry) out.new.entries }
+    ensures coordinates { AreSumCoordinates (modulus_of a.entry) (length (entries_of a.entry))
+        (entries_of a.entry) out.new.entries }
 {
     out.clear();
     out.add(1, a);
@@ -29,7 +30,8 @@ pub(crate) fn write_coefficients(p: Prime, x: RowRef<'_>, out: &mut Row)
     requires same_length { length out.old.entries ≡ length (entries_of x) }
     requires some { 0 < length (entries_of x) }
     ensures prime { out.new.p ≡ out.old.p }
-    ensures coefficients { AreSumCoordinates (prime_value p) (length (entries_of x.entry)) out.new.entries (entries_of x.entry) }
+    ensures coefficients { AreSumCoordinates (prime_value p) (length (entries_of x.entry)) out.new.entries
+        (entries_of x.entry) }
 {
     out.clear();
     out.add(1, x);

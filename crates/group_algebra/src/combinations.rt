@@ -20,7 +20,8 @@ fn add_to_block(places: &Places, rank: usize, block: usize, c: u8, r: RowRef<'_>
     requires length { length out.old.entries ≡ size_of places.now * rank }
     requires small { size_of places.now * rank < 2 ^ 64 }
     ensures prime { out.new.p ≡ out.old.p }
-    ensures gains { BlockGains out.old.p places.now rank block (λ j. c * entry (entries_of r.entry) j) out.old.entries out.new.entries }
+    ensures gains { BlockGains out.old.p places.now rank block
+        (λ j. c * entry (entries_of r.entry) j) out.old.entries out.new.entries }
 {
     prove!(r.len() <= out.len());
     let first = r.next_place(0);
@@ -227,7 +228,8 @@ pub(crate) fn add_image(
     requires few { length images.rows.now.rows ≤ 65536 }
     requires short { size_of places.now ≤ 256 }
     ensures prime { out.new.p ≡ out.old.p }
-    ensures gains { GainsImage out.old.p places.now rank (stepped images.entry.rows.now.rows images.entry.first images.entry.step) c (entries_of v.entry)
+    ensures gains { GainsImage out.old.p places.now rank
+        (stepped images.entry.rows.now.rows images.entry.first images.entry.step) c (entries_of v.entry)
         out.old.entries out.new.entries }
 {
     prove!(out.len() == v.len());

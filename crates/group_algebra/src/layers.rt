@@ -24,7 +24,8 @@ fn push_layer(list: &Echelon, taken: &Positions, rows: &mut Matrix) -> Result<()
     requires same_prime { list.now.p ≡ rows.old.p }
     requires same_width { list.now.width ≡ rows.old.width }
     requires inside { (i : ℕ) → i < length taken.now → slice_index taken.now i < length list.now.rows }
-    ensures { OnOk result (rows.new ≡ record rows.old { rows = rows.old.rows ++ rows_at list.now.rows taken.now }) }
+    ensures { OnOk result (rows.new ≡ record rows.old
+        { rows = rows.old.rows ++ rows_at list.now.rows taken.now }) }
 {
     for position in taken {
         rows.push(list.row(*position as usize))?;

@@ -31,7 +31,8 @@ fn write_move(group: &PGroup, g: u16, a: RowRef<'_>, moved: &mut Row, out: &mut 
     ensures difference { (l : g < order_of group.now) (v : (free_module group.now 1).of)
         → AreCoefficients group.now (entries_of a.entry) v
         → out.new.entries
-        ≡ (sum_coordinates group.now).row (sub (free_module group.now 1) ((free_module group.now 1).act (g, l) v) v) }
+        ≡ (sum_coordinates group.now).row (sub (free_module group.now 1)
+        ((free_module group.now 1).act (g, l) v) v) }
 {
     let p = group.prime();
     write_translate(group.as_group(), g, a, moved);
@@ -55,7 +56,8 @@ fn push_moves(
         (l : g < order_of group.now)
         → m.new.rows
         ≡ m.old.rows
-        ++ map (move_row (group_of group.now) (free_module group.now 1) (sum_coordinates group.now) (g, l)) list.now.rows) }
+        ++ map (move_row (group_of group.now) (free_module group.now 1) (sum_coordinates group.now)
+        (g, l)) list.now.rows) }
 {
     let p = group.prime();
     let n = group.order() as usize;
@@ -76,7 +78,8 @@ fn all_moves(alloc: Global, group: &PGroup, list: &Echelon) -> Result<Matrix, Me
     requires same_width { list.now.width ≡ order_of group.now }
     ensures kept { IfOk result (λ m. (m.p ≡ prime_of group.now) × (m.width ≡ order_of group.now)) }
     ensures moves { IfOk result (λ m.
-        m.rows ≡ moves (group_of group.now) (free_module group.now 1) (sum_coordinates group.now) list.now.rows) }
+        m.rows ≡ moves (group_of group.now) (free_module group.now 1)
+        (sum_coordinates group.now) list.now.rows) }
 {
     let mut m = Matrix::new(alloc, group.prime(), list.width());
     let mut g = group.order();
@@ -94,8 +97,10 @@ pub(crate) fn next_power(alloc: Global, group: &PGroup, list: &Echelon) -> Resul
     ensures kept { IfOk result (λ e. (e.p ≡ prime_of group.now) × (e.width ≡ order_of group.now)) }
     ensures power { IfOk result (λ e.
         (i : ℕ)
-        → IsPowerList (largest_residue group.now) (group_of group.now) (sum_coordinates group.now) i list.now.rows
-        → IsPowerList (largest_residue group.now) (group_of group.now) (sum_coordinates group.now) (suc i) e.rows) }
+        → IsPowerList (largest_residue group.now) (group_of group.now)
+        (sum_coordinates group.now) i list.now.rows
+        → IsPowerList (largest_residue group.now) (group_of group.now) (sum_coordinates group.now)
+        (suc i) e.rows) }
 {
     let m = all_moves(alloc, group, list)?;
     echelon(alloc, &m)

@@ -135,7 +135,8 @@ fn push_combinations(
     ensures { OnOk result (m.new
         ≡ record m.old {
           rows = m.old.rows
-              ++ map (λ c. combination_row rows.now.p rows.now.width (entry c) rows.now.rows) coefficients.now.rows;
+              ++ map (λ c. combination_row rows.now.p rows.now.width
+              (entry c) rows.now.rows) coefficients.now.rows;
         }) }
 {
     let _rows = rows.rows();

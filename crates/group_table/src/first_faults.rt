@@ -23,7 +23,8 @@ pub(crate) fn first_not_unit(table: &Table) -> Option<u16>
 
 /// The first row that has an entry twice.
 pub(crate) fn first_not_latin(alloc: Global, table: &Table) -> Result<Option<u16>, Memory>
-    ensures { IfOk result (λ row. MatchOption row (HasLatinRows table.now) (IsFirstFailure (order table.now) (IsLatinAt table.now))) }
+    ensures { IfOk result (λ row. MatchOption row (HasLatinRows table.now)
+        (IsFirstFailure (order table.now) (IsLatinAt table.now))) }
 {
     let mut seen = vec![in alloc; false; table.order() as usize]?;
     for a in 0..table.order() {
@@ -53,7 +54,8 @@ fn is_latin(table: &Table, a: u16, seen: &mut [bool]) -> bool
 
 /// The first triple that does not associate, in ascending order.
 pub(crate) fn first_not_associative(table: &Table) -> Option<(u16, u16, u16)>
-    ensures { MatchOption result (IsAssociative table.now) (λ t. IsFirstNotAssociative table.now t.0 t.1 t.2) }
+    ensures { MatchOption result (IsAssociative table.now)
+        (λ t. IsFirstNotAssociative table.now t.0 t.1 t.2) }
 {
     for a in 0..table.order() {
         if let Some((b, c)) = first_pair(table, a) {

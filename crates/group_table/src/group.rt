@@ -38,7 +38,8 @@ impl Group {
         requires entries { All (λ e. e < prime_value p ^ n) table.items }
         ensures group { IfOk result (λ g. g ≡ record { p = prime_value p; n = n; entries = table.items }) }
         ensures law { IfOk result IsGroupTable }
-        ensures fault { IfErr result (IsFirstFault (record { p = prime_value p; n = n; entries = table.items })) }
+        ensures fault { IfErr result (IsFirstFault
+            (record { p = prime_value p; n = n; entries = table.items })) }
     {
         let table = Table::new(p, n, table);
         if let Some(a) = first_not_unit(&table) {

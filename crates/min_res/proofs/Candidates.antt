@@ -34,7 +34,8 @@ module _ (G : PGroup) (b : ℕ) where
   own x r = subst (λ p. IsRow p (order_of G * b) x) (sym (residues G)) r
 
   -- a table is 0 exactly where its row is
-  pub row-zero : (v : (free_module G b).of) → IsZero (row_of G b v) ↔ (v ≡ (λ i g. residue (largest_residue G) 0))
+  pub row-zero : (v : (free_module G b).of) → IsZero (row_of G b v) ↔
+      (v ≡ (λ i g. residue (largest_residue G) 0))
   row-zero v = (to, from)
     where
       C : RowForm (order_of G * b) (free_module G b)
@@ -53,7 +54,8 @@ module _ (G : PGroup) (b : ℕ) where
 
       from : v ≡ (λ i g. residue (largest_residue G) 0) → IsZero (row_of G b v)
       from e j l =
-          let m : j < order_of G * b = (let k : length (row_of G b v) ≡ order_of G * b = (C.row-is v).length_is in
+          let m : j < order_of G * b = (let k : length
+          (row_of G b v) ≡ order_of G * b = (C.row-is v).length_is in
           omega (arith, k, l)) in
           same_below (congruent_trans (congruent_eq (ap (λ (w : (free_module G b).of). entry (C.row w) j) e))
           (at-zero q (group G) (order_of G * b) (free_module G b) C j)) ((C.row-is v).below j m)
@@ -76,12 +78,14 @@ module _ (G : PGroup) (d : ℕ) (Q : StageParts) (B : BoundaryValue) (I : IsBoun
       ap₂ (λ (p w : ℕ). combination_row p w (entry x) B.matrix.rows)
       (ap (λ (m : MatrixValue). m.p) I.source_is ∙ sym (residues G))
       (ap (λ (m : MatrixValue). m.width) I.source_is)
-      ∙ sym (combination_row-is (let z : 0 < suc (largest_residue G) = omega arith in z) (entry x) B.matrix.rows matrix
+      ∙ sym (combination_row-is (let z : 0 < suc (largest_residue G) = omega arith in z)
+      (entry x) B.matrix.rows matrix
       (row_of G (rank_of G d) (boundary_at G d Q x))
       ((layer_coordinates G (rank_of G d)).row-is _)
       (λ j l. value-row (largest_residue G) (group G) (field G).above_one (order_of G * length Q.positions)
       (order_of G * rank_of G d)
-      (free_module G (length Q.positions)) (free_module G (rank_of G d)) (layer_coordinates G (length Q.positions))
+      (free_module G (length Q.positions)) (free_module G (rank_of G d))
+      (layer_coordinates G (length Q.positions))
       (layer_coordinates G (rank_of G d)) (new_boundary G d Q)
       (terms-linear (largest_residue G) (group G) (length Q.positions) (free_module G (rank_of G d))
       (chosen_row (largest_residue G) (group G) (layer_coordinates G) (rank_of G d) (list_before G d Q) Q))
@@ -102,7 +106,8 @@ module _ (G : PGroup) (d : ℕ) (B : BoundaryValue) (kernel : MatrixValue) (I : 
 
   pub kernel-row : (k : ℕ) → k < length kernel.rows
       → IsRow (prime_of G) (order_of G * length B.positions) (row kernel.rows k)
-  kernel-row k l = by-prime (order_of G * length B.positions) (row kernel.rows k) (I.may_follow.0.kernel_rows k l)
+  kernel-row k l = by-prime (order_of G * length B.positions) (row kernel.rows k)
+      (I.may_follow.0.kernel_rows k l)
 
   pub section-row : (k : ℕ) → k < length ((stage_rows G).kernel d)
       → IsRow (prime_of G) (order_of G * length B.positions) (row B.sections.rows k)
@@ -119,7 +124,8 @@ module _ (G : PGroup) (d : ℕ) (B : BoundaryValue) (kernel : MatrixValue) (I : 
   pub written : (x y out : List ℕ) → x ≡ y → IsRow (prime_of G) (order_of G * length B.positions) y
       → out ≡ combination_row B.source.p B.source.width (entry x) B.matrix.rows
       → out ≡ row_of G (rank_of G d) (boundary_at G d parts y)
-  written x y out e r w = w ∙ ap (λ (z : List ℕ). combination_row B.source.p B.source.width (entry z) B.matrix.rows) e
+  written x y out e r w = w ∙ ap (λ (z : List ℕ). combination_row B.source.p B.source.width
+      (entry z) B.matrix.rows) e
       ∙ value-is G d parts B I.boundary_is y r
 
   -- a row with that value
@@ -137,13 +143,16 @@ pub later-same : (G : PGroup) (xs ys x y : List ℕ) (k : ℕ) (t : Bool) → xs
     → (IsTrue t ↔ ((i : Below (length xs)) → k < slice_index xs i.0 → HasSumZero G (length xs) x i))
     → IsTrue t ↔ ((i : Below (length ys)) → k < slice_index ys i.0 → HasSumZero G (length ys) y i)
 later-same G xs ys x y k t e f h =
-    subst (λ (z : List ℕ). IsTrue t ↔ ((i : Below (length ys)) → k < slice_index ys i.0 → HasSumZero G (length ys) z i)) f
-    (subst (λ (z : List ℕ). IsTrue t ↔ ((i : Below (length z)) → k < slice_index z i.0 → HasSumZero G (length z) x i)) e h)
+    subst (λ (z : List ℕ). IsTrue t ↔ ((i : Below (length ys)) → k < slice_index ys i.0
+    → HasSumZero G (length ys) z i)) f
+    (subst (λ (z : List ℕ). IsTrue t ↔ ((i : Below (length z)) → k < slice_index z i.0
+    → HasSumZero G (length z) x i)) e h)
 
 pub lacks-same : (xs ys : List ℕ) (k : ℕ) (t : Bool) → xs ≡ ys
     → (IsTrue t ↔ ((i : Below (length xs)) → slice_index xs i.0 ≢ k))
     → IsTrue t ↔ ((i : Below (length ys)) → slice_index ys i.0 ≢ k)
-lacks-same xs ys k t e h = subst (λ (z : List ℕ). IsTrue t ↔ ((i : Below (length z)) → slice_index z i.0 ≢ k)) e h
+lacks-same xs ys k t e h = subst (λ (z : List ℕ). IsTrue t ↔ ((i : Below (length z))
+    → slice_index z i.0 ≢ k)) e h
 
 -- each row of a reduced echelon list is reduced
 pub reduced : (rows : List (List ℕ)) (k : ℕ) → IsEchelon rows → k < length rows → IsReducedRow rows k

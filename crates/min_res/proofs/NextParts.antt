@@ -63,7 +63,8 @@ module _ (G : PGroup) (d : ℕ) (Q : StageParts) where
             (rank_of G d) ((stage_rows G).kernel d) R) (sym e) (parts-are G d)
 
     in-kernel : length Q.kernel ≤ order_of G * length Q.positions
-    in-kernel = let e : length Q.kernel + length (list_before G d Q) ≡ order_of G * length Q.positions = F.1 in
+    in-kernel = let e : length Q.kernel + length (list_before G d Q) ≡ order_of G * length Q.positions = F.1
+        in
         omega (arith, e)
 
     in-list : length (list_before G d Q) ≤ order_of G * length Q.positions
@@ -87,7 +88,8 @@ module _ (G : PGroup) (d : ℕ) (Q : StageParts) where
       go : IsFirstBadRow Q.kernel k → IsFirstFailure G d Q check.ReducedKernel k
       go b = record {
         inside = b.inside;
-        checks_before = λ c l. none-before (λ (x : Check). (i : ℕ) → i < row_count G d Q x → HoldsAt G d Q x i) c l;
+        checks_before = λ c l. none-before (λ (x : Check). (i : ℕ) → i < row_count G d Q x
+            → HoldsAt G d Q x i) c l;
         rows_before = b.good_before;
         fails = b.bad_here;
       }

@@ -86,7 +86,8 @@ module _ {n : ℕ} (q : ℕ) (F : IsFieldModulo (suc q)) (Γ : Group n) (P : IsP
   pub factors : (L : M.of → Type 0) → IsSubmodule M L → (v : M.of)
       → IsSubmodule (Table q Γ 1) (λ a. L (product q Γ M a v))
   factors L U v = record {
-    zero-in = subst L (sym (map-zero (Table q Γ 1) M (λ a. product q Γ M a v) (product-linear q Γ M v).on-add))
+    zero-in = subst L (sym (map-zero (Table q Γ 1) M (λ a. product q Γ M a v)
+        (product-linear q Γ M v).on-add))
         U.zero-in;
     add-in = λ a c h k. subst L (sym ((product-linear q Γ M v).on-add a c)) (U.add-in _ _ h k);
     act-in = λ g a h. subst L (sym ((product-linear q Γ M v).on-act g a)) (U.act-in g _ h);

@@ -26,7 +26,8 @@ module _ {n : ℕ} (q : ℕ) (F : IsFieldModulo (suc q)) (Γ : Group n) (P : IsP
   pub span-submodule : (rows : List (List ℕ))
       → IsClosed (suc q) (layer_size q Γ K Y) (maps q Γ K Y b C) rows
       → IsSubmodule T (Spanned q Γ K Y b C rows)
-  span-submodule rows closed = closed-submodule q F Γ P K Y A T (finite-table q Γ b) (Spanned q Γ K Y b C rows)
+  span-submodule rows closed = closed-submodule q F Γ P K Y A T (finite-table q Γ b)
+      (Spanned q Γ K Y b C rows)
       (record {
         zero-in = in_span_congruent (λ j. congruent_sym (at-zero q Γ width T C j)) in_span_zero;
         add-in = λ v w h k. in_span_congruent

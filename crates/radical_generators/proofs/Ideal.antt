@@ -49,7 +49,8 @@ module _ {n : ℕ} (q : ℕ) (F : IsFieldModulo (suc q)) (Γ : Group n) (P : IsP
   moves-are = moves-matrix q Γ n T K J E1 matrix members spans
 
   moves-in : AreInSpan (suc q) E2 (moves Γ T K E1)
-  moves-in i l = subst (λ x. IsInSpan (suc q) E2 (entry x)) (K.row-table (row (moves Γ T K E1) i) (moves-are i l))
+  moves-in i l = subst (λ x. IsInSpan (suc q) E2 (entry x))
+      (K.row-table (row (moves Γ T K E1) i) (moves-are i l))
       (layer-spans q Γ n T K 2 E2 (A.powers_are 2) (K.table (row (moves Γ T K E1) i))
       (moved-from-span q Γ n T K J E1 matrix members spans (K.table (row (moves Γ T K E1) i))
       (subst (λ x. IsInSpan (suc q) (moves Γ T K E1) (entry x))

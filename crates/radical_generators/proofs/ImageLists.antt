@@ -41,7 +41,8 @@ module _ {p : ℕ} {image : ℕ → (ℕ → ℕ) → ℕ → ℕ} where
           (sym (get_or_append_left images (w ∷ []) [] (length before + k)
           (let e = A.count in omega (arith, e, d)))) (A.each k d j)
       at k j l (inr d) = let e : k ≡ m = omega (arith, l, d) in
-          subst (λ i. IsCongruent p (entry (row (images ++ w ∷ []) (length before + i)) j) (image i v j)) (sym e)
+          subst (λ i. IsCongruent p (entry (row (images ++ w ∷ []) (length before + i)) j) (image i v j))
+          (sym e)
           (subst (λ r. IsCongruent p (entry r j) (image m v j))
           (sym (get_or_push images w [] (length before + m) A.count)) (h j))
 
@@ -71,13 +72,15 @@ module _ {p : ℕ} {image : ℕ → (ℕ → ℕ) → ℕ → ℕ} where
 
       at : (t k j : ℕ) → k < m → t < i + 1 → (t < i) ⊎ (i ≤ t)
           → IsCongruent p (entry (row new (t * m + k)) j) (image k (entry (row (take (i + 1) rows) t)) j)
-      at t k j h d (inl s) = subst (λ r. IsCongruent p (entry r j) (image k (entry (row (take (i + 1) rows) t)) j))
+      at t k j h d (inl s) = subst (λ r. IsCongruent p (entry r j)
+          (image k (entry (row (take (i + 1) rows) t)) j))
           (sym (B.kept (t * m + k) (subst (λ c. t * m + k < c) (sym old-count) (image-place t k m i s h))))
           (subst (λ r. IsCongruent p (entry (row old (t * m + k)) j) (image k (entry r) j))
           (get_or-take i rows t [] s ∙ sym (get_or-take (i + 1) rows t [] d))
           (A.each t k (subst (λ c. t < c) (sym old-length) s) h j))
       at t k j h d (inr s) = let e : t ≡ i = omega (arith, d, s) in
-          subst (λ y. IsCongruent p (entry (row new (y * m + k)) j) (image k (entry (row (take (i + 1) rows) y)) j))
+          subst (λ y. IsCongruent p (entry (row new (y * m + k)) j)
+          (image k (entry (row (take (i + 1) rows) y)) j))
           (sym e)
           (subst (λ r. IsCongruent p (entry (row new (i * m + k)) j) (image k (entry r) j))
           (sym (get_or-take (i + 1) rows i [] (omega arith)))

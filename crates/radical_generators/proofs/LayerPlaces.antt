@@ -25,7 +25,8 @@ joined-row E P c k l = subst (λ s. row (joined E P 0 (suc (suc c))) (s + k) ≡
 joined-inside : (E : ℕ → List (List ℕ)) (P : ℕ → List ℕ) (c k : ℕ) → k < length (P 1)
     → length (P 0) + k < length (joined E P 0 (suc (suc c)))
 joined-inside E P c k l =
-    let a : length (joined E P 0 (suc (suc c))) ≡ length (rows_at (E 0) (P 0)) + length (joined E P 1 (suc c)) =
+    let a : length (joined E P 0 (suc (suc c))) ≡ length (rows_at (E 0) (P 0)) + length
+    (joined E P 1 (suc c)) =
     length-append (rows_at (E 0) (P 0)) (joined E P 1 (suc c)) in
     let d : length (joined E P 1 (suc c)) ≡ length (rows_at (E 1) (P 1)) + length (joined E P 2 c) =
     length-append (rows_at (E 1) (P 1)) (joined E P 2 c) in

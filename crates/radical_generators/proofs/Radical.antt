@@ -115,7 +115,8 @@ module _ {n : ℕ} (q : ℕ) (F : IsFieldModulo (suc q)) (Γ : Group n) (P : IsP
     -- with the generators the span is closed too
     with-generators : IsClosed (suc q) m f (rows ++ R)
     with-generators = closed (rows ++ R) (λ k h. layer_map-linear q Γ width T C K Y k)
-        (λ k t h l. in-left (suc q) rows R (f k (entry (row (rows ++ R) t))) (go k t h l (cases_lt t (length rows))))
+        (λ k t h l. in-left (suc q) rows R (f k (entry (row (rows ++ R) t)))
+        (go k t h l (cases_lt t (length rows))))
       where
         go : (k t : ℕ) → k < m → t < length (rows ++ R) → (t < length rows) ⊎ (length rows ≤ t)
             → IsInSpan (suc q) rows (f k (entry (row (rows ++ R) t)))
@@ -192,7 +193,8 @@ module _ {n : ℕ} (q : ℕ) (F : IsFieldModulo (suc q)) (Γ : Group n) (P : IsP
           (in_span_congruent (λ j. congruent_sym (I.each (t / m) (t % m) below-count (mod-lt t z) j))
           (product-row (t % m) (mod-lt t z) (row R (t / m)) (G.generators (t / m) below-count)
           (subst (λ x. IsInSpan (suc q) E (entry x))
-          (sym (C.row-table (row R (t / m)) (G.generators (t / m) below-count))) (G.inside (t / m) below-count))))
+          (sym (C.row-table (row R (t / m)) (G.generators (t / m) below-count)))
+          (G.inside (t / m) below-count))))
         where
           below-count : t / m < length R
           below-count = (div-lt_iff_lt-mul z).1 inside

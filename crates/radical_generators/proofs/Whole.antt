@@ -53,8 +53,10 @@ row-all : (m : ℕ) (g : List ℕ → ℕ → List ℕ) (rows : List (List ℕ))
     → row (all m g rows) (i * m + k) ≡ g (row rows i) k
 unfolding all
 row-all m g [] i k l h = absurd (omega (arith, l))
-row-all m g (x ∷ rows) zero k l h = ap (row (first m (g x) ++ all m g rows)) (let z : 0 * m + k ≡ k = omega arith in z)
-    ∙ get_or_append_left (first m (g x)) (all m g rows) [] k (subst (λ c. k < c) (sym (length-first m (g x))) h)
+row-all m g (x ∷ rows) zero k l h = ap (row (first m (g x) ++ all m g rows))
+    (let z : 0 * m + k ≡ k = omega arith in z)
+    ∙ get_or_append_left (first m (g x)) (all m g rows) [] k
+    (subst (λ c. k < c) (sym (length-first m (g x))) h)
     ∙ row-first m (g x) k h
 row-all m g (x ∷ rows) (suc i) k l h = ap (row (first m (g x) ++ all m g rows))
     (let a : length (first m (g x)) ≡ m = length-first m (g x) in

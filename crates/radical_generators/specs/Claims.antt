@@ -63,8 +63,10 @@ module _ {n : ℕ} (q : ℕ) (Γ : Group n) (K : RowForm n (Table q Γ 1)) (Y : 
           → IsNegBasisOf (suc q) width (layer_size q Γ K Y) maps E vectors origins
           → AreGenerators E (rows_at E (chosen_rows origins))
 
-    -- for generators R of the submodule S that the rows E span: the products of R by layer 1 generate J S, the
-    -- span of all (g - 1) v with v in S; and a greedy choice modulo it can be made from their negative standard
+    -- for generators R of the submodule S that the rows E span: the products of R by layer 1 generate
+    -- J S, the
+    -- span of all (g - 1) v with v in S; and a greedy choice modulo it can be made from their negative
+    -- standard
     -- basis
     pub record RadicalGeneratorClaims (E R products : List (List ℕ)) : Type 0 where
       pub generate : (v : (Table q Γ b).of)
@@ -74,7 +76,8 @@ module _ {n : ℕ} (q : ℕ) (Γ : Group n) (K : RowForm n (Table q Γ 1)) (Y : 
           → IsNegBasisOf (suc q) width (layer_size q Γ K Y) maps products vectors origins
           → (v : (Table q Γ b).of) → IsInSpan (suc q) vectors (entry (C.row v))
           ↔ Moved (Table q Γ b) (Spanned E) v
-      pub greedy : (vectors : List (List ℕ)) (origins : List Origin) (rows : List (List ℕ)) (positions : List ℕ)
+      pub greedy : (vectors : List (List ℕ)) (origins : List Origin) (rows : List (List ℕ))
+          (positions : List ℕ)
           → IsNegBasisOf (suc q) width (layer_size q Γ K Y) maps products vectors origins
           → IsEchelonOf (suc q) width vectors rows → IsGreedy (suc q) E rows positions
           → IsGreedy (suc q) E (moves Γ (Table q Γ b) C E) positions

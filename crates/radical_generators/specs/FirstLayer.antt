@@ -13,7 +13,8 @@ row_modulo p zero f = []
 row_modulo p (suc width) f = f 0 % p ∷ row_modulo p width (λ j. f (suc j))
 
 module _ {n : ℕ} (q : ℕ) (Γ : Group n) where
-  -- the product a v of a member of kG and one of M: the value at a of the linear map from kG that takes 1 to v
+  -- the product a v of a member of kG and one of M: the value at a of the linear map from kG that takes
+  -- 1 to v
   abbrev pub product : (M : Module (suc q) (monoid Γ)) → (Table q Γ 1).of → M.of → M.of
   product M a v = lin M (λ i. v) (terms q Γ 1 a)
 
@@ -28,4 +29,5 @@ module _ {n : ℕ} (q : ℕ) (Γ : Group n) where
 
     -- the products by the members of layer 1 on sequences of numbers, which are read modulo p as rows of M
     abbrev pub layer_map : {width : ℕ} (M : Module (suc q) (monoid Γ)) → RowForm width M → ℕ → (ℕ → ℕ) → ℕ → ℕ
-    layer_map {width} M C k f j = entry (C.row (product M (layer_member k) (C.table (row_modulo (suc q) width f)))) j
+    layer_map {width} M C k f j = entry (C.row (product M (layer_member k)
+        (C.table (row_modulo (suc q) width f)))) j

@@ -47,7 +47,8 @@ pub fn one_layers_law()
 
 /// The layers from the lists of the powers that are not 0 and of their positions.
 pub fn layer_lists_law()
-    ensures { (n q : ℕ) (Γ : Group n) (K : RowForm n (Table q Γ 1)) (Es : List (List (List ℕ))) (xs : List (List ℕ)) → IsFieldModulo (suc q)
+    ensures { (n q : ℕ) (Γ : Group n) (K : RowForm n (Table q Γ 1)) (Es : List (List (List ℕ)))
+        (xs : List (List ℕ)) → IsFieldModulo (suc q)
         → AreLayerLists q Γ K Es xs → AreLayers q Γ K (layers_of Es xs) }
 {}
 

@@ -25,7 +25,8 @@ degrees_of t = map (λ r. r.degree) t
 abbrev pub classes_of : List Restricted → List RowValue
 classes_of t = map (λ r. r.class) t
 
--- member i of the table is the one class whose cocycle on the subgroup with this basis differs by a coboundary
+-- member i of the table is the one class whose cocycle on the subgroup with this basis differs by a
+-- coboundary
 -- from that of class i at tuples of the subgroup, for each i
 abbrev pub AreRestrictedClasses : PGroup → List ℕ → List ℕ → List RowValue → List Restricted → Type 0
 AreRestrictedClasses G basis degrees classes t = (i : ℕ) → i < length classes

@@ -39,7 +39,8 @@ module _ (G : PGroup) where
       let some : 0 < order_of G = some-elements (largest_residue G) (field G) (group G) (layer_coordinates G)
       (stage_rows G) (stage_rows_are G) in
       let o : 0 < shape.order = subst (λ (n : ℕ). 0 < n) (sym H.order) some in
-      subst (λ (n : ℕ). n * length Q.positions ≤ 4096) H.order ((whole-claims shape bytes Q l o B).fit e).small
+      subst (λ (n : ℕ). n * length Q.positions ≤ 4096) H.order
+      ((whole-claims shape bytes Q l o B).fit e).small
 
   pub honest : (text : List ℕ) → AreHonest (header_bytes text) (records_of G)
   honest text = are-honest (largest_residue G) (field G) (group G) (layer_coordinates G) (stage_rows G) text

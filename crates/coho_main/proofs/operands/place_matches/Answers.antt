@@ -20,7 +20,8 @@ returns-clause-found c =
     (c.in_ok-arg.ensures.shape (search rules)) c.in_ok-arg-2.field-0 c.required-degree.result is_degree
     (c.in_ok-arg-2.ensures.shape (search rules)) in
     let built = four_built c.in_ok-arg-2.field-0 c.in_ok-arg-3.field-0 c.in_ok-command.command
-    c.required-class.result c.num_args-element.result built_two is_class is_element (c.in_ok-arg-3.ensures.shape (search rules))
+    c.required-class.result c.num_args-element.result built_two is_class is_element
+    (c.in_ok-arg-3.ensures.shape (search rules))
     (c.in_ok-command.ensures.shape (search rules)) in
     four_read (map string_bytes c.args.words.now) c.requires (app_of c.in_ok-command.command) built
     c.try_get_matches_from.result c.try_get_matches_from.ensures.kinds c.try_get_matches_from.ensures.matches
@@ -38,7 +39,8 @@ returns-clause-refused c =
     (c.in_ok-arg.ensures.shape (search rules)) c.in_ok-arg-2.field-0 c.required-degree.result is_degree
     (c.in_ok-arg-2.ensures.shape (search rules)) in
     let built = four_built c.in_ok-arg-2.field-0 c.in_ok-arg-3.field-0 c.in_ok-command.command
-    c.required-class.result c.num_args-element.result built_two is_class is_element (c.in_ok-arg-3.ensures.shape (search rules))
+    c.required-class.result c.num_args-element.result built_two is_class is_element
+    (c.in_ok-arg-3.ensures.shape (search rules))
     (c.in_ok-command.ensures.shape (search rules)) in
     let few : length (map string_bytes c.args.words.now) ≤ usize_max =
     omega (arith, length-map c.args.words.now string_bytes) in

@@ -24,7 +24,8 @@ pub returns-in-Value : goal.returns-in-Value
 returns-in-Value c = subst (λ named. Settles lines_of
     (Answer (asked named) c.args.consistent.now) c.answer_value.result)
     (sym c.in-Value.is)
-    (subst (λ es. Settles lines_of (AnswerValue c.args.consistent.now c.in-Value.class es) c.answer_value.result)
+    (subst (λ es. Settles lines_of (AnswerValue c.args.consistent.now c.in-Value.class es)
+    c.answer_value.result)
     c.deref.ensures.value c.answer_value.ensures)
 
 pub returns-in-Sample : goal.returns-in-Sample

@@ -32,7 +32,8 @@ pub returns-in_err-value_lines : goal.returns-in_err-value_lines
 returns-in_err-value_lines c =
     let p = err_from_is_err_and c.from_residual-in_err-value_lines.result
     c.from_residual-in_err-value_lines.ensures.1 in
-    rw p.1 (memory_settles lines_of (AnswerValue c.args.consistent.now c.args.class c.args.elements.now) p.0 p.2)
+    rw p.1 (memory_settles lines_of (AnswerValue c.args.consistent.now c.args.class c.args.elements.now) p.0
+    p.2)
 
 pub returns : goal.returns
 returns c =

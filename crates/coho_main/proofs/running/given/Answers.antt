@@ -14,7 +14,8 @@ pub returns-in_err-sample_presentation-in-Sample-clause-step :
     goal.returns-in_err-sample_presentation-in-Sample-clause-step
 returns-in_err-sample_presentation-in-Sample-clause-step g c =
     let p = err_from_is_err_and c.from_residual.result c.from_residual.ensures.1 in
-    rw p.1 (settled_given (g.F.Files.content c.args.files.now) itself (Given (asked c.args.command.now)) (Err p.0)
+    rw p.1 (settled_given (g.F.Files.content c.args.files.now) itself (Given (asked c.args.command.now))
+    (Err p.0)
     (memory_settles itself (Given (asked c.args.command.now)) p.0 p.2))
 
 pub returns-in_ok-sample_presentation-in-Sample-clause-step :

@@ -209,7 +209,8 @@ returns-in_ok-sample_number-in-len1-up-5-clause-command c =
     at_sample words (drop 1 words) plain name first is_named
     ∙ ap (option_map Sample) c.in_ok-sample_number-in-len1-up-5.ensures.found
 
-pub returns-in_ok-sample_number-in-len1-up-5-clause-step : goal.returns-in_ok-sample_number-in-len1-up-5-clause-step
+pub returns-in_ok-sample_number-in-len1-up-5-clause-step :
+    goal.returns-in_ok-sample_number-in-len1-up-5-clause-step
 returns-in_ok-sample_number-in-len1-up-5-clause-step c =
     let words = texts c.args.words.now in
     let first = named c.args.words.now c.name-item-5.result c.in-len1-up.len_at_least c.name-item-5.is in

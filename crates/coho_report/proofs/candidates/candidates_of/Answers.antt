@@ -34,7 +34,8 @@ loop-i-preserved c =
     let below : i < length rows = omega (arith, c.loop-i-test.true, c.len-i-end.ensures, all-rows) in
     let u = row rows i in
     let firsts = firsts_are ms (prime_value c.prime.result) c.rows.result c.in_ok-combos.combos
-    c.combos.inside.rows p classes.rows c.in_ok-combos.ensures.candidates (sym c.combos.view_is) c.prime.ensures
+    c.combos.inside.rows p classes.rows c.in_ok-combos.ensures.candidates
+    (sym c.combos.view_is) c.prime.ensures
     c.rows.ensures.count made.values.count in
     let comb : IsCombination p (length ms) u = All-from_recursion (IsCombination p (length ms)) rows
     firsts.members i [] below in

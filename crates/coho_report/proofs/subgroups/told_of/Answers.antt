@@ -50,7 +50,8 @@ returns c =
       generators_are = sym (degrees-are q o.ring.generators);
       images_are = subst (λ (b : List ℕ). AreRelated (IsImage map.group b (generators_of q o.ring.generators))
           gs c.in_ok-images.images.items) basis
-          (subst (λ (o : OwnRing). AreRelated (IsImage map.group map.basis (generators_of q o.ring.generators))
+          (subst (λ (o : OwnRing). AreRelated (IsImage map.group map.basis
+          (generators_of q o.ring.generators))
           gs c.in_ok-images.images.items) (c.deref.ensures ∙ sym c.in_ok-shared.ensures)
           c.in_ok-images.ensures);
     }

@@ -13,8 +13,10 @@ returns-then-c-eq1-clause-sum c =
     let t : length c.add_to_words.new.words ≡ c.div_ceil.result = c.add_to_words.ensures.same_length
     ∙ omega (arith, n, c.requires.room, length-take c.div_ceil.result c.args.words.now) in
     rw c.if-c-eq1.true
-    (added_in_front c.add_to_words.new.words c.args.words.now (numbers_of c.args.r) c.div_ceil.result c.args.len
-    t n c.requires.same_length (λ j l. c.add_to_words.ensures.sums j (omega (arith, l, c.requires.same_length))))
+    (added_in_front c.add_to_words.new.words c.args.words.now
+    (numbers_of c.args.r) c.div_ceil.result c.args.len
+    t n c.requires.same_length (λ j l. c.add_to_words.ensures.sums j
+    (omega (arith, l, c.requires.same_length))))
 
 pub returns-else-c-eq1-clause-sum : goal.returns-else-c-eq1-clause-sum
 returns-else-c-eq1-clause-sum c = let z : c.args.c ≡ 0 = omega (arith, c.requires.factor, c.if-c-eq1.false) in

@@ -35,7 +35,8 @@ loop-i-init c = record {
 
 pub loop-i-preserved : goal.loop-i-preserved
 loop-i-preserved c =
-    let layer : c.loop-i.i < length c.args.places.now = omega (arith, c.loop-i-test.true, c.layers-i-end.ensures) in
+    let layer : c.loop-i.i < length c.args.places.now = omega
+    (arith, c.loop-i-test.true, c.layers-i-end.ensures) in
     let p : c.add_images.new.sum.p ≡ c.loop-i.sum.p = c.add_images.ensures.prime in
     let n : length (entries_of c.part.result) ≡ get_or c.args.places.now c.loop-i.i 0 =
     ap length c.part.ensures.entries

@@ -43,7 +43,8 @@ loop-i-preserved c =
     (row c.args.elements.now.rows) c.combine.new.out.entries =
     combined c.write_translate.new.out.entries c.args.elements.now.rows _ (positive c.args.group.now)
     (rw (E.prime, E.width) at c.rows-elements.ensures.matrix) E.rows
-    (rw (c.view.ensures.entries, E.prime, E.width) at (ap (λ (r : RowValue). r.entries) c.combine.ensures)) in (
+    (rw (c.view.ensures.entries, E.prime, E.width) at
+    (ap (λ (r : RowValue). r.entries) c.combine.ensures)) in (
       c.loop-i.invariant.0,
       shape-pushed c.args.group.now c.loop-i.i c.loop-i.m c.push.new.self
           (entries_of c.view-in-loop-i.result) c.loop-i.invariant.1 c.in_ok-push.ensures.pushed,

@@ -16,7 +16,8 @@ returns-in_err-test-clause-refused g c =
     subst (λ (R : StageParts). IfErr c.from_residual-in_err-test.result
     (IsNotAdopted c.args.algebra.now c.args.last.now.degree R))
     (kept c.args.algebra.now c.args.last.now.degree (g.S.StageParts.parts c.args.given.now)
-    c.in_ok-boundary.boundary c.in_ok-kernel.kernel c.in_ok-boundary.ensures c.in_ok-kernel.ensures.kernel) (search rules)
+    c.in_ok-boundary.boundary c.in_ok-kernel.kernel c.in_ok-boundary.ensures c.in_ok-kernel.ensures.kernel)
+    (search rules)
 
 pub returns-clause-stage : goal.returns-clause-stage
 returns-clause-stage g c =
@@ -26,4 +27,5 @@ returns-clause-stage g c =
     c.in_ok-boundary.boundary c.in_ok-kernel.kernel c.in_ok-boundary.ensures c.in_ok-kernel.ensures.kernel)
     ∙ c.in_ok-test.ensures.passed)
     c.in_ok-boundary.ensures (c.in_ok-new.ensures.ok ∙ c.in_ok-kernel.ensures.kernel)
-    (ap (λ n. n + 1) c.degree.ensures) (c.len.ensures ∙ ap (λ (x : List ℕ). length x) c.positions.ensures) refl
+    (ap (λ n. n + 1) c.degree.ensures) (c.len.ensures
+    ∙ ap (λ (x : List ℕ). length x) c.positions.ensures) refl

@@ -4,4 +4,9 @@ use Rattle.min_res.proofs.part_lists.kernel_of.Given as goal
 
 abbrev pub invariant-loop-i : goal.invariant-loop-i
 invariant-loop-i g l = l.rows
-    ≡ record { p = prime_value l.fn.p; width = l.width; rows = take l.i (g.S.StageParts.parts l.given).kernel }
+    ≡ record {
+      p = prime_value l.fn.p;
+      width = l.width;
+      rows = take l.i
+          (g.S.StageParts.parts l.given).kernel;
+    }

@@ -12,8 +12,13 @@ returns-then-not-is_sum_zero c = (
 
 pub loop-block-preserved : goal.loop-block-preserved
 loop-block-preserved c = below_more
-    (λ (k : ℕ). (b : k < c.args.rank) → HasSumZero c.args.algebra.now c.args.rank (entries_of c.args.r) (k, b))
+    (λ (k : ℕ). (b : k < c.args.rank) → HasSumZero c.args.algebra.now c.args.rank (entries_of c.args.r)
+    (k, b))
     c.loop-block.block c.loop-block.invariant (λ b. (c.is_sum_zero.ensures b).0 c.if-not-is_sum_zero.false)
 
 pub returns : goal.returns
-returns c = (λ t i. c.loop-block.invariant i.0 (let z : i.0 < c.loop-block.block = omega (arith, i.1) in z) i.1, λ h. refl)
+returns c = (
+  λ t i. c.loop-block.invariant i.0 (let z : i.0 < c.loop-block.block = omega
+      (arith, i.1) in z) i.1,
+  λ h. refl,
+)

@@ -14,7 +14,8 @@ returns-clause-later c = subst (λ s. NoneFell (fault_count Read c.args.self.now
     (sym c.raise.ensures) (later-fault c.args.kind Read c.args.self.now c.args.path.now)
 
 pub returns-clause-later_writes : goal.returns-clause-later_writes
-returns-clause-later_writes c = subst (λ s. NoneFell (fault_count Write c.args.self.now) (fault_count Write s))
+returns-clause-later_writes c = subst (λ s. NoneFell (fault_count Write c.args.self.now)
+    (fault_count Write s))
     (sym c.raise.ensures) (later-fault c.args.kind Write c.args.self.now c.args.path.now)
 
 pub returns-clause-rose : goal.returns-clause-rose

@@ -4,12 +4,14 @@ use Rattle.coho_io.proofs.mem_files.MemFilesFiles.TheImpl.Goals as goal
 
 pub create-tells : goal.create-tells
 create-tells c =
-    let t = created-tells c.args.self.now c.args.path.now c.result c.new.self.now c.ensures.ok c.ensures.failed
+    let t = created-tells c.args.self.now c.args.path.now c.result c.new.self.now c.ensures.ok
+    c.ensures.failed
     c.ensures.memory in
     record { ok = t.ok; err = t.err; later = t.later Read; later_writes = t.later Write; cause = t.cause }
 
 pub append-tells : goal.append-tells
 append-tells c =
-    let t = appended-tells c.args.self.now c.args.path.now c.args.piece.now c.result c.new.self.now c.ensures.ok
+    let t = appended-tells c.args.self.now c.args.path.now c.args.piece.now c.result c.new.self.now
+    c.ensures.ok
     c.ensures.failed c.ensures.memory in
     record { ok = t.ok; err = t.err; later = t.later Read; later_writes = t.later Write; cause = t.cause }

@@ -12,7 +12,8 @@ invariant_of-self c =
     let p : ℕ = prime_value c.self.inside.prime in
     let positive : 0 < p = (let o = prime_above_one c.self.inside.prime in omega (arith, o)) in
     record {
-      row = row_at_length (part_is_row c.args.at c.args.c (numbers_of c.args.r.entries) (cells_of c.self.inside.cells)
+      row = row_at_length (part_is_row c.args.at c.args.c (numbers_of c.args.r.entries)
+          (cells_of c.self.inside.cells)
           (cells_of c.add_part.new.self) positive c.self.invariant.row c.add_part.ensures.gains);
       packed = c.add_part.ensures.packed;
     }

@@ -26,6 +26,7 @@ invariant_of-self c =
     } in
     record {
       few = c.self.invariant.few;
-      row = rw c.add.ensures.sum (add_multiple_is_row c.args.c (short_cells_of c.self.inside.cells n) ys positive c.self.invariant.row r);
+      row = rw c.add.ensures.sum (add_multiple_is_row c.args.c
+          (short_cells_of c.self.inside.cells n) ys positive c.self.invariant.row r);
       room = c.add.ensures.room;
     }

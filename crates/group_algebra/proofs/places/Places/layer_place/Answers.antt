@@ -7,18 +7,22 @@ use Rattle.group_algebra.proofs.places.Places.layer_place.Goals as goal
 
 pub overflow_mul-result : goal.overflow_mul-result
 overflow_mul-result c =
-    let w : c.args.rank * start_at c.args.self.now c.args.i + c.args.block * get_or c.args.self.now c.args.i 0 +
+    let w : c.args.rank * start_at c.args.self.now c.args.i + c.args.block * get_or c.args.self.now c.args.i
+    0 +
     get_or c.args.self.now c.args.i 0 ≤ size_of c.args.self.now * c.args.rank =
     part-within (size_of c.args.self.now) c.args.rank c.args.block (start_at c.args.self.now c.args.i)
-    (get_or c.args.self.now c.args.i 0) c.requires.block (start_within c.args.self.now c.args.i c.requires.layer) in
+    (get_or c.args.self.now c.args.i 0) c.requires.block
+    (start_within c.args.self.now c.args.i c.requires.layer) in
     omega (arith, w, ap (λ z. c.args.rank * z) c.requires.start, c.requires.small)
 
 pub overflow_mul-result-2 : goal.overflow_mul-result-2
 overflow_mul-result-2 c =
-    let w : c.args.rank * start_at c.args.self.now c.args.i + c.args.block * get_or c.args.self.now c.args.i 0 +
+    let w : c.args.rank * start_at c.args.self.now c.args.i + c.args.block * get_or c.args.self.now c.args.i
+    0 +
     get_or c.args.self.now c.args.i 0 ≤ size_of c.args.self.now * c.args.rank =
     part-within (size_of c.args.self.now) c.args.rank c.args.block (start_at c.args.self.now c.args.i)
-    (get_or c.args.self.now c.args.i 0) c.requires.block (start_within c.args.self.now c.args.i c.requires.layer) in
+    (get_or c.args.self.now c.args.i 0) c.requires.block
+    (start_within c.args.self.now c.args.i c.requires.layer) in
     let e : c.index.result.now ≡ get_or c.args.self.now c.args.i 0 = c.index.ensures
     ∙ ap (λ z. get_or z c.args.i c.index.result.now) c.self.view_is
     ∙ get_or_default c.args.self.now c.args.i c.index.result.now 0 c.requires.layer in
@@ -26,10 +30,12 @@ overflow_mul-result-2 c =
 
 pub overflow_add-result : goal.overflow_add-result
 overflow_add-result c =
-    let w : c.args.rank * start_at c.args.self.now c.args.i + c.args.block * get_or c.args.self.now c.args.i 0 +
+    let w : c.args.rank * start_at c.args.self.now c.args.i + c.args.block * get_or c.args.self.now c.args.i
+    0 +
     get_or c.args.self.now c.args.i 0 ≤ size_of c.args.self.now * c.args.rank =
     part-within (size_of c.args.self.now) c.args.rank c.args.block (start_at c.args.self.now c.args.i)
-    (get_or c.args.self.now c.args.i 0) c.requires.block (start_within c.args.self.now c.args.i c.requires.layer) in
+    (get_or c.args.self.now c.args.i 0) c.requires.block
+    (start_within c.args.self.now c.args.i c.requires.layer) in
     let e : c.index.result.now ≡ get_or c.args.self.now c.args.i 0 = c.index.ensures
     ∙ ap (λ z. get_or z c.args.i c.index.result.now) c.self.view_is
     ∙ get_or_default c.args.self.now c.args.i c.index.result.now 0 c.requires.layer in
@@ -51,10 +57,12 @@ returns-clause-value c =
 
 pub returns-clause-within : goal.returns-clause-within
 returns-clause-within c =
-    let w : c.args.rank * start_at c.args.self.now c.args.i + c.args.block * get_or c.args.self.now c.args.i 0 +
+    let w : c.args.rank * start_at c.args.self.now c.args.i + c.args.block * get_or c.args.self.now c.args.i
+    0 +
     get_or c.args.self.now c.args.i 0 ≤ size_of c.args.self.now * c.args.rank =
     part-within (size_of c.args.self.now) c.args.rank c.args.block (start_at c.args.self.now c.args.i)
-    (get_or c.args.self.now c.args.i 0) c.requires.block (start_within c.args.self.now c.args.i c.requires.layer) in
+    (get_or c.args.self.now c.args.i 0) c.requires.block
+    (start_within c.args.self.now c.args.i c.requires.layer) in
     let e : c.index.result.now ≡ get_or c.args.self.now c.args.i 0 = c.index.ensures
     ∙ ap (λ z. get_or z c.args.i c.index.result.now) c.self.view_is
     ∙ get_or_default c.args.self.now c.args.i c.index.result.now 0 c.requires.layer in

@@ -14,7 +14,8 @@ pub returns-clause-value : goal.returns-clause-value
 returns-clause-value c =
     let s = c.args.self.now in let I = c.requires.fits.candidate in
     value-row-of s.algebra.now s.last.now.degree s.boundary.now s.kernel.now I
-    (entries_of c.row.result) (row s.kernel.now.rows c.args.k) c.args.value.now c.write_value.new.out c.row.ensures.entries
+    (entries_of c.row.result) (row s.kernel.now.rows c.args.k) c.args.value.now c.write_value.new.out
+    c.row.ensures.entries
     (kernel-row s.algebra.now s.last.now.degree s.boundary.now s.kernel.now I c.args.k c.requires.inside)
     c.requires.value c.write_value.ensures.prime c.write_value.ensures.value
 
@@ -24,7 +25,8 @@ returns-clause-holds c =
     let w : entries_of c.view.result ≡ row_of s.algebra.now (rank_of s.algebra.now s.last.now.degree)
     (boundary_at s.algebra.now s.last.now.degree (parts_of_candidate s) (row s.kernel.now.rows c.args.k))
     = c.view.ensures.entries ∙ written s.algebra.now s.last.now.degree s.boundary.now s.kernel.now I
-    (entries_of c.row.result) (row s.kernel.now.rows c.args.k) c.write_value.new.out.entries c.row.ensures.entries
+    (entries_of c.row.result) (row s.kernel.now.rows c.args.k) c.write_value.new.out.entries
+    c.row.ensures.entries
     (kernel-row s.algebra.now s.last.now.degree s.boundary.now s.kernel.now I c.args.k c.requires.inside)
     c.write_value.ensures.value in
     let z = row-zero s.algebra.now (rank_of s.algebra.now s.last.now.degree)

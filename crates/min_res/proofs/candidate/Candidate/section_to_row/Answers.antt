@@ -48,7 +48,8 @@ returns-clause-holds c =
     (boundary_at s.algebra.now s.last.now.degree (parts_of_candidate s)
     (row s.boundary.now.sections.rows c.args.k)) =
     c.view.ensures.entries ∙ written s.algebra.now s.last.now.degree s.boundary.now s.kernel.now I
-    (entries_of c.section_row.result) (row s.boundary.now.sections.rows c.args.k) c.write_value.new.out.entries
+    (entries_of c.section_row.result) (row s.boundary.now.sections.rows c.args.k)
+    c.write_value.new.out.entries
     c.section_row.ensures.entries
     (section-row s.algebra.now s.last.now.degree s.boundary.now s.kernel.now I c.args.k c.requires.inside)
     c.write_value.ensures.value in

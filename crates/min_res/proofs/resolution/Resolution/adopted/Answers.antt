@@ -30,7 +30,8 @@ adopted_stage-requires g c =
 pub returns-in-Ok-clause-next : goal.returns-in-Ok-clause-next
 returns-in-Ok-clause-next g c =
     let Q = g.S.StageParts.parts c.args.given.now in
-    let G : c.self.inside.algebra ≡ c.args.self.now.group = ap (λ (v : ResolutionValue). v.group) c.self.view_is in
+    let G : c.self.inside.algebra ≡ c.args.self.now.group = ap
+    (λ (v : ResolutionValue). v.group) c.self.view_is in
     let d : c.deref.result.now.degree ≡ c.args.self.now.last =
     ap (λ (s : StageValue). s.degree) c.deref.ensures ∙ c.stage_at-last.ensures.stage.degree_is
     ∙ c.last.ensures in
@@ -39,7 +40,8 @@ returns-in-Ok-clause-next g c =
 
 pub returns-in-Ok-clause-stage : goal.returns-in-Ok-clause-stage
 returns-in-Ok-clause-stage g c =
-    let G : c.self.inside.algebra ≡ c.args.self.now.group = ap (λ (v : ResolutionValue). v.group) c.self.view_is in
+    let G : c.self.inside.algebra ≡ c.args.self.now.group = ap
+    (λ (v : ResolutionValue). v.group) c.self.view_is in
     let d : c.deref.result.now.degree ≡ c.args.self.now.last =
     ap (λ (s : StageValue). s.degree) c.deref.ensures ∙ c.stage_at-last.ensures.stage.degree_is
     ∙ c.last.ensures in
@@ -49,7 +51,8 @@ returns-in-Ok-clause-stage g c =
 pub returns-in-Err-clause-refused : goal.returns-in-Err-clause-refused
 returns-in-Err-clause-refused g c =
     let Q = g.S.StageParts.parts c.args.given.now in
-    let G : c.self.inside.algebra ≡ c.args.self.now.group = ap (λ (v : ResolutionValue). v.group) c.self.view_is in
+    let G : c.self.inside.algebra ≡ c.args.self.now.group = ap
+    (λ (v : ResolutionValue). v.group) c.self.view_is in
     let d : c.deref.result.now.degree ≡ c.args.self.now.last =
     ap (λ (s : StageValue). s.degree) c.deref.ensures ∙ c.stage_at-last.ensures.stage.degree_is
     ∙ c.last.ensures in
