@@ -1,6 +1,6 @@
 -- The places that the search finds, and the polynomials at them.
-use Rattle.std.proofs.Common.{◌≡◌, ◌∙◌, ℕ, zero, suc, ◌-◌, ◌<◌, ◌≤◌, max, List, [], ◌∷◌, ◌++◌, length, map}
-use Rattle.std.proofs.Common.{sym, ap, subst, arith, Some}
+use Rattle.std.proofs.Common.{◌≡◌, ℕ, zero, suc, ◌-◌, ◌<◌, ◌≤◌, List, [], ◌∷◌, ◌++◌, length, map}
+use Rattle.std.proofs.Common.{sym, subst, arith, Some}
 use Rattle.std.specs.Prelude.{All, Option, slice_index_or}
 use Rattle.std.specs.List.{AllByRecursion as Each}
 use Rattle.limits.specs.declared.TheConstants.{GREATEST_DEGREE}
@@ -11,7 +11,7 @@ use Rattle.param_test.specs.Bounds.{greatest}
 use Rattle.param_test.specs.Parameters.{IsFoundIn}
 use Rattle.param_test.specs.Tables.{TableValue, degrees_of}
 use Rattle.param_test.specs.Tuples.{Ascends, IsTuple}
-use Rattle.ring_present.specs.Values.{RingValue, generators_of}
+use Rattle.ring_present.specs.Values.{RingValue}
 use Rattle.ring_present.proofs.RelationsOver.{degrees-are}
 use Rattle.coho_report.specs.Choices.{IsFormAt}
 use Rattle.coho_report.specs.Related.{AreRelated}
@@ -61,6 +61,7 @@ module _ (R : RingValue) (cs : List Candidate) (ks : List ℕ) (fs : List Polyno
       let c : Candidate = record { degree = 0; class = record { p = 0; entries = [] } } in
       all-related (IsFormAt R cs)
       (IsOverGenerators (record { prime = R.prime; degrees = map (λ g. g.degree) R.generators }))
-      (λ k f at. subst (λ p. IsPolynomial (p - 1) (map (λ g. g.degree) R.generators) f.degree f.terms) (sym prime)
+      (λ k f at. subst (λ p. IsPolynomial (p - 1) (map (λ g. g.degree) R.generators) f.degree f.terms)
+      (sym prime)
       (subst (λ ds. IsPolynomial q ds f.degree f.terms) (degrees-are q R.generators)
       (at.form G group c).polynomial)) ks fs related

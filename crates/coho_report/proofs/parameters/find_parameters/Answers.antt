@@ -78,7 +78,8 @@ forms_at-requires-clause-places c =
     c.in_ok-search.ensures c.in-Some.is in
     let tabled = c.in_ok-table.table.candidates in
     let count : length (degrees_of tabled) ≡ length cs = length-map tabled (λ (v : CandidateValue). v.degree)
-    ∙ related-length (IsTabled c.args.restrictors.now) c.deref.result.now tabled c.in_ok-table.ensures.candidates
+    ∙ related-length (IsTabled c.args.restrictors.now) c.deref.result.now tabled
+    c.in_ok-table.ensures.candidates
     ∙ ap (λ (cs : List Candidate). length cs) (c.deref.ensures.value ∙ sym c.deref-in-Some.ensures.value) in
     let below = subst (λ n. All (λ k. k < n) places) count
     (ascends_below 0 (length (degrees_of tabled)) places tuple.ascends) in
@@ -106,7 +107,8 @@ bound_of-requires-clause-low c =
     c.in_ok-search.ensures c.in-Some.is in
     let tabled = c.in_ok-table.table.candidates in
     let count : length (degrees_of tabled) ≡ length cs = length-map tabled (λ (v : CandidateValue). v.degree)
-    ∙ related-length (IsTabled c.args.restrictors.now) c.deref.result.now tabled c.in_ok-table.ensures.candidates
+    ∙ related-length (IsTabled c.args.restrictors.now) c.deref.result.now tabled
+    c.in_ok-table.ensures.candidates
     ∙ ap (λ (cs : List Candidate). length cs) (c.deref.ensures.value ∙ sym c.deref-in-Some.ensures.value) in
     let below = subst (λ n. All (λ k. k < n) places) count
     (ascends_below 0 (length (degrees_of tabled)) places tuple.ascends) in
@@ -155,12 +157,12 @@ returns-clause-parameters c =
       places = Some places;
       candidates_are = found.1;
       classes_are = found.2;
-      restricted_are = subst (λ (cs : List Candidate). AreRelated (IsTabled xs) cs tabled) c.deref.ensures.value
-          c.in_ok-table.ensures.candidates;
-      found = subst (λ (t : TableValue). IsFoundIn t (greatest (map (λ x. x.own.value.rank) xs)) (Some places))
-          whole (subst (λ r. IsFoundIn table r (Some places)) c.greatest_rank.ensures some);
+      restricted_are = subst (λ (cs : List Candidate). AreRelated (IsTabled xs) cs tabled)
+          c.deref.ensures.value c.in_ok-table.ensures.candidates;
+      found = subst (λ (t : TableValue). IsFoundIn t (greatest (map (λ x. x.own.value.rank) xs))
+          (Some places)) whole (subst (λ r. IsFoundIn table r (Some places)) c.greatest_rank.ensures some);
       parameters_are = ap Some (forms_are G R c.requires.ring found.0 cs found.2 places
           c.in_ok-forms-in-Some.forms.items
-          (subst (λ (cs : List Candidate). AreRelated (IsFormAt R cs) places c.in_ok-forms-in-Some.forms.items)
-          c.deref-in-Some.ensures.value c.in_ok-forms-in-Some.ensures) below);
+          (subst (λ (cs : List Candidate). AreRelated (IsFormAt R cs) places
+          c.in_ok-forms-in-Some.forms.items) c.deref-in-Some.ensures.value c.in_ok-forms-in-Some.ensures) below);
     }

@@ -5,4 +5,8 @@ use Rattle.coho_report.proofs.parameters.own_generators.Given as goal
 
 abbrev pub invariant-loop-i : goal.invariant-loop-i
 invariant-loop-i l = l.table
-    ≡ record { prime = prime_value l.fn.p; subgroups = generators_by (take l.i l.restrictors); candidates = [] }
+    ≡ record {
+      prime = prime_value l.fn.p;
+      subgroups = generators_by (take l.i l.restrictors);
+      candidates = [];
+    }
