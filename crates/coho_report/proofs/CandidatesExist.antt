@@ -1,6 +1,6 @@
 -- There are candidates through each degree, and their restrictions to the subgroups.
-use Rattle.std.proofs.Common.{◌≡◌, ◌∙◌, ◌⊎◌, inl, inr, Bool, true, false, cond, ℕ, zero, suc, ◌<◌, ◌≤◌, List}
-use Rattle.std.proofs.Common.{[], ◌∷◌, ◌++◌, length, map, refl, sym, ap, subst, arith}
+use Rattle.std.proofs.Common.{◌≡◌, Bool, true, false, cond, ℕ, zero, suc, ◌<◌, ◌≤◌, List}
+use Rattle.std.proofs.Common.{[], ◌∷◌, ◌++◌, length, refl, sym, subst, arith}
 use Rattle.std.specs.List.{AllByRecursion as Each}
 use Rattle.p_groups.specs.PGroups.{PGroup, largest_residue, prime_of, group}
 use Rattle.p_groups.proofs.Fields.{field}
@@ -15,14 +15,13 @@ use Rattle.min_res.specs.Stages.{stage_rows}
 use Rattle.min_res.proofs.StageRows.{stage_rows_are}
 use Rattle.param_test.specs.Tables.{CandidateValue}
 use Rattle.chain_lift.specs.Embeddings.{elementary}
-use Rattle.ring_present.specs.Rings.{cohomology, dual_basis, IsPresentation}
+use Rattle.ring_present.specs.Rings.{cohomology, IsPresentation}
 use Rattle.ring_present.specs.Standard.{AreStandard}
 use Rattle.coho_report.specs.Candidates.{polynomials_of, AreCombinations, AreCandidatesIn, AreCandidates}
 use Rattle.coho_report.specs.Parameters.{class_of, IsRestriction, IsRestricted}
 use Rattle.coho_report.specs.Related.{AreRelated}
 use Rattle.coho_report.specs.Values.{SubgroupValue}
 use Rattle.coho_report.proofs.NormalForms.{standard_exist}
-use Rattle.coho_report.proofs.OwnRings.{positive_degrees}
 use Rattle.coho_report.proofs.ReportSubgroups.{image_exists}
 use Rattle.coho_report.proofs.TuplesExist.{combinations_exist}
 

@@ -1,11 +1,10 @@
 -- What the search for parameters asks of the candidates.
-use Rattle.std.proofs.Common.{◌≡◌, ◌∙◌, ℕ, zero, suc, ◌+◌, ◌*◌, ◌<◌, ◌≤◌, Bool, true, false, cond, List, []}
-use Rattle.std.proofs.Common.{◌∷◌, ◌++◌, length, map, refl, sym, ap, subst, arith, Some}
+use Rattle.std.proofs.Common.{◌≡◌, ℕ, zero, suc, ◌*◌, ◌<◌, ◌≤◌, Bool, true, false, cond, List, []}
+use Rattle.std.proofs.Common.{◌∷◌, ◌++◌, length, sym, subst, arith}
 use Rattle.std.specs.Prelude.{All, AllPairs, slice_index_or}
-use Rattle.std.specs.List.{AllByRecursion as Each}
 use Rattle.std.proofs.lemmas.List.{length-map, length-append}
 use Rattle.limits.specs.declared.TheConstants.{GREATEST_DEGREE}
-use Rattle.p_groups.specs.PGroups.{PGroup, largest_residue, prime_of}
+use Rattle.p_groups.specs.PGroups.{PGroup, largest_residue}
 use Rattle.graded_polynomials.specs.Monomials.{is_exterior}
 use Rattle.graded_polynomials.specs.Polynomials.{Polynomial}
 use Rattle.graded_algebra.specs.Algebras.{Generator}
@@ -64,8 +63,8 @@ module _ (G : PGroup) (gs : List (Generator (Vector (largest_residue G)))) where
       go true e = subst (λ fs. (length fs ≤ 63) × Ascend d (suc d) fs) (sym e) (omega arith, omega arith)
       go false c = subst (λ fs. (length fs ≤ 63) × Ascend d (suc d) fs) (sym c.polynomials_are) (
         (let most = c.rows_are.at_most in
-            let f : List ℕ → Polynomial = λ row. record
-            { degree = suc d; terms = polynomial_of c.monomials row } in
+            let f : List ℕ → Polynomial =
+            λ row. record { degree = suc d; terms = polynomial_of c.monomials row } in
             let count = length-map c.rows f in
             omega (arith, most, count)),
         ascend-rows d (suc d) c.monomials c.rows (omega arith),

@@ -1,16 +1,14 @@
 -- The finiteness test has an answer Yes, or it has not.
-use Rattle.std.proofs.Common.{◌≡◌, ◌∙◌, ◌⊎◌, inl, inr, ℕ, zero, suc, ◌+◌, ◌*◌, ◌<◌, ◌≤◌, List, [], ◌∷◌}
-use Rattle.std.proofs.Common.{length, map, Option, Some, sym, ap, subst, refl, arith}
-use Rattle.std.specs.Prelude.{All, slice_get}
+use Rattle.std.proofs.Common.{◌≡◌, ◌⊎◌, inl, inr, ℕ, zero, suc, ◌+◌, ◌*◌, ◌<◌, ◌≤◌, List}
+use Rattle.std.proofs.Common.{length, sym, subst, refl, arith}
+use Rattle.std.specs.Prelude.{All}
 use Rattle.std.specs.List.{AllByRecursion as Each}
 use Rattle.std.proofs.lemmas.Bool.{cases_lt}
 use Rattle.std.proofs.lemmas.List.Elements.{recursion_from_All}
 use Rattle.linear_algebra.specs.Modular.{IsFieldModulo, IsSmallPrime}
-use Rattle.linear_algebra.specs.Rows.{IsMatrix, IsEchelonOf}
 use Rattle.linear_algebra.proofs.Existence.{echelon}
 use Rattle.linear_algebra.proofs.Fields.{field_of_prime}
 use Rattle.graded_polynomials.specs.AllMonomials.{all_monomials}
-use Rattle.graded_polynomials.specs.Monomials.{IsMonomials}
 use Rattle.graded_polynomials.specs.Polynomials.{Polynomial}
 use Rattle.graded_polynomials.proofs.AllMonomials.{all-monomials}
 use Rattle.graded_polynomials.proofs.Terms.{each-map}
@@ -19,7 +17,7 @@ use Rattle.gc_poly.specs.Polynomials.{IsOverGenerators}
 use Rattle.presentation_rows.proofs.Existence.{multiples-exist, multiples-matrix}
 use Rattle.param_test.specs.Counting.{number}
 use Rattle.param_test.specs.Finiteness.{unit_degree, last_degree, AreVariables, AreCounted, AllInIdeal}
-use Rattle.param_test.specs.Finiteness.{IsPassedOver, ArePassedOver, IsYes, IsAnswer, IsFinite}
+use Rattle.param_test.specs.Finiteness.{IsPassedOver, ArePassedOver, IsYes, IsFinite}
 use Rattle.param_test.specs.Nonzero.{nonzero}
 use Rattle.param_test.specs.Variables.{variables, all_kept}
 use Rattle.param_test.proofs.Counts.{counted}
@@ -32,8 +30,7 @@ use Rattle.param_test.proofs.VariableDegrees.{low-degree}
 use Rattle.coho_report.proofs.ListsBelow.{decide_equal}
 
 module _ (g : Generators) (fs : List Polynomial) (prime : IsSmallPrime g.prime)
-    (all-variables : AreVariables g)
-    (over : All (IsOverGenerators g) fs) where
+    (all-variables : AreVariables g) (over : All (IsOverGenerators g) fs) where
   positive : Each (λ d. 0 < d) g.degrees
   positive = each-map (λ d. d ≡ unit_degree g) (λ d. 0 < d) g.degrees
       (λ d e. let l = (low-degree (greatest g)).0 in omega (arith, l, e))

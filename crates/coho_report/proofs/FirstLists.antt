@@ -1,8 +1,8 @@
 -- The first so many of a set, in a strict order, are one list.
-use Rattle.std.proofs.Common.{◌≡◌, ◌⊎◌, inl, inr, ℕ, zero, suc, ◌+◌, ◌<◌, ◌≤◌, List, [], ◌∷◌, ◌++◌, length}
+use Rattle.std.proofs.Common.{◌≡◌, ◌⊎◌, inl, inr, ℕ, zero, suc, ◌≤◌, List, [], ◌∷◌, length}
 use Rattle.std.proofs.Common.{take, refl, sym, ap, subst, arith}
 use Rattle.std.specs.List.{AllByRecursion as Each}
-use Rattle.param_test.specs.Firsts.{IsOneOf, IsAscending, AreFirst}
+use Rattle.param_test.specs.Firsts.{IsOneOf, AreFirst}
 use Rattle.param_test.proofs.Lists.{each-one-of}
 
 module _ {X : Type 0} (B : X → X → Type 0) (self : (x : X) → B x x → ⊥)

@@ -1,11 +1,10 @@
 -- The first that passes, of the first so many of a set in a strict order, is one.
 use Rattle.std.proofs.Common.{◌≡◌, ◌∙◌, ◌⊎◌, inl, inr, ℕ, zero, suc, ◌+◌, ◌<◌, ◌≤◌, List, [], ◌∷◌, ◌++◌}
-use Rattle.std.proofs.Common.{length, take, refl, sym, ap, subst, arith}
+use Rattle.std.proofs.Common.{length, take, refl, ap, subst, arith}
 use Rattle.std.specs.Prelude.{MatchOption, Option, Some, None}
-use Rattle.std.specs.List.{AllByRecursion as Each}
 use Rattle.std.proofs.lemmas.Bool.{cases_order}
 use Rattle.param_test.specs.Firsts.{IsOneOf, AreFirst, IsFirstPassing, NonePasses}
-use Rattle.param_test.proofs.Lists.{each-one-of, length-snoc, one-of-last}
+use Rattle.param_test.proofs.Lists.{each-one-of, one-of-last}
 use Rattle.coho_report.proofs.FirstLists.{fewer, first_are_one}
 
 one-of-take : {X : Type 0} (k : ℕ) (xs : List X) (y : X) → IsOneOf y (take k xs) → IsOneOf y xs

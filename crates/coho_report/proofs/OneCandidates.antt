@@ -1,6 +1,6 @@
 -- The candidates for parameters are one list.
-use Rattle.std.proofs.Common.{◌≡◌, ◌∙◌, ◌⊎◌, inl, inr, Bool, true, false, cond, ℕ, zero, suc, ◌+◌, ◌<◌, ◌≤◌}
-use Rattle.std.proofs.Common.{List, [], ◌∷◌, ◌++◌, length, map, sym, ap, ap₂, subst, arith}
+use Rattle.std.proofs.Common.{◌≡◌, ◌∙◌, inl, inr, Bool, true, false, cond, ℕ, zero, suc, ◌+◌, ◌<◌, ◌≤◌}
+use Rattle.std.proofs.Common.{List, [], ◌∷◌, ◌++◌, length, sym, ap₂, subst, arith}
 use Rattle.std.specs.Prelude.{slice_index_or}
 use Rattle.std.specs.List.{AllByRecursion as Each}
 use Rattle.p_groups.specs.PGroups.{PGroup, largest_residue, prime_of}
@@ -13,7 +13,7 @@ use Rattle.graded_algebra.specs.Presentations.{IsStandard}
 use Rattle.graded_algebra.specs.Vectors.{Vector}
 use Rattle.param_test.specs.Combinations as combinations
 use Rattle.param_test.specs.Combinations.{IsCombination, places, coefficients}
-use Rattle.param_test.specs.Firsts.{IsOneOf, IsAscending, IsLess, AreFirst}
+use Rattle.param_test.specs.Firsts.{IsOneOf, IsAscending, AreFirst}
 use Rattle.param_test.proofs.Odometer.{precedes-trans}
 use Rattle.param_test.proofs.Places.{less-self}
 use Rattle.ring_present.specs.Rings.{cohomology}

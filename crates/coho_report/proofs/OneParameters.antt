@@ -1,5 +1,5 @@
 -- The parameters are one.
-use Rattle.std.proofs.Common.{◌≡◌, ◌∙◌, ◌⊎◌, inl, inr, ℕ, ◌<◌, List, length, map, sym, ap, ap₂, subst, arith}
+use Rattle.std.proofs.Common.{◌≡◌, ◌∙◌, inl, inr, ℕ, List, length, sym, ap₂, subst, arith}
 use Rattle.std.specs.Prelude.{Option}
 use Rattle.p_groups.specs.PGroups.{PGroup, largest_residue, prime_of}
 use Rattle.graded_polynomials.specs.Polynomials.{Polynomial}
@@ -8,7 +8,7 @@ use Rattle.graded_algebra.specs.Vectors.{Vector}
 use Rattle.graded_algebra.proofs.SpansUnique.{span-generators-unique}
 use Rattle.param_test.specs.Parameters.{Passes, IsFoundIn}
 use Rattle.param_test.specs.Tables.{CandidateValue, TableValue, degrees_of}
-use Rattle.param_test.specs.Tuples.{IsTuple, IsBefore, total}
+use Rattle.param_test.specs.Tuples.{IsTuple, IsBefore}
 use Rattle.param_test.proofs.Places.{less-self}
 use Rattle.param_test.proofs.Positions.{before-trans}
 use Rattle.chain_lift.specs.Embeddings.{elementary}
@@ -32,8 +32,8 @@ before-self ds a (inr h) = less-self a h.1
 one_found : (t : TableValue) (r : ℕ) (a b : Option (List ℕ)) → IsFoundIn t r a → IsFoundIn t r b → a ≡ b
 one_found t r a b f g =
     let ds = degrees_of t.candidates in
-    found_is_one (IsTuple (length ds) r) (IsBefore ds) (before-self ds) (before-trans ds) 5000
-    (Passes t) a b f g
+    found_is_one (IsTuple (length ds) r) (IsBefore ds) (before-self ds) (before-trans ds) 5000 (Passes t)
+    a b f g
 
 module _ (G : PGroup) (n : ℕ) where
   one_restriction : (g : Generator (Vector (largest_residue G))) (v : SubgroupValue) (e f : Polynomial)

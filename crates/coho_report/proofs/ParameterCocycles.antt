@@ -205,8 +205,8 @@ module _ (G : PGroup) (n : ℕ) (gs : List (Generator (Vector (largest_residue G
         → IfSome (at_places fs places) (AreParametersOf G n hs ss)
     found-by-cocycles None F = tt
     found-by-cocycles (Some ks) F =
-        let tuple = each-last (IsTuple (length (degrees_of cs))
-        (greatest_rank vs)) F.earlier ks F.first.members in
+        let tuple = each-last (IsTuple (length (degrees_of cs)) (greatest_rank vs)) F.earlier ks
+        F.first.members in
         let below = subst (λ m. Each (λ k. k < m) ks) (length-map cs (λ (c : CandidateValue). c.degree))
         (ascends_below 0 (length (degrees_of cs)) ks tuple.ascends) in
         record {
@@ -227,9 +227,8 @@ module _ (G : PGroup) (n : ℕ) (gs : List (Generator (Vector (largest_residue G
                 finite = subst (λ ds. IsFinite (record { prime = prime_of G; degrees = ds }) ys)
                     (T.generators_are ∙ degrees-same E T.own)
                     (F.pass at.0 (record { prime = prime_of G; degrees = at.1.generators })
-                    (get-map (λ (v : SubgroupValue). record { prime = prime_of G; degrees = v.generators })
-                    vs at.0
-                    at.1 at.2));
+                    (get-map (λ (v : SubgroupValue). record { prime = prime_of G; degrees = v.generators }) vs
+                    at.0 at.1 at.2));
               };
         }
 

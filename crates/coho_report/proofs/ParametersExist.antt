@@ -1,7 +1,7 @@
 -- The search for parameters has an answer.
-use Rattle.std.proofs.Common.{◌≡◌, ◌∙◌, ◌⊎◌, inl, inr, ℕ, zero, suc, ◌+◌, ◌-◌, ◌<◌, ◌≤◌, List, [], ◌∷◌}
+use Rattle.std.proofs.Common.{◌≡◌, ◌∙◌, ◌⊎◌, inl, inr, ℕ, zero, suc, ◌<◌, List, [], ◌∷◌}
 use Rattle.std.proofs.Common.{length, map, Option, Some, refl, sym, ap, subst, arith}
-use Rattle.std.specs.Prelude.{All, slice_get, slice_index_or}
+use Rattle.std.specs.Prelude.{slice_get, slice_index_or}
 use Rattle.std.specs.List.{AllByRecursion as Each}
 use Rattle.std.proofs.lemmas.List.{length-map}
 use Rattle.std.proofs.lemmas.List.Elements.{All-from_recursion}
@@ -17,7 +17,7 @@ use Rattle.gc_poly.specs.Polynomials.{IsOverGenerators}
 use Rattle.param_test.specs.Finiteness.{IsFinite}
 use Rattle.param_test.specs.Parameters.{Passes, restriction}
 use Rattle.param_test.specs.Tables.{CandidateValue, TableValue, degrees_of}
-use Rattle.param_test.specs.Tuples.{Ascends, IsTuple}
+use Rattle.param_test.specs.Tuples.{IsTuple}
 use Rattle.chain_lift.specs.Embeddings.{elementary}
 use Rattle.ring_present.specs.Rings.{cohomology, dual_basis, IsPresentation}
 use Rattle.coho_report.specs.Parameters.{at_places, greatest_rank, own_generators, class_of, IsRestriction}
@@ -29,7 +29,6 @@ use Rattle.coho_report.proofs.CandidatesExist.{candidates_exist, restricted_exis
 use Rattle.coho_report.proofs.FinitenessDecided.{decide_finite}
 use Rattle.coho_report.proofs.ListsBelow.{ascends_below}
 use Rattle.coho_report.proofs.OwnRings.{positive_degrees}
-use Rattle.coho_report.proofs.Related.{related-length}
 use Rattle.coho_report.proofs.TuplesExist.{search_has_answer}
 
 module _ (G : PGroup) (n : ℕ) where
@@ -76,8 +75,8 @@ module _ (G : PGroup) (n : ℕ) where
         IsOverGenerators g (slice_index_or c.images j (record { degree = 0; terms = [] }))) cs
 
     images-over : (h : Generator (Vector (largest_residue G))) (vs : List SubgroupValue)
-        (fs : List Polynomial)
-        → Each TellsOwn vs → AreRelated (IsRestriction G n h) vs fs → (j : ℕ) (v : SubgroupValue)
+        (fs : List Polynomial) → Each TellsOwn vs → AreRelated (IsRestriction G n h) vs fs
+        → (j : ℕ) (v : SubgroupValue)
         → slice_get vs j ≡ Some v
         → IsOverGenerators (ring_of v) (slice_index_or fs j (record { degree = 0; terms = [] }))
     images-over h [] fs t r j v e = absurd (cc)

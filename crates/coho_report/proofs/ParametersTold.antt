@@ -1,7 +1,7 @@
 -- The parameters that are chosen by classes of candidates are those of the subgroups that are told, whose
 -- ranks are low.
 use Rattle.std.proofs.Common.{◌≡◌, ◌∙◌, ◌⊎◌, inl, inr, ℕ, ◌<◌, ◌≤◌, ◌^◌, List, [], ◌∷◌, length, map, refl}
-use Rattle.std.proofs.Common.{sym, ap, ap₂, subst, arith, Option}
+use Rattle.std.proofs.Common.{sym, ap, subst, arith, Option}
 use Rattle.std.specs.Prelude.{All}
 use Rattle.std.specs.List.{AllByRecursion as Each}
 use Rattle.std.proofs.Math.Nat.{pow-le-pow_left}
@@ -22,7 +22,6 @@ use Rattle.graded_algebra.specs.Algebras.{Generator, degrees}
 use Rattle.graded_algebra.specs.Vectors.{Vector}
 use Rattle.graded_algebra.proofs.SpansUnique.{span-generators-unique}
 use Rattle.presentation_rows.specs.Values.{vector}
-use Rattle.gc_poly.specs.Generators.{Generators}
 use Rattle.param_test.specs.Bounds.{greatest}
 use Rattle.param_test.specs.Parameters.{IsFoundIn}
 use Rattle.param_test.specs.Tables.{CandidateValue}

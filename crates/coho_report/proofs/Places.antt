@@ -1,6 +1,6 @@
 -- The places that the search finds, and the polynomials at them.
-use Rattle.std.proofs.Common.{◌≡◌, ◌∙◌, ℕ, zero, suc, ◌-◌, ◌<◌, ◌≤◌, max, List, [], ◌∷◌, ◌++◌, length, map}
-use Rattle.std.proofs.Common.{sym, ap, subst, arith, Some}
+use Rattle.std.proofs.Common.{◌≡◌, ℕ, zero, suc, ◌-◌, ◌<◌, ◌≤◌, List, [], ◌∷◌, ◌++◌, length, map}
+use Rattle.std.proofs.Common.{sym, subst, arith, Some}
 use Rattle.std.specs.Prelude.{All, Option, slice_index_or}
 use Rattle.std.specs.List.{AllByRecursion as Each}
 use Rattle.limits.specs.declared.TheConstants.{GREATEST_DEGREE}
@@ -11,7 +11,7 @@ use Rattle.param_test.specs.Bounds.{greatest}
 use Rattle.param_test.specs.Parameters.{IsFoundIn}
 use Rattle.param_test.specs.Tables.{TableValue, degrees_of}
 use Rattle.param_test.specs.Tuples.{Ascends, IsTuple}
-use Rattle.ring_present.specs.Values.{RingValue, generators_of}
+use Rattle.ring_present.specs.Values.{RingValue}
 use Rattle.ring_present.proofs.RelationsOver.{degrees-are}
 use Rattle.coho_report.specs.Choices.{IsFormAt}
 use Rattle.coho_report.specs.Related.{AreRelated}

@@ -1,5 +1,5 @@
 -- The classes of rows over the standard monomials of a degree.
-use Rattle.std.proofs.Common.{◌≡◌, ◌∙◌, ℕ, zero, suc, ◌+◌, ◌<◌, ◌≤◌, List, [], ◌∷◌, length, sym, ap, subst}
+use Rattle.std.proofs.Common.{◌≡◌, ◌∙◌, ℕ, zero, suc, ◌<◌, ◌≤◌, List, [], ◌∷◌, length, sym, ap, subst}
 use Rattle.std.proofs.Common.{arith}
 use Rattle.std.specs.Prelude.{AllPairs, slice_index_or}
 use Rattle.std.proofs.lemmas.List.Elements.{All-from_recursion}
@@ -12,7 +12,7 @@ use Rattle.fp_rows.specs.Values.{MatrixValue}
 use Rattle.p_groups.specs.PGroups.{PGroup, largest_residue, prime_of}
 use Rattle.p_groups.proofs.Fields.{residues}
 use Rattle.graded_polynomials.specs.Monomials.{IsMonomial, IsGreater}
-use Rattle.graded_polynomials.specs.Polynomials.{Term, Polynomial}
+use Rattle.graded_polynomials.specs.Polynomials.{Term}
 use Rattle.graded_algebra.specs.Algebras.{Generator, degrees}
 use Rattle.graded_algebra.specs.Presentations.{IsNormalForm, IsStandard}
 use Rattle.graded_algebra.specs.Vectors.{Vector}
@@ -96,8 +96,8 @@ class_of_row G n p gs d width ms values S V M prime rank from to u comb x degree
       };
       degree_is = degree;
       form = subst (λ k. IsNormalForm q (cohomology G) gs k (vector q x.class.entries) (polynomial_of ms u))
-          (sym degree) (combination-form G gs d width ms values S V matrix u x.class.entries coefficients
-          row);
+          (sym degree)
+          (combination-form G gs d width ms values S V matrix u x.class.entries coefficients row);
     }
 
 -- the first combinations of the standard monomials, of which there are as many as classes

@@ -1,7 +1,7 @@
 -- Tables of candidates, and polynomials at places.
-use Rattle.std.proofs.Common.{◌≡◌, ◌∙◌, ℕ, zero, suc, ◌+◌, ◌<◌, ◌≤◌, List, [], ◌∷◌, length, map, take, refl}
+use Rattle.std.proofs.Common.{◌≡◌, ◌∙◌, ℕ, zero, suc, ◌<◌, ◌≤◌, List, [], ◌∷◌, length, map, take}
 use Rattle.std.proofs.Common.{sym, ap, subst, arith, Some}
-use Rattle.std.specs.Prelude.{All, AllPairs, slice_get, slice_index, slice_index_or}
+use Rattle.std.specs.Prelude.{All, AllPairs, slice_get, slice_index_or}
 use Rattle.std.proofs.lemmas.List.{length-map, length-take-le}
 use Rattle.std.proofs.lemmas.Option.{same_Some}
 use Rattle.p_groups.specs.PGroups.{PGroup, largest_residue}

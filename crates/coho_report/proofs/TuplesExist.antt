@@ -1,12 +1,12 @@
 -- Tuples and combinations in their orders: there is a list of the first ones, and the search has an answer.
-use Rattle.std.proofs.Common.{◌≡◌, ◌∙◌, ◌⊎◌, inl, inr, ℕ, zero, suc, ◌+◌, ◌<◌, ◌≤◌, List, [], ◌∷◌, ◌++◌}
+use Rattle.std.proofs.Common.{◌≡◌, ◌∙◌, ◌⊎◌, inl, inr, ℕ, zero, suc, ◌<◌, ◌≤◌, List, [], ◌∷◌, ◌++◌}
 use Rattle.std.proofs.Common.{length, refl, sym, ap, ap₂, subst, arith}
 use Rattle.std.specs.Prelude.{Option, slice_index}
 use Rattle.std.specs.List.{AllByRecursion as Each}
 use Rattle.std.proofs.lemmas.Bool.{cases_order}
 use Rattle.param_test.specs.Combinations as combinations
 use Rattle.param_test.specs.Combinations.{IsCombination, AreCandidates, places_from, places, coefficients}
-use Rattle.param_test.specs.Firsts.{IsLess, IsOneOf}
+use Rattle.param_test.specs.Firsts.{IsLess}
 use Rattle.param_test.specs.Tuples.{IsTuple, IsBefore, IsFound, Ascends, total}
 use Rattle.param_test.proofs.Places.{compare-less}
 use Rattle.param_test.proofs.Positions as positions
@@ -59,9 +59,9 @@ module _ (ds : List ℕ) (r : ℕ) where
       → (o : Option (List ℕ)) × IsFound ds r Passes o
   search_has_answer Passes decide =
       let members = members_of Member decide_tuple (lists_below (length ds) r) in
-      found_exists Member (IsBefore ds) (parameters.before-self ds)
-      (positions.before-trans ds) compare_tuples 5000
-      Passes decide members.0 members.1 (λ t m. members.2 t m (all_below (length ds) r t m.length_is
+      found_exists Member (IsBefore ds) (parameters.before-self ds) (positions.before-trans ds)
+      compare_tuples 5000 Passes decide members.0 members.1
+      (λ t m. members.2 t m (all_below (length ds) r t m.length_is
       (ascends_below 0 (length ds) t m.ascends)))
 
 -- there are as many coefficients as places
@@ -105,8 +105,8 @@ row-told i (zero ∷ c) (zero ∷ d) l p k = ap (λ xs. zero ∷ xs) (row-told (
 row-told i (zero ∷ c) (suc y ∷ d) l p k = absurd (not-here i c (places_from (suc i) d) p)
 row-told i (suc x ∷ c) (zero ∷ d) l p k = absurd (not-here i d (places_from (suc i) c) (sym p))
 row-told i (suc x ∷ c) (suc y ∷ d) l p k =
-    ap₂ (λ z zs. z ∷ zs) (ap head-of k) (row-told (suc i) c d (omega (arith, l)) (ap tail-of p)
-    (ap tail-of k))
+    ap₂ (λ z zs. z ∷ zs) (ap head-of k)
+    (row-told (suc i) c d (omega (arith, l)) (ap tail-of p) (ap tail-of k))
 
 module _ (p count : ℕ) where
   compare_combinations : (a b : List ℕ) → IsCombination p count a → IsCombination p count b

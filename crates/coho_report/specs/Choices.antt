@@ -1,5 +1,5 @@
 -- The parameters by the classes of the candidates.
-use Rattle.std.specs.Prelude.{◌≡◌, ◌≤◌, ℕ, Option, Some, List, map, length, slice_index_or}
+use Rattle.std.specs.Prelude.{◌≡◌, ℕ, Option, Some, List, map, slice_index_or}
 use Rattle.p_groups.specs.PGroups.{PGroup, largest_residue, prime_of}
 use Rattle.graded_polynomials.specs.Polynomials.{Polynomial}
 use Rattle.graded_algebra.specs.Algebras.{Generator}
@@ -9,7 +9,6 @@ use Rattle.presentation_rows.specs.Values.{vector}
 use Rattle.param_test.specs.Bounds.{greatest}
 use Rattle.param_test.specs.Parameters.{IsFoundIn}
 use Rattle.param_test.specs.Tables.{CandidateValue}
-use Rattle.min_res.specs.Stages.{rank_of}
 use Rattle.ring_present.specs.Rings.{cohomology}
 use Rattle.ring_present.specs.Values.{RingValue, generators_of}
 use Rattle.coho_report.specs.Candidates.{AreCandidates}

@@ -55,8 +55,7 @@ module _ (G : PGroup) where
     pub images_are : AreRelated (IsRestriction n (class_of gs f)) vs c.images
 
   -- the parameters: as many candidates as the greatest rank is, of the first 5,000 such tuples the first
-  -- whose
-  -- restrictions leave a finite ring on each subgroup; none where there is no such tuple
+  -- whose restrictions leave a finite ring on each subgroup; none where there is no such tuple
   pub record AreParameters (n : ℕ) (gs : List (Generator (Vector (largest_residue G))))
       (vs : List SubgroupValue) (parameters : Option (List Polynomial)) : Type 0 where
     pub candidates : List Polynomial

@@ -1,6 +1,5 @@
 -- The tables of candidates and of their restrictions.
-use Rattle.std.specs.Prelude.{◌≡◌, ℕ, List, map, length}
-use Rattle.param_test.specs.Bounds.{greatest}
+use Rattle.std.specs.Prelude.{◌≡◌, List, map}
 use Rattle.gc_poly.specs.Generators.{Generators}
 use Rattle.param_test.specs.Tables.{CandidateValue}
 use Rattle.coho_report.specs.Related.{AreRelated}

@@ -1,4 +1,4 @@
-use Rattle.std.proofs.Common.{◌≡◌, ◌∙◌, ◌<◌, ◌≤◌, ℕ, List, [], length, take, arith, refl, sym, ap, subst}
+use Rattle.std.proofs.Common.{◌≡◌, ◌∙◌, ◌<◌, ◌≤◌, ℕ, List, [], length, arith, refl, sym, ap, subst}
 use Rattle.std.specs.Prelude.{slice_index_or}
 use Rattle.std.proofs.lemmas.List.{get_or-map, length-map, take_all}
 use Rattle.std.proofs.lemmas.List.Elements.{All-from_recursion}
@@ -34,9 +34,8 @@ loop-i-preserved c =
     let below : i < length rows = omega (arith, c.loop-i-test.true, c.len-i-end.ensures, all-rows) in
     let u = row rows i in
     let firsts = firsts_are ms (prime_value c.prime.result) c.rows.result c.in_ok-combos.combos
-    c.combos.inside.rows p classes.rows c.in_ok-combos.ensures.candidates
-    (sym c.combos.view_is) c.prime.ensures
-    c.rows.ensures.count made.values.count in
+    c.combos.inside.rows p classes.rows c.in_ok-combos.ensures.candidates (sym c.combos.view_is)
+    c.prime.ensures c.rows.ensures.count made.values.count in
     let comb : IsCombination p (length ms) u = All-from_recursion (IsCombination p (length ms)) rows
     firsts.members i [] below in
     let x : Candidate = record { degree = d; class = c.in_ok-class.class } in

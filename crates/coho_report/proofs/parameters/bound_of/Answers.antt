@@ -1,5 +1,5 @@
-use Rattle.std.proofs.Common.{◌≡◌, ◌∙◌, ◌≤◌, List, ℕ, take, map, sym, ap, subst}
-use Rattle.std.specs.Prelude.{All, slice_index}
+use Rattle.std.proofs.Common.{◌∙◌, ◌≤◌, ℕ, take, sym, subst}
+use Rattle.std.specs.Prelude.{All}
 use Rattle.limits.specs.declared.TheConstants.{GREATEST_DEGREE}
 use Rattle.std.proofs.lemmas.List.Elements.{All-take, All-map}
 use Rattle.coho_report.proofs.Ranks.{each-member}

@@ -157,15 +157,12 @@ returns-clause-parameters c =
       places = Some places;
       candidates_are = found.1;
       classes_are = found.2;
-      restricted_are = subst (λ (cs : List Candidate). AreRelated
-          (IsTabled xs) cs tabled) c.deref.ensures.value
-          c.in_ok-table.ensures.candidates;
+      restricted_are = subst (λ (cs : List Candidate). AreRelated (IsTabled xs) cs tabled)
+          c.deref.ensures.value c.in_ok-table.ensures.candidates;
       found = subst (λ (t : TableValue). IsFoundIn t (greatest (map (λ x. x.own.value.rank) xs))
-          (Some places))
-          whole (subst (λ r. IsFoundIn table r (Some places)) c.greatest_rank.ensures some);
+          (Some places)) whole (subst (λ r. IsFoundIn table r (Some places)) c.greatest_rank.ensures some);
       parameters_are = ap Some (forms_are G R c.requires.ring found.0 cs found.2 places
           c.in_ok-forms-in-Some.forms.items
-          (subst (λ (cs : List Candidate). AreRelated
-          (IsFormAt R cs) places c.in_ok-forms-in-Some.forms.items)
-          c.deref-in-Some.ensures.value c.in_ok-forms-in-Some.ensures) below);
+          (subst (λ (cs : List Candidate). AreRelated (IsFormAt R cs) places
+          c.in_ok-forms-in-Some.forms.items) c.deref-in-Some.ensures.value c.in_ok-forms-in-Some.ensures) below);
     }

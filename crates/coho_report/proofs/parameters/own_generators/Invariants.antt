@@ -7,7 +7,6 @@ abbrev pub invariant-loop-i : goal.invariant-loop-i
 invariant-loop-i l = l.table
     ≡ record {
       prime = prime_value l.fn.p;
-      subgroups = generators_by
-          (take l.i l.restrictors);
+      subgroups = generators_by (take l.i l.restrictors);
       candidates = [];
     }

@@ -1,10 +1,9 @@
-use Rattle.std.proofs.Common.{◌≡◌, ◌∙◌, length, arith, refl, sym, ap, subst}
-use Rattle.std.specs.Prelude.{All, slice_index_or}
+use Rattle.std.proofs.Common.{◌∙◌, arith, refl, sym, ap, subst}
+use Rattle.std.specs.Prelude.{All}
 use Rattle.param_test.specs.Tables.{CandidateValue, TableValue}
 use Rattle.coho_report.specs.Restrictors.{Restricts}
 use Rattle.coho_report.specs.Tables.{IsTabled}
 use Rattle.coho_report.specs.declared.candidates.Candidate.{Candidate}
-use Rattle.coho_report.specs.declared.restrictors.Restrictor.{Restrictor}
 use Rattle.coho_report.proofs.NumberedLists.{at-place}
 use Rattle.coho_report.proofs.Related.{related-next}
 use Rattle.coho_report.proofs.Tabled.{related-count, restrictions_are, tabled_order}

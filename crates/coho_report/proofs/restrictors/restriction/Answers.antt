@@ -1,4 +1,4 @@
-use Rattle.std.proofs.Common.{◌≡◌, ◌∙◌, List, ℕ, length, ap, sym, subst}
+use Rattle.std.proofs.Common.{◌∙◌, length, ap, subst}
 use Rattle.fp_rows.specs.Refs.{entries_of}
 use Rattle.graded_algebra.specs.Presentations.{IsNormalForm}
 use Rattle.p_groups.specs.PGroups.{largest_residue}

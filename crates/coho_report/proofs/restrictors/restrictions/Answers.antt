@@ -1,4 +1,4 @@
-use Rattle.std.proofs.Common.{◌≡◌, ◌<◌, length, arith, sym, subst}
+use Rattle.std.proofs.Common.{sym, subst}
 use Rattle.coho_report.specs.Restrictors.{IsFormOf, Restricts}
 use Rattle.coho_report.specs.declared.restrictors.Restrictor.{Restrictor}
 use Rattle.coho_report.proofs.NumberedLists.{at-place}

@@ -1,8 +1,6 @@
 use Rattle.std.proofs.Common.{List, ℕ, ◌∙◌, length, ap, sym, subst}
 use Rattle.p_groups.specs.PGroups.{largest_residue}
 use Rattle.elementary_subgroups.specs.Bases.{NumberedSubgroup}
-use Rattle.chain_lift.specs.Embeddings.{elementary}
-use Rattle.ring_present.specs.Rings.{IsPresentation}
 use Rattle.ring_present.specs.Values.{generators_of}
 use Rattle.ring_present.proofs.RelationsOver.{degrees-are}
 use Rattle.coho_report.specs.declared.own_rings.OwnRing.{OwnRing}
@@ -50,8 +48,8 @@ returns c =
       generators_are = sym (degrees-are q o.ring.generators);
       images_are = subst (λ (b : List ℕ). AreRelated (IsImage map.group b (generators_of q o.ring.generators))
           gs c.in_ok-images.images.items) basis
-          (subst (λ (o : OwnRing). AreRelated (IsImage map.group map.basis
-          (generators_of q o.ring.generators))
-          gs c.in_ok-images.images.items) (c.deref.ensures ∙ sym c.in_ok-shared.ensures)
+          (subst (λ (o : OwnRing). AreRelated
+          (IsImage map.group map.basis (generators_of q o.ring.generators)) gs
+          c.in_ok-images.images.items) (c.deref.ensures ∙ sym c.in_ok-shared.ensures)
           c.in_ok-images.ensures);
     }
