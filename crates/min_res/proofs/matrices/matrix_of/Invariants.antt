@@ -1,7 +1,7 @@
-use Rattle.std.proofs.Common.{◌≡◌, ◌<◌, ◌*◌, ℕ, length}
+use Rattle.std.proofs.Common.{◌≡◌, ◌<◌, ℕ, length}
 use Rattle.linear_algebra.specs.Rows.{row}
 use Rattle.linear_algebra.specs.Kernels.{unit_row}
-use Rattle.p_groups.specs.PGroups.{order_of, prime_of}
+use Rattle.p_groups.specs.PGroups.{prime_of}
 use Rattle.group_algebra.specs.RowMaps.{map_row}
 use Rattle.min_res.proofs.matrices.matrix_of.Given as goal
 

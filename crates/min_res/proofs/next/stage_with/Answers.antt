@@ -1,4 +1,4 @@
-use Rattle.std.proofs.Common.{◌≡◌, ◌+◌, ◌*◌, ◌<◌, ◌≤◌, ◌^◌, List, ℕ, length, arith, ap, sym, ◌∙◌, refl}
+use Rattle.std.proofs.Common.{◌≡◌, ◌+◌, ◌*◌, ◌<◌, ◌≤◌, ◌^◌, length, arith, ap, sym, ◌∙◌, refl}
 use Rattle.std.proofs.lemmas.List.{length-map}
 use mathlib.Core.Path.{subst}
 use Rattle.linear_algebra.specs.Rows.{AreInSpan, row}
