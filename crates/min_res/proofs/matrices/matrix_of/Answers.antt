@@ -1,10 +1,8 @@
-use Rattle.std.proofs.Common.{◌≡◌, ℕ, ◌+◌, ◌*◌, ◌<◌, List, [], ◌∷◌, ◌++◌, length, ap, ap₂, sym, ◌∙◌, refl}
+use Rattle.std.proofs.Common.{◌≡◌, ℕ, ◌+◌, ◌*◌, List, [], ◌∷◌, ◌++◌, length, ap, ap₂, sym, ◌∙◌, refl}
 use Rattle.std.proofs.lemmas.List.{length_push}
-use mathlib.Core.Path.{subst}
-use Rattle.linear_algebra.specs.Rows.{row}
 use Rattle.linear_algebra.specs.Kernels.{unit_row}
-use Rattle.fp_rows.specs.Values.{RowValue, MatrixValue}
-use Rattle.p_groups.specs.PGroups.{PGroup, order_of}
+use Rattle.fp_rows.specs.Values.{MatrixValue}
+use Rattle.p_groups.specs.PGroups.{order_of}
 use Rattle.group_algebra.specs.Coordinates.{layer_coordinates}
 use Rattle.group_algebra.specs.RowMaps.{map_row}
 use Rattle.min_res.proofs.MatrixRows.{rows-step}
