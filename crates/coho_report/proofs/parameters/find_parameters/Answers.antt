@@ -164,5 +164,6 @@ returns-clause-parameters c =
       parameters_are = ap Some (forms_are G R c.requires.ring found.0 cs found.2 places
           c.in_ok-forms-in-Some.forms.items
           (subst (λ (cs : List Candidate). AreRelated (IsFormAt R cs) places
-          c.in_ok-forms-in-Some.forms.items) c.deref-in-Some.ensures.value c.in_ok-forms-in-Some.ensures) below);
+          c.in_ok-forms-in-Some.forms.items) c.deref-in-Some.ensures.value c.in_ok-forms-in-Some.ensures)
+          below);
     }
