@@ -8,7 +8,7 @@ use Rattle.std.specs.declared.rc.Rc.{Rc}
 use mathlib.Core.Path.{subst}
 use Rattle.p_groups.specs.PGroups.{PGroup}
 use Rattle.group_table.specs.Tables.{GroupTable}
-use Rattle.min_res.specs.Products.{AreGenerators}
+use Rattle.group_algebra.specs.Products.{AreGenerators}
 use Rattle.min_res.specs.Values.{StageValue}
 use Rattle.min_res.specs.Defined.{IsStageAt}
 use Rattle.min_res.specs.Stores.{stage_values, IsResolutionStore}

@@ -2,7 +2,7 @@
 use Rattle.std.specs.Prelude.{ℕ, ◌<◌, ◌≤◌, ◌^◌, List, length, map, slice_index_or}
 use Rattle.std.specs.declared.rc.Rc.{Rc}
 use Rattle.p_groups.specs.PGroups.{PGroup}
-use Rattle.min_res.specs.Products.{AreGenerators}
+use Rattle.group_algebra.specs.Products.{AreGenerators}
 use Rattle.min_res.specs.Values.{StageValue}
 use Rattle.min_res.specs.Defined.{IsStageAt}
 
