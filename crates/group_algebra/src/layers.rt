@@ -6,7 +6,7 @@ ghost use Rattle.radical_layers.specs.LayerBasis.{layer_basis as basis_rows};
 ghost use Rattle.group_algebra.specs.Coordinates.{layers, sizes};
 ghost use Rattle.p_groups.specs.PGroups.{order_of, prime_of};
 
-use crate::generators::generators;
+use crate::generation::generators;
 use crate::p_group::PGroup;
 use crate::powers::{next_power, whole_list};
 use fp_rows::{Echelon, Matrix, Positions, greedy};
