@@ -1,4 +1,4 @@
-use Rattle.std.proofs.Common.{◌≡◌, ◌<◌, ◌++◌, List, length, map, take, get_or, arith, ap, sym, ◌∙◌}
+use Rattle.std.proofs.Common.{◌≡◌, ◌<◌, ◌++◌, length, map, take, get_or, arith, ap, sym, ◌∙◌}
 use Rattle.group_table.specs.Tables.{order}
 use Rattle.linear_algebra.proofs.Residues.{below-path}
 use Rattle.radical_layers.specs.Moves.{move_row, moves_by}
