@@ -1,5 +1,5 @@
 -- The action of the group and the products, block by block.
-use Rattle.std.proofs.Common.{◌≡◌, ℕ, zero, suc, ◌+◌, ◌*◌, ◌<◌, ◌≤◌, List, [], ◌∷◌, length, replicate}
+use Rattle.std.proofs.Common.{◌≡◌, ℕ, zero, suc, ◌+◌, ◌*◌, ◌<◌, ◌≤◌, List, [], length, replicate}
 use Rattle.std.proofs.Common.{arith, ap, sym}
 use Rattle.std.proofs.Common.{◌∙◌, refl}
 use Rattle.std.proofs.lemmas.Grind.{same_number_lists}
@@ -31,6 +31,7 @@ use Rattle.group_algebra.proofs.Members.{residue-row}
 use Rattle.group_algebra.proofs.LayerRows.{block, each_block, image-added, size-is, expand-one}
 use Rattle.group_algebra.proofs.LayerRows.{entry-of-total}
 use Rattle.group_algebra.proofs.ElementRows.{product-expand}
+use Rattle.group_algebra.proofs.Factors.{image-sum}
 
 pub zeros-are-row : (p w : ℕ) → 0 < p → IsRow p w (replicate w 0)
 zeros-are-row p w l = record {
@@ -51,13 +52,6 @@ pub inside-steps : (n k g s L : ℕ) → k < n → g < n → s ≡ n → L ≡ n
 inside-steps n k g s L l m e f = let z : (k + 1) * n ≤ n * n =
     mul-le-mul_right n (let y : k + 1 ≤ n = omega (arith, l) in y) in
     let d : k * s ≡ k * n = ap (λ x. k * x) e in omega (arith, z, m, f, d)
-
--- the image of a member, by the sum over the factors
-pub image-sum : (rows : List (List ℕ)) (first step : ℕ) (fs : List ℕ) (k j : ℕ) → 0 < length fs
-    → image_at rows first step fs k j
-    ≡ sum_below (length fs) (λ i. entry fs i * entry (row rows (first + k * step + i)) j)
-image-sum rows first step [] k j l = absurd (omega (arith, l))
-image-sum rows first step (f ∷ fs) k j l = refl
 
 -- images with the same entries modulo p
 pub gains-near : (p : ℕ) (ss : List ℕ) (b : ℕ) (R R' : ℕ → ℕ → ℕ) (c : ℕ) (v old new : List ℕ)
