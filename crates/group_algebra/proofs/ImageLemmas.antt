@@ -48,7 +48,7 @@ row-of-ref {p} {w} {m} x e f h = record {
 }
 
 -- positions by steps
-pub inside-steps : (n k g s L : ℕ) → k < n → g < n → s ≡ n → L ≡ n * n → g + k * s < L
+pub inside-steps : (n k g s L : ℕ) → k < n → g < n → s ≡ n → L ≡ n * n → g + k * s + 1 ≤ L
 inside-steps n k g s L l m e f = let z : (k + 1) * n ≤ n * n =
     mul-le-mul_right n (let y : k + 1 ≤ n = omega (arith, l) in y) in
     let d : k * s ≡ k * n = ap (λ x. k * x) e in omega (arith, z, m, f, d)

@@ -1,6 +1,4 @@
-use Rattle.std.proofs.Common.{◌≡◌, ℕ, List, ◌+◌, ◌*◌, arith, ap, sym, ◌∙◌, refl}
-use mathlib.Core.Path.{subst}
-use Rattle.linear_algebra.specs.Modular.{IsCongruent}
+use Rattle.std.proofs.Common.{◌≡◌, ℕ, List, ◌+◌, ◌*◌, arith}
 use Rattle.linear_algebra.specs.Rows.{entry}
 use Rattle.fp_rows.specs.Refs.{entries_of}
 use Rattle.group_algebra.specs.Gains.{image_at}

@@ -1,5 +1,5 @@
-use Rattle.std.proofs.Common.{◌≡◌, ◌≢◌, ◌<◌, ◌+◌, ℕ, List, slice_set, length, replicate, arith, ap, sym, ◌∙◌}
-use Rattle.std.proofs.Common.{below_more, get_or-set_same, get_or-set_other, refl}
+use Rattle.std.proofs.Common.{◌≡◌, ◌≢◌, ◌<◌, ℕ, List, slice_set, length, arith, ap, sym, ◌∙◌}
+use Rattle.std.proofs.Common.{below_more, get_or-set_same, get_or-set_other}
 use Rattle.std.proofs.lemmas.List.{length-set, length-replicate}
 use mathlib.Core.Path.{subst}
 use Rattle.group_table.specs.Tables.{order}
@@ -21,8 +21,12 @@ pub loop-k-preserved : goal.loop-k-preserved
 loop-k-preserved c =
     let xs : List ℕ = c.loop-k.factors in
     let i : ℕ = c.loop-k.k in
-    let inside : i < length xs = omega (arith, c.loop-k-test.true, c.order-k-end.ensures.small,
-    c.loop-k.invariant.count) in
+    let inside : i < length xs = omega (
+      arith,
+      c.loop-k-test.true,
+      c.order-k-end.ensures.small,
+      c.loop-k.invariant.count,
+    ) in
     record {
       count = length-set xs i c.get.result ∙ c.loop-k.invariant.count;
       entries = below_more (λ k. entry (slice_set xs i c.get.result) k

@@ -1,4 +1,4 @@
-use Rattle.std.proofs.Common.{◌≡◌, ◌+◌, ◌*◌, ℕ, List, length, ap, sym, ◌∙◌}
+use Rattle.std.proofs.Common.{◌+◌, ◌*◌, length, ap, sym, ◌∙◌}
 use Rattle.linear_algebra.specs.Rows.{entry}
 use Rattle.linear_algebra.proofs.Congruences.{congruent_trans, congruent_eq}
 use Rattle.linear_algebra.proofs.RowLemmas.{length-add_multiple}

@@ -1,12 +1,12 @@
 use Rattle.std.proofs.Common.{◌≡◌, ℕ, ◌+◌, ◌*◌, ◌%◌, ◌<◌, length, arith, ap, sym, ◌∙◌}
 use mathlib.Core.Path.{subst}
-use Rattle.linear_algebra.specs.Modular.{IsCongruent, sum_below}
+use Rattle.linear_algebra.specs.Modular.{sum_below}
 use Rattle.linear_algebra.specs.Rows.{entry, row}
 use Rattle.linear_algebra.proofs.Congruences.{congruent_trans, congruent_eq}
 use Rattle.linear_algebra.proofs.RowLemmas.{length-add_multiple}
 use Rattle.linear_algebra.proofs.Sums.{sum_below-mul}
 use Rattle.fp_rows.specs.Refs.{entries_of}
-use Rattle.group_algebra.proofs.ImageSums.{AreImagesAdded, images-none, images-skip, images-near, product-near}
+use Rattle.group_algebra.proofs.ImageSums.{images-none, images-skip, images-near, product-near}
 use Rattle.group_algebra.proofs.combinations.Images.add_combination.Goals as goal
 use Rattle.group_algebra.proofs.combinations.Images.add_combination.Goals.{then-c-ne0, else-c-ne0}
 
