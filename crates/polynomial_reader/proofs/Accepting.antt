@@ -19,8 +19,8 @@ use Rattle.polynomial_reader.specs.declared.syntax.State.TheVariants.{ExponentDi
 use Rattle.polynomial_reader.specs.Automaton.{separator, term_start, exponent_start, goes_on, after, run}
 use Rattle.polynomial_reader.specs.Automaton.{is_end}
 use Rattle.polynomial_reader.proofs.Running.{IsAccepted, decimal-two}
-use Rattle.polynomial_reader.proofs.Joining.{more_factors, more_terms, factors-joined, terms-joined, numeral-joined}
-use Rattle.polynomial_reader.proofs.Joining.{chosen, in-range, digit-fits}
+use Rattle.polynomial_reader.proofs.Joining.{more_factors, more_terms, factors-joined, terms-joined}
+use Rattle.polynomial_reader.proofs.Joining.{numeral-joined, chosen, in-range, digit-fits}
 
 module _ (q : ℕ) where
   -- the bytes end a factor, and go on

@@ -7,16 +7,16 @@ use Rattle.std.proofs.lemmas.List.{append-nil}
 use Rattle.std.proofs.lemmas.Fmt.{decimal_digit}
 use Rattle.limits.specs.declared.TheConstants.{GREATEST_DEGREE}
 use Rattle.graded_polynomials.specs.Texts.{joined_by, star, plus_sign}
-use Rattle.polynomial_texts.specs.Grammar.{NamedFactor, NamedTerm, terms}
+use Rattle.polynomial_texts.specs.Grammar.{NamedFactor, NamedTerm}
 use Rattle.polynomial_texts.specs.Grammar.{factor_text, term_bytes}
-use Rattle.polynomial_reader.specs.Automaton.{separator, goes_on, after}
+use Rattle.polynomial_reader.specs.Automaton.{goes_on}
 
 -- factors and terms that go on, each behind its separator
-pub abbrev more_factors : List NamedFactor → List ℕ → List ℕ
+abbrev pub more_factors : List NamedFactor → List ℕ → List ℕ
 more_factors [] v = v
 more_factors (f ∷ fs) v = 42 ∷ (factor_text f ++ more_factors fs v)
 
-pub abbrev more_terms : List NamedTerm → List ℕ
+abbrev pub more_terms : List NamedTerm → List ℕ
 more_terms [] = []
 more_terms (t ∷ ts) = 43 ∷ (term_bytes t ++ more_terms ts)
 
