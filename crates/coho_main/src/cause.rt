@@ -94,7 +94,8 @@ impl Cause {
             }
             Cause::Stage { degree, dimension } => {
                 format!(in alloc;
-                    "coho: limit: stage {degree} of the group has dimension {dimension}, above {GREATEST_DIMENSION}\n"
+                    "coho: limit: stage {degree} of the group has dimension {dimension}, \
+                        above {GREATEST_DIMENSION}\n"
                 )
             }
             Cause::Monomials { degree, count } => {
@@ -108,7 +109,8 @@ impl Cause {
                 dimension,
             } => {
                 format!(in alloc;
-                    "coho: limit: stage {degree} of subgroup {subgroup} has dimension {dimension}, above {GREATEST_DIMENSION}\n"
+                    "coho: limit: stage {degree} of subgroup {subgroup} has dimension {dimension}, \
+                        above {GREATEST_DIMENSION}\n"
                 )
             }
             Cause::Element { element, order } => {

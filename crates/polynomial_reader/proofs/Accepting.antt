@@ -1,16 +1,13 @@
 -- What the automaton accepts is a text of the grammar.
-use Rattle.std.proofs.Common.{◌≡◌, ℕ, ◌+◌, ◌-◌, ◌*◌, ◌<◌, ◌≤◌, ◌⊎◌, inl, inr, Bool, true, false, cond, ◌&&◌}
-use Rattle.std.proofs.Common.{leb, eqb, List, [], ◌∷◌, ◌++◌, map, Option, None, Some, append_assoc, arith, ap}
+use Rattle.std.proofs.Common.{◌≡◌, ℕ, ◌+◌, ◌-◌, ◌*◌, ◌<◌, ◌≤◌, ◌⊎◌, inl, inr, true, false, cond, ◌&&◌}
+use Rattle.std.proofs.Common.{leb, eqb, List, [], ◌∷◌, ◌++◌, Option, None, Some, arith, ap}
 use Rattle.std.proofs.Common.{ap₂, sym, subst, ◌∙◌, refl}
 use Rattle.std.specs.Prelude.{decimal, IfSome}
 use Rattle.std.specs.List.{AllByRecursion as Each}
 use Rattle.std.proofs.lemmas.Bool.{false≢true}
-use Rattle.std.proofs.lemmas.Bool.Decides.{nat_tests}
 use Rattle.std.proofs.lemmas.Option.{option_and_then_some}
-use Rattle.std.proofs.lemmas.List.{append-nil}
 use Rattle.std.proofs.lemmas.Fmt.{decimal_digit}
 use Rattle.limits.specs.declared.TheConstants.{GREATEST_DEGREE}
-use Rattle.graded_polynomials.specs.Texts.{joined_by, star, plus_sign}
 use Rattle.graded_polynomials.proofs.Terms.{eqb-true}
 use Rattle.polynomial_texts.specs.Grammar.{NamedFactor, NamedTerm, Sum, zero_text, one_text, terms, is_letter}
 use Rattle.polynomial_texts.specs.Grammar.{is_name_byte, IsFactor, IsTerm, IsTextOf, caret, exponent_text}
@@ -22,33 +19,8 @@ use Rattle.polynomial_reader.specs.declared.syntax.State.TheVariants.{ExponentDi
 use Rattle.polynomial_reader.specs.Automaton.{separator, term_start, exponent_start, goes_on, after, run}
 use Rattle.polynomial_reader.specs.Automaton.{is_end}
 use Rattle.polynomial_reader.proofs.Running.{IsAccepted, decimal-two}
-
--- factors and terms that go on, each behind its separator
-abbrev more_factors : List NamedFactor → List ℕ → List ℕ
-more_factors [] v = v
-more_factors (f ∷ fs) v = 42 ∷ (factor_text f ++ more_factors fs v)
-
-abbrev more_terms : List NamedTerm → List ℕ
-more_terms [] = []
-more_terms (t ∷ ts) = 43 ∷ (term_bytes t ++ more_terms ts)
-
-factors-joined : (f : NamedFactor) (fs : List NamedFactor) (v : List ℕ)
-    → joined_by star (map factor_text (f ∷ fs)) ++ v ≡ factor_text f ++ more_factors fs v
-factors-joined f [] v = refl
-factors-joined f (g ∷ fs) v = append_assoc (factor_text f) (42 ∷ joined_by star (map factor_text (g ∷ fs))) v
-    ∙ ap (λ w. factor_text f ++ 42 ∷ w) (factors-joined g fs v)
-
-terms-joined : (t : NamedTerm) (ts : List NamedTerm)
-    → joined_by plus_sign (map term_bytes (t ∷ ts)) ≡ term_bytes t ++ more_terms ts
-terms-joined t [] = sym (append-nil (term_bytes t))
-terms-joined t (u ∷ ts) = ap (λ w. term_bytes t ++ 43 ∷ w) (terms-joined u ts)
-
--- a numeral before its factors
-numeral-joined : (c : ℕ) (f : NamedFactor) (fs : List NamedFactor) (v : List ℕ) → c < 10
-    → term_bytes (record { numeral = Some c; factors = f ∷ fs }) ++ v ≡ (48 + c) ∷ more_factors (f ∷ fs) v
-numeral-joined c f fs v l = ap (λ (ds : List ℕ). (ds ++ 42 ∷ joined_by star (map factor_text (f ∷ fs))) ++ v)
-    (decimal_digit c l)
-    ∙ ap (λ w. (48 + c) ∷ 42 ∷ w) (factors-joined f fs v)
+use Rattle.polynomial_reader.proofs.Joining.{more_factors, more_terms, factors-joined, terms-joined}
+use Rattle.polynomial_reader.proofs.Joining.{numeral-joined, chosen, in-range, digit-fits}
 
 module _ (q : ℕ) where
   -- the bytes end a factor, and go on
@@ -145,11 +117,6 @@ module _ (q : ℕ) where
   at-end (ExponentDigit c) h = λ l u. digit-exponent c [] l u no-tail
   at-end Exponent h = no-tail
 
-  chosen : {X : Type 0} (b : Bool) (x y : Option X) (z : X) → cond b x y ≡ Some z
-      → ((b ≡ true) × (x ≡ Some z)) ⊎ ((b ≡ false) × (y ≡ Some z))
-  chosen true x y z h = inl (refl, h)
-  chosen false x y z h = inr (refl, h)
-
   -- one more byte behind a factor
   star-tail : (w : List ℕ) → FactorRest w → Tail (42 ∷ w)
   star-tail w r = record {
@@ -239,9 +206,6 @@ module _ (q : ℕ) where
       )
       go (inr e) = cc e.1
 
-  between : (b : ℕ) → (leb 49 b && leb b (48 + q)) ≡ true → (49 ≤ b) × (b ≤ 48 + q)
-  between b h = (grind (arith, nat_tests), grind (arith, nat_tests))
-
   term-after : (b : ℕ) (w : List ℕ) (t : State) → q ≤ 6 → term_start q b ≡ Some t → Rest t w
       → TermRest (b ∷ w)
   term-after b w t m h r = go (chosen (is_letter b) (Some Name)
@@ -249,7 +213,7 @@ module _ (q : ℕ) where
     where
       numeral : ((leb 49 b && leb b (48 + q) ≡ true) × (Some Coefficient ≡ Some t)) ⊎
           ((leb 49 b && leb b (48 + q) ≡ false) × (None ≡ Some t)) → TermRest (b ∷ w)
-      numeral (inl e) = let k = between b e.0 in let z : t ≡ Coefficient = cc e.1 in
+      numeral (inl e) = let k = in-range 49 b (48 + q) e.0 in let z : t ≡ Coefficient = cc e.1 in
           let n : 48 + (b - 48) ≡ b = omega (arith, k.0) in
           subst (λ b. TermRest (b ∷ w)) n
           (numeral-term (b - 48) w m (omega (arith, k.0)) (omega (arith, k.1))
@@ -364,9 +328,6 @@ module _ (q : ℕ) where
     bytes = r.bytes;
   }
 
-  in-range : (a b c : ℕ) → (leb a b && leb b c) ≡ true → (a ≤ b) × (b ≤ c)
-  in-range a b c h = (grind (arith, nat_tests), grind (arith, nat_tests))
-
   caret-after : (b : ℕ) (w : List ℕ) (t : State) → exponent_start b ≡ Some t → Rest t w
       → ExponentRest [] (b ∷ w)
   caret-after b w t h r = go (chosen (leb 49 b && leb b 57) (Some (ExponentDigit (b - 48))) None t h)
@@ -379,9 +340,6 @@ module _ (q : ℕ) where
           shifted b w (subst (λ b. ExponentRest (b ∷ []) w) n
           ((subst (λ t. Rest t w) z r) (omega (arith, k.0)) (omega (arith, k.1))))
       go (inr e) = cc e.1
-
-  digit-fits : (c b : ℕ) → goes_on c b ≡ true → (48 ≤ b) × (b < 58) × (10 * c + (b - 48) ≤ GREATEST_DEGREE)
-  digit-fits c b h = (grind (arith, nat_tests), grind (arith, nat_tests), grind (arith, nat_tests))
 
   -- a digit, or the end of the factor, behind the first digit c
   exponent-after : (c b : ℕ) (w : List ℕ) (t : State)

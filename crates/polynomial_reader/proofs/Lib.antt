@@ -1,4 +1,5 @@
 pub mod Running
+pub mod Joining
 pub mod Accepting
 pub mod Stopping
 pub mod Cutting
