@@ -117,7 +117,8 @@ module _ (G : PGroup) where
   -- the translates by g, and g times a table
   pub acted : (T : List (List ℕ)) → length T ≡ n * n → EachRow (IsTranslateRow G) T
       → (b : ℕ) (g : Below n) (ss v new : List ℕ) → ss ≡ sizes G
-      → IsRow G.table.p (n * b) v → GainsImage G.table.p ss b (image_at T g.0 n []) 1 v (replicate (n * b) 0) new
+      → IsRow G.table.p (n * b) v
+      → GainsImage G.table.p ss b (image_at T g.0 n []) 1 v (replicate (n * b) 0) new
       → new ≡ row_of G b ((M b).act g (table_of G b v))
   acted T len H b g ss v new s rv C = row-back b new ((M b).act g (table_of G b v))
       (subst (λ m. IsRow G.table.p (m * b) new) (ap size_of s ∙ size-is G) C.is_row)

@@ -208,7 +208,8 @@ pub image-next : (p : ℕ) (ss : List ℕ) (b m i : ℕ) (v : List ℕ) (f : ℕ
     → IsCongruent p y (sum_below (start_at ss (i + 1)) (λ k. entry v (place_of ss b m k) * f k))
 image-next p ss b m i v f x y l h g =
     congruent_trans g (congruent_trans (congruent_add h (congruent_eq
-    (sum_below-same (get_or ss i 0) _ (λ k. entry v (place_of ss b m (start_at ss i + k)) * f (start_at ss i + k))
+    (sum_below-same (get_or ss i 0) _
+    (λ k. entry v (place_of ss b m (start_at ss i + k)) * f (start_at ss i + k))
     (λ k q. ap (λ z. z * f (start_at ss i + k))
     (entry-part v (b * start_at ss i + m * get_or ss i 0) (get_or ss i 0) k q
     ∙ ap (entry v) (sym (place-in-layer ss b m i k l q)))))))

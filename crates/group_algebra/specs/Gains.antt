@@ -29,7 +29,7 @@ pub record BlockGains (p : ℕ) (sizes : List ℕ) (rank i : ℕ) (f : ℕ → �
   pub kept : (m j : ℕ) → m < rank → m ≢ i → j < size_of sizes
       → entry new (place_of sizes rank m j) ≡ entry old (place_of sizes rank m j)
 
--- entry j of c times the image of block i of v under the map that takes member k to the row with the entries R_k
+-- entry j of c times the image of block i of v under the map that takes member k to the row of the R k j
 abbrev pub image_entry : List ℕ → ℕ → (ℕ → ℕ → ℕ) → ℕ → List ℕ → ℕ → ℕ → ℕ
 image_entry sizes rank R c v i j = c * sum_below (size_of sizes)
     (λ k. entry v (place_of sizes rank i k) * R k j)

@@ -210,7 +210,8 @@ fn block_image(
     requires short { size_of places.now ≤ 256 }
     requires inside { (k : ℕ) → k < size_of places.now
         → images.first + k * images.step + reach images.factors.now ≤ length images.rows.now.rows }
-    requires factors { (i : ℕ) → i < length images.factors.now → entry images.factors.now i < modulus_of v.row }
+    requires factors { (i : ℕ) → i < length images.factors.now
+        → entry images.factors.now i < modulus_of v.row }
     requires few { length images.rows.now.rows ≤ 65536 }
     ensures prime { result.p ≡ modulus_of v.entry.row }
     ensures length { length result.entries ≡ size_of places.now }

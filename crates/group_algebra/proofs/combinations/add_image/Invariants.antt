@@ -13,7 +13,8 @@ invariant-loop-block l =
     × ((i j : ℕ) → i < l.block → j < size_of l.places
     → IsCongruent l.fn.out.p (entry l.out.entries (place_of l.places l.rank i j))
     (entry l.fn.out.entries (place_of l.places l.rank i j) + image_entry l.places l.rank
-    (image_at l.images.rows.now.rows l.images.first l.images.step l.images.factors.now) l.c (entries_of l.fn.v) i j))
+    (image_at l.images.rows.now.rows l.images.first l.images.step l.images.factors.now) l.c
+    (entries_of l.fn.v) i j))
     × ((i j : ℕ) → l.block ≤ i → i < l.rank → j < size_of l.places
     → entry l.out.entries (place_of l.places l.rank i j) ≡ entry l.fn.out.entries
     (place_of l.places l.rank i j))

@@ -52,7 +52,8 @@ loop-i-preserved c =
       image = λ j l. rw p (image-next c.loop-i.sum.p c.args.places.now c.args.rank c.args.block c.loop-i.i
           (entries_of c.args.v.row)
           (λ k. image_at c.args.images.rows.now.rows c.args.images.first c.args.images.step
-          c.args.images.factors.now k j) (entry c.loop-i.sum.entries j) (entry c.add_images.new.sum.entries j) layer
+          c.args.images.factors.now k j) (entry c.loop-i.sum.entries j)
+          (entry c.add_images.new.sum.entries j) layer
           (c.loop-i.invariant.image j l)
           (rw (
             n,

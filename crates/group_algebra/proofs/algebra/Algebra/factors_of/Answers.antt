@@ -30,7 +30,8 @@ loop-k-preserved c =
     record {
       count = length-set xs i c.get.result ∙ c.loop-k.invariant.count;
       entries = below_more (λ k. entry (slice_set xs i c.get.result) k
-          ≡ entry (entries_of c.args.a.row) (place_of (sizes c.args.self.now) c.args.a.count c.args.a.index k))
+          ≡ entry (entries_of c.args.a.row)
+          (place_of (sizes c.args.self.now) c.args.a.count c.args.a.index k))
           i
           (λ k l. get_or-set_other xs i k c.get.result 0 (let z : k ≢ i = omega (arith, l) in z)
           ∙ c.loop-k.invariant.entries k l)
