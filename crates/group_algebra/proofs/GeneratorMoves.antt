@@ -217,8 +217,9 @@ module _ {n q : ℕ} (Γ : Group n) (mul : ℕ → ℕ
 
 -- the list of J^(i+1) is the echelon list of the moves of that of J^i by generators
 module _ {n q : ℕ} (Γ : Group n) (mul : ℕ → ℕ → ℕ) (N : IsNumbered Γ mul) (D : ℕ)
-    (T : Module (suc q) (monoid Γ)) (K : RowForm D T) (i : ℕ) (E : List (List ℕ)) (P : IsEchelonFor (suc q) D (RowIn K (Radical T i)) E)
-    (gs : List (Below n)) (G : Generate n mul (numbers gs)) where
+    (T : Module (suc q) (monoid Γ)) (K : RowForm D T) (i : ℕ) (E : List (List ℕ))
+    (P : IsEchelonFor (suc q) D (RowIn K (Radical T i)) E) (gs : List (Below n))
+    (G : Generate n mul (numbers gs)) where
   radical-add : (i : ℕ) (x y : T.of) → Radical T i x → Radical T i y → Radical T i (T.add x y)
   radical-add zero x y h k = tt
   radical-add (suc i) x y h k = both h k
