@@ -2,7 +2,9 @@ pub mod LayerLaws
 pub mod CoefficientLemmas
 pub mod Members
 pub mod UnitImages
-pub mod Descending
+pub mod ProductLists
+pub mod GeneratorMoves
+pub mod MoveLists
 pub mod ListLemmas
 pub mod PowerLemmas
 pub mod FirstLayers

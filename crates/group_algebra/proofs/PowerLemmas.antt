@@ -1,10 +1,11 @@
 -- The lists of the powers of the augmentation ideal.
-use Rattle.std.proofs.Common.{◌≡◌, ◌≢◌, ℕ, suc, ◌*◌, ◌<◌, ◌≤◌, ◌⊎◌, List, [], ◌++◌, length, map, append_assoc}
-use Rattle.std.proofs.Common.{append-nil, inl, inr, arith, ap, sym, ◌∙◌}
+use Rattle.std.proofs.Common.{◌≡◌, ◌≢◌, ℕ, suc, ◌*◌, ◌<◌, ◌≤◌, ◌⊎◌, List, length, inl, inr}
+use Rattle.std.proofs.Common.{arith, ap, sym, ◌∙◌, refl}
 use Rattle.std.proofs.lemmas.Bool.{cases_lt}
 use Rattle.std.proofs.lemmas.List.{get_or_past}
 use mathlib.Core.Path.{subst}
-use Rattle.group_table.specs.Tables.{order}
+use Rattle.group_table.specs.Tables.{order, product}
+use Rattle.group_modules.specs.Field.{Below}
 use Rattle.linear_algebra.specs.Modular.{IsCongruent, sum_below}
 use Rattle.linear_algebra.specs.Rows.{entry, row, pivot, IsRow, IsMatrix, IsEchelon, IsCombination, IsInSpan}
 use Rattle.linear_algebra.specs.Rows.{IsEchelonOf}
@@ -17,10 +18,10 @@ use Rattle.linear_algebra.proofs.Spans.{in_span_trans}
 use Rattle.radical_layers.proofs.UnitRow.{unit-is-row}
 use Rattle.linear_algebra.proofs.Sums.{sum_below-one, sum_below-vanishes}
 use Rattle.radical_layers.specs.Layers.{IsPowerList}
-use Rattle.radical_layers.specs.Moves.{move_row, moves_by, moves}
-use Rattle.radical_layers.proofs.LayerLaws.{next-layer}
+use Rattle.radical_layers.specs.Moves.{moves_by}
 use Rattle.p_groups.specs.PGroups.{PGroup, largest_residue, group}
-use Rattle.group_algebra.proofs.Descending.{down, below-is-down, same-down, down-next}
+use Rattle.group_algebra.specs.Products.{AreGenerators, IsProductOf, numbers}
+use Rattle.group_algebra.proofs.GeneratorMoves.{IsNumbered, elements, next-by-generators}
 use Rattle.p_groups.proofs.Fields.{residues}
 use Rattle.group_algebra.specs.Coordinates.{sum_coordinates, free_module}
 
@@ -96,44 +97,18 @@ module _ (G : PGroup) where
             (in-units (suc (largest_residue G)) (order G.table) M len units x r.0);
       }
 
-  pub next-is : (i : ℕ) (E M E' : List (List ℕ)) → IsPower i E
-      → M ≡ moves (group G) (free_module G 1) (sum_coordinates G) E
+  numbered : IsNumbered (group G) (product G.table)
+  numbered = record { one-is = refl; mul-is = λ g k. refl }
+
+  pub next-is : (i : ℕ) (E M E' : List (List ℕ)) → IsPower i E → (gens : List ℕ) → AreGenerators G.table gens
+      → ((gs : List (Below (order G.table))) → numbers gs ≡ gens
+      → M ≡ moves_by (group G) (free_module G 1) (sum_coordinates G) gs E)
       → IsEchelonOf G.table.p (order G.table) M E' → IsPower (suc i) E'
-  next-is i E M E' P m e = next-layer (largest_residue G) (group G) (order G.table) (free_module G 1)
-      (sum_coordinates G) i E P E'
-      (subst (λ N. IsEchelonOf (suc (largest_residue G)) (order G.table) N E') m
-      (subst (λ p. IsEchelonOf p (order G.table) M E') (sym (residues G)) e))
-
-  -- the rows of the moves by the elements below g
-  abbrev rest : (g : ℕ) → g ≤ order G.table → List (List ℕ) → List (List ℕ)
-  rest g l E = moves_by (group G) (free_module G 1) (sum_coordinates G) (down g l) E
-
-  abbrev all : List (List ℕ) → List (List ℕ)
-  all E = moves (group G) (free_module G 1) (sum_coordinates G) E
-
-  pub moves-start : (E : List (List ℕ)) (g : ℕ) (l : g ≤ order G.table) → g ≡ order G.table
-      → [] ++ rest g l E ≡ all E
-  moves-start E g l e = go g e l
+  next-is i E M E' P gens A m e = go (elements (order G.table) gens A.below)
     where
-      go : (g : ℕ) → g ≡ order G.table → (l : g ≤ order G.table) → rest g l E ≡ all E
-      go g e l = ap (λ gs. moves_by (group G) (free_module G 1) (sum_coordinates G) gs E)
-          (same-down e l (let z : order G.table ≤ order G.table = omega arith in z)
-          ∙ sym (below-is-down (order G.table)
-          (let z : order G.table ≤ order G.table = omega arith in z)))
-
-  -- the moves by one more element
-  pub moves-step : (E before after : List (List ℕ)) (g k : ℕ) (l : g < order G.table) (b : g ≤ order G.table)
-      (m : k ≤ order G.table) → k ≡ suc g
-      → after ≡ before ++ map (move_row (group G) (free_module G 1) (sum_coordinates G) (g, l)) E
-      → before ++ rest k m E ≡ all E → after ++ rest g b E ≡ all E
-  moves-step E before after g k l b m e a r = ap (λ rows. rows ++ rest g b E) a
-      ∙ append_assoc before (map (move_row (group G) (free_module G 1) (sum_coordinates G) (g, l)) E)
-      (rest g b E)
-      ∙ ap (λ rows. before ++ rows) (ap (λ gs. moves_by (group G) (free_module G 1) (sum_coordinates G) gs E)
-      (down-next e l b m)) ∙ r
-
-  pub moves-end : (E before : List (List ℕ)) (g : ℕ) (l : g ≤ order G.table) → g ≡ 0
-      → before ++ rest g l E ≡ all E → before ≡ all E
-  moves-end E before g l e r = sym (append-nil before)
-      ∙ ap (λ gs. before ++ moves_by (group G) (free_module G 1) (sum_coordinates G) gs E)
-      (sym (same-down {n = order G.table} e l (let z : 0 ≤ order G.table = omega arith in z))) ∙ r
+      go : (gs : List (Below (order G.table))) × (numbers gs ≡ gens) → IsPower (suc i) E'
+      go (gs, n) = next-by-generators (group G) (product G.table) numbered (order G.table) (free_module G 1)
+          (sum_coordinates G) i E P gs
+          (λ x l. subst (λ ys. IsProductOf (product G.table) ys x) (sym n) (A.generate x l)) E'
+          (subst (λ N. IsEchelonOf (suc (largest_residue G)) (order G.table) N E') (m gs n)
+          (subst (λ p. IsEchelonOf p (order G.table) M E') (sym (residues G)) e))

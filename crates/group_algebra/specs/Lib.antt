@@ -1,5 +1,6 @@
 pub mod Coded
 pub mod Coordinates
+pub mod Products
 pub mod RowMaps
 pub mod Inverse
 pub mod Coefficients

@@ -6,6 +6,7 @@ ghost use Rattle.radical_layers.specs.LayerBasis.{layer_basis as basis_rows};
 ghost use Rattle.group_algebra.specs.Coordinates.{layers, sizes};
 ghost use Rattle.p_groups.specs.PGroups.{order_of, prime_of};
 
+use crate::generation::generators;
 use crate::p_group::PGroup;
 use crate::powers::{next_power, whole_list};
 use fp_rows::{Echelon, Matrix, Positions, greedy};
@@ -40,11 +41,12 @@ pub(crate) fn layer_basis(alloc: Global, group: &PGroup) -> Result<LayerBasis, M
     ensures sizes { IfOk result (λ b. b.sizes.items ≡ sizes group.now) }
     ensures rows { IfOk result (λ b. b.rows.rows ≡ basis_rows (layers group.now)) }
 {
+    let generators = generators(alloc, group.as_group())?;
     let mut sizes = Vec::new(alloc);
     let mut rows = Matrix::new(alloc, group.prime(), group.order() as usize);
     let mut power = whole_list(alloc, group)?;
     while power.rows() > 0 {
-        let next = next_power(alloc, group, &power)?;
+        let next = next_power(alloc, group, &generators, &power)?;
         let taken = greedy(alloc, &power, &next)?;
         push_layer(&power, &taken, &mut rows)?;
         sizes.push(taken.len())?;

@@ -4,6 +4,7 @@
 mod algebra;
 mod coefficients;
 mod combinations;
+mod generation;
 mod laws;
 mod layers;
 mod p_group;
@@ -12,6 +13,7 @@ mod powers;
 mod tables;
 
 pub use algebra::Algebra;
+pub use generation::generators;
 pub use laws::inverse_law;
 pub use p_group::PGroup;
 

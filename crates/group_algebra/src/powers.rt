@@ -1,15 +1,17 @@
 //! The powers of the augmentation ideal by their reduced echelon lists, in sum coordinates.
 
-ghost use Rattle.std.specs.Prelude.{◌≡◌, ◌<◌, ◌++◌, ℕ, suc, List, length, map, OnOk, IfOk};
+ghost use Rattle.std.specs.Prelude.{◌≡◌, ◌<◌, ◌++◌, ℕ, suc, All, List, length, map, OnOk, IfOk};
 ghost use Rattle.group_table.specs.Tables.{IsGroupTable};
 ghost use Rattle.linear_algebra.specs.Kernels.{unit_row};
 ghost use Rattle.linear_algebra.specs.Rows.{row, entry, IsRow, IsInSpan};
+ghost use Rattle.group_modules.specs.Field.{Below};
 ghost use Rattle.group_modules.specs.Module.{sub};
 ghost use Rattle.radical_layers.specs.Layers.{IsPowerList};
-ghost use Rattle.radical_layers.specs.Moves.{move_row, moves};
+ghost use Rattle.radical_layers.specs.Moves.{move_row, moves_by};
 ghost use Rattle.fp_rows.specs.Refs.{entries_of, modulus_of};
 ghost use Rattle.p_groups.specs.PGroups.{largest_residue, group as group_of, order_of, prime_of};
 ghost use Rattle.group_algebra.specs.Coordinates.{free_module, sum_coordinates, AreCoefficients};
+ghost use Rattle.group_algebra.specs.Products.{AreGenerators, numbers};
 
 use crate::coefficients::{write_coefficients, write_sum_coordinates, write_translate};
 use crate::p_group::PGroup;
@@ -72,26 +74,36 @@ fn push_moves(
     Ok(())
 }
 
-/// The rows of all (g - 1) v, with v among the rows of the list.
-fn all_moves(alloc: Global, group: &PGroup, list: &Echelon) -> Result<Matrix, Memory>
+/// The rows of all (s - 1) v, with s among these elements and v among the rows of the list.
+fn moves_of(
+    alloc: Global,
+    group: &PGroup,
+    elements: &[u16],
+    list: &Echelon,
+) -> Result<Matrix, Memory>
+    requires elements { All (λ s. s < order_of group.now) elements.now }
     requires same_prime { list.now.p ≡ prime_of group.now }
     requires same_width { list.now.width ≡ order_of group.now }
     ensures kept { IfOk result (λ m. (m.p ≡ prime_of group.now) × (m.width ≡ order_of group.now)) }
-    ensures moves { IfOk result (λ m.
-        m.rows ≡ moves (group_of group.now) (free_module group.now 1)
-        (sum_coordinates group.now) list.now.rows) }
+    ensures moves { IfOk result (λ m. (gs : List (Below (order_of group.now))) → numbers gs ≡ elements.now
+        → m.rows ≡ moves_by (group_of group.now) (free_module group.now 1)
+        (sum_coordinates group.now) gs list.now.rows) }
 {
     let mut m = Matrix::new(alloc, group.prime(), list.width());
-    let mut g = group.order();
-    while g > 0 {
-        g -= 1;
-        push_moves(alloc, group, g, list, &mut m)?;
+    for s in elements {
+        push_moves(alloc, group, *s, list, &mut m)?;
     }
     Ok(m)
 }
 
-/// The list of J^(i+1) from that of J^i, for each i.
-pub(crate) fn next_power(alloc: Global, group: &PGroup, list: &Echelon) -> Result<Echelon, Memory>
+/// The list of J^(i+1) from that of J^i, for each i: the moves by generators span what all moves span.
+pub(crate) fn next_power(
+    alloc: Global,
+    group: &PGroup,
+    generators: &[u16],
+    list: &Echelon,
+) -> Result<Echelon, Memory>
+    requires generators { AreGenerators group.now.table generators.now }
     requires same_prime { list.now.p ≡ prime_of group.now }
     requires same_width { list.now.width ≡ order_of group.now }
     ensures kept { IfOk result (λ e. (e.p ≡ prime_of group.now) × (e.width ≡ order_of group.now)) }
@@ -102,7 +114,7 @@ pub(crate) fn next_power(alloc: Global, group: &PGroup, list: &Echelon) -> Resul
         → IsPowerList (largest_residue group.now) (group_of group.now) (sum_coordinates group.now)
         (suc i) e.rows) }
 {
-    let m = all_moves(alloc, group, list)?;
+    let m = moves_of(alloc, group, generators, list)?;
     echelon(alloc, &m)
 }
 

@@ -140,6 +140,18 @@ fn finds_the_radical_layers(rt: HostRuntime) -> Result<(), Fail> {
     assert_layers(&rt, rt.alloc(), NINE, &[1, 2, 3, 2, 1])
 }
 
+// x generates C4, and x with y the quaternions, where y has the number 4.
+#[test]
+fn finds_generators(rt: HostRuntime) -> Result<(), Fail> {
+    for (shape, expected) in [(CYCLIC_FOUR, &[1u16] as &[u16]), (QUATERNION, &[1, 4])] {
+        let algebra = algebra_of(&rt, rt.alloc(), shape)?;
+        let found = generators(rt.alloc(), algebra.group().as_group())?;
+        assert_eq!(rt; found.len(), expected.len());
+        assert!(rt; found.iter().zip(expected).all(|(x, y)| *x == *y));
+    }
+    Ok(())
+}
+
 fn row_of(rt: &impl Abort, alloc: Global, p: Prime, entries: &[u8]) -> Result<Row, Fail>
     ensures { IfOk result (λ r. (r.p ≡ prime_value p) × (length r.entries ≡ length entries.now)) }
 {

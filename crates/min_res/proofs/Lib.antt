@@ -1,6 +1,4 @@
 pub mod StageRows
-pub mod GeneratorMoves
-pub mod ProductLists
 pub mod StageLaws
 pub mod SpanMembers
 pub mod NextStage

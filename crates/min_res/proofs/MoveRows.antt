@@ -15,7 +15,7 @@ use Rattle.linear_algebra.proofs.CombinationRows.{same-row}
 use Rattle.p_groups.specs.PGroups.{PGroup, largest_residue, group}
 use Rattle.p_groups.proofs.Fields.{residues}
 use Rattle.group_algebra.specs.Coordinates.{free_module, layer_coordinates, row_of, table_of}
-use Rattle.min_res.specs.Products.{numbers}
+use Rattle.group_algebra.specs.Products.{numbers}
 use Rattle.min_res.specs.MoveRows.{move_of, moves_of}
 
 module _ (G : PGroup) (b : ℕ) where
@@ -63,41 +63,3 @@ module _ (G : PGroup) (b : ℕ) where
       ∙ sym (map-append (f g) (take k rows) (row rows k ∷ []))
       ∙ ap (map (f g)) (sym (take-suc rows k [] l)
       ∙ ap (λ n. take n rows) (let z : suc k ≡ k + 1 = omega arith in z)))
-
-  -- one more element
-  pub by-step : (gs : List (Below (order G.table))) (g : Below (order G.table)) (rows : List (List ℕ))
-      → by (gs ++ g ∷ []) rows ≡ by gs rows ++ map (f g) rows
-  by-step [] g rows = append-nil (map (f g) rows)
-  by-step (k ∷ gs) g rows = ap (λ (z : List (List ℕ)). map (f k) rows ++ z) (by-step gs g rows)
-      ∙ sym (append_assoc (map (f k) rows) (by gs rows) (map (f g) rows))
-
-  pub moves-step : (gs : List (Below (order G.table))) (elements : List ℕ) (i : ℕ)
-      (rows old new : List (List ℕ)) → numbers gs ≡ elements → i < length elements
-      → get_or elements i 0 < order G.table
-      → old ≡ by (take i gs) rows → ((g : Below (order G.table)) → g.0 ≡ get_or elements i 0
-      → new ≡ old ++ map (f g) rows) → new ≡ by (take (i + 1) gs) rows
-  moves-step gs elements i rows old new n l b e k = k g g-is
-      ∙ ap (λ (z : List (List ℕ)). z ++ map (f g) rows) e ∙ sym (by-step (take i gs) g rows)
-      ∙ ap (λ (z : List (Below (order G.table))). by z rows) (sym (take-suc gs i d inside)
-      ∙ ap (λ m. take m gs) (let z : suc i ≡ i + 1 = omega arith in z))
-    where
-      inside : i < length gs
-      inside = subst (λ m. i < m) (length-map gs (λ (x : Below (order G.table)). x.0))
-          (subst (λ xs. i < length xs) (sym n) l)
-
-      d : Below (order G.table)
-      d = (get_or elements i 0, b)
-
-      g : Below (order G.table)
-      g = get_or gs i d
-
-      g-is : g.0 ≡ get_or elements i 0
-      g-is = sym (get_or-map (λ (x : Below (order G.table)). x.0) gs i d 0 inside)
-          ∙ ap (λ xs. get_or xs i 0) n
-
-  -- all elements
-  pub moves-end : (gs : List (Below (order G.table))) (elements : List ℕ) (rows : List (List ℕ))
-      → numbers gs ≡ elements → by (take (length elements) gs) rows ≡ by gs rows
-  moves-end gs elements rows n = ap (λ (z : List (Below (order G.table))). by z rows)
-      (ap (λ m. take m gs) (sym (ap length n) ∙ length-map gs (λ (x : Below (order G.table)). x.0))
-      ∙ take-length gs)

@@ -18,20 +18,12 @@ use Rattle.resolution_stages.proofs.Computed.{computed-claims}
 use Rattle.p_groups.specs.PGroups.{PGroup, largest_residue, group}
 use Rattle.p_groups.proofs.Fields.{residues, field, prime_power}
 use Rattle.group_algebra.specs.Coordinates.{layer_coordinates}
-use Rattle.min_res.specs.Products.{AreGenerators, numbers}
+use Rattle.group_algebra.specs.Products.{AreGenerators, numbers}
 use Rattle.min_res.specs.Stages.{stage_rows, rank_of}
 use Rattle.min_res.proofs.StageRows.{stage_rows_are}
 use Rattle.min_res.specs.Defined.{free, ∂}
-use Rattle.min_res.proofs.GeneratorMoves.{IsNumbered, greedy-by-generators}
+use Rattle.group_algebra.proofs.GeneratorMoves.{IsNumbered, elements, greedy-by-generators}
 use Rattle.min_res.proofs.StageLaws.{submodule-list, parts-one}
-
--- numbers below n are the numbers of elements
-pub elements : (n : ℕ) (xs : List ℕ) → All (λ x. x < n) xs → (gs : List (Below n)) × (numbers gs ≡ xs)
-elements n [] a = ([], refl)
-elements n (x ∷ xs) a = go (elements n xs (λ k d l. a (suc k) d (omega (arith, l))))
-  where
-    go : (gs : List (Below n)) × (numbers gs ≡ xs) → (gs : List (Below n)) × (numbers gs ≡ x ∷ xs)
-    go (gs, e) = ((x, a 0 0 (omega arith)) ∷ gs, ap (λ ys. x ∷ ys) e)
 
 module _ (G : PGroup) (d : ℕ) where
   abbrev q : ℕ
@@ -62,7 +54,7 @@ module _ (G : PGroup) (d : ℕ) where
           (greedy-by-generators Γ (product G.table) numbered (order G.table * rank_of G d) (free G d)
           (layer_coordinates G (rank_of G d)) E
           (submodule-list G d).matrix (submodule-list G d).submodule gs
-          (λ x l. subst (λ ys. Rattle.min_res.specs.Products.IsProductOf (product G.table) ys x) (sym n)
+          (λ x l. subst (λ ys. Rattle.group_algebra.specs.Products.IsProductOf (product G.table) ys x) (sym n)
           (A.generate x l)) t xs
           (subst (λ p. IsEchelonOf p (order G.table * rank_of G d)
           (moves_by Γ (free G d) (layer_coordinates G (rank_of G d)) gs E) t) (sym (residues G))

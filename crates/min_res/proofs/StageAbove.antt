@@ -17,7 +17,7 @@ use Rattle.resolution_stages.specs.Computed.{IsMatrixOf}
 use Rattle.fp_rows.specs.Values.{MatrixValue}
 use Rattle.p_groups.specs.PGroups.{PGroup, largest_residue, order_of}
 use Rattle.group_algebra.specs.Coordinates.{layer_coordinates, table_of}
-use Rattle.min_res.specs.Products.{AreGenerators, numbers}
+use Rattle.group_algebra.specs.Products.{AreGenerators, numbers}
 use Rattle.min_res.specs.MoveRows.{moves_of}
 use Rattle.min_res.proofs.MapRows.{map-by, HoldsValues}
 use Rattle.min_res.specs.Stages.{stage_rows, rank_of}

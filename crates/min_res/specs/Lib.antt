@@ -1,4 +1,3 @@
-pub mod Products
 pub mod Stages
 pub mod Values
 pub mod Defined

@@ -8,7 +8,6 @@ mod candidate;
 mod check;
 mod fault;
 mod first;
-mod generators;
 mod laws;
 mod matrices;
 mod moves;

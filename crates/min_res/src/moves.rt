@@ -3,7 +3,7 @@
 ghost use Rattle.fp_rows.specs.Refs.{entries_of, modulus_of};
 ghost use Rattle.group_modules.specs.Field.{Below};
 ghost use Rattle.linear_algebra.specs.Rows.{IsRow};
-ghost use Rattle.min_res.specs.Products.{numbers};
+ghost use Rattle.group_algebra.specs.Products.{numbers};
 ghost use Rattle.min_res.specs.MoveRows.{move_of, moves_of};
 ghost use Rattle.std.specs.Prelude.{◌≡◌, ◌++◌, ◌<◌, ◌*◌, ◌^◌, All, IfOk, List, OnOk, length, map};
 ghost use Rattle.p_groups.specs.PGroups.{order_of, prime_of};

@@ -1,7 +1,7 @@
 //! From the stage of degree d to that of degree d + 1.
 
 ghost use Rattle.min_res.specs.Defined.{IsStageAt};
-ghost use Rattle.min_res.specs.Products.{AreGenerators};
+ghost use Rattle.group_algebra.specs.Products.{AreGenerators};
 ghost use Rattle.min_res.specs.Refusals.{IsRefusal};
 ghost use Rattle.min_res.specs.Stages.{rank_of, stage_rows};
 ghost use Rattle.std.specs.Prelude.{◌≡◌, ◌<◌, ◌≤◌, ◌+◌, ◌*◌, ◌^◌, ℕ, suc, IfErr, IfOk, length, slice_index};

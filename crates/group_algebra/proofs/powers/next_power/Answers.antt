@@ -7,6 +7,6 @@ pub returns-clause-power : goal.returns-clause-power
 returns-clause-power c = IfOk-weaker c.echelon.result
     (λ e. IsEchelonOf c.in_ok-m.m.p c.in_ok-m.m.width c.in_ok-m.m.rows e.rows) _
     (λ e E i P. next-is c.args.group.now i c.args.list.now.rows c.in_ok-m.m.rows e.rows P
-    (c.in_ok-m.ensures.moves)
+    c.args.generators.now c.requires.generators (c.in_ok-m.ensures.moves)
     (rw (c.in_ok-m.ensures.kept.0, c.in_ok-m.ensures.kept.1) at E))
     c.echelon.ensures.rows

@@ -1,7 +1,7 @@
 use Rattle.std.proofs.Common.{◌≡◌, List, take}
 use Rattle.group_table.specs.Tables.{order}
 use Rattle.group_modules.specs.Field.{Below}
-use Rattle.min_res.specs.Products.{numbers}
+use Rattle.group_algebra.specs.Products.{numbers}
 use Rattle.min_res.specs.MoveRows.{moves_of}
 use Rattle.min_res.proofs.moves.moves.Given as goal
 

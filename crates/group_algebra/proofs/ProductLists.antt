@@ -8,7 +8,7 @@ use Rattle.std.proofs.lemmas.List.{get_or_default}
 use Rattle.std.proofs.lemmas.List.Elements.{All-push}
 use mathlib.Core.Path.{subst}
 use Rattle.group_table.specs.Tables.{GroupTable, IsGroupTable, order, product}
-use Rattle.min_res.specs.Products.{IsProductOf, unit, times, AreProducts}
+use Rattle.group_algebra.specs.Products.{IsProductOf, unit, times, AreProducts}
 
 contains-push : (xs : List ℕ) (y s : ℕ) → Contains xs s → Contains (xs ++ y ∷ []) s
 contains-push xs y s c = (

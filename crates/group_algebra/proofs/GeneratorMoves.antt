@@ -1,6 +1,7 @@
 -- The moves by generators span what all moves span.
 use Rattle.std.proofs.Common.{◌≡◌, ℕ, zero, suc, ◌+◌, ◌-◌, ◌<◌, ◌≤◌, ◌⊎◌, List, [], ◌∷◌, ◌++◌, length, map}
 use Rattle.std.proofs.Common.{get_or, inl, inr, arith, ap, ap₂, sym, ◌∙◌, refl}
+use Rattle.std.specs.Prelude.{All}
 use Rattle.std.proofs.lemmas.Bool.{cases_lt}
 use Rattle.std.proofs.lemmas.List.{get_or_append_left, get_or-append-add, length-append, length-map}
 use Rattle.std.proofs.lemmas.List.{get_or-map}
@@ -12,7 +13,7 @@ use Rattle.linear_algebra.proofs.Residues.{below-path}
 use Rattle.group_modules.specs.Tables.{Group, monoid}
 use Rattle.group_modules.specs.Sums.{below, total}
 use Rattle.group_modules.proofs.SumLaws.{map-total}
-use Rattle.augmentation_ideal.specs.Radical.{Moved, none, both, moved, IsSubmodule}
+use Rattle.augmentation_ideal.specs.Radical.{Moved, Radical, none, both, moved, IsSubmodule}
 use Rattle.linear_algebra.specs.Rows.{entry, row, IsMatrix, IsInSpan, AreInSpan, IsEchelonOf}
 use Rattle.linear_algebra.specs.Choices.{IsGreedy}
 use Rattle.linear_algebra.proofs.Spans.{in_span_congruent, in_span_zero, in_span_row, in_span_add}
@@ -20,10 +21,20 @@ use Rattle.linear_algebra.proofs.Spans.{are_in_span_trans}
 use Rattle.linear_algebra.proofs.Congruences.{congruent_trans, congruent_eq, congruent_sym}
 use Rattle.linear_algebra.proofs.GreedyChoice.{in-left, in-right, greedy-same-span}
 use Rattle.radical_layers.specs.Coordinates.{RowForm}
-use Rattle.radical_layers.specs.Moves.{move_row, moves_by, moves}
+use Rattle.radical_layers.specs.Moves.{move_row, moves_by, moves, IsEchelonFor}
+use Rattle.radical_layers.specs.Layers.{RowIn}
+use Rattle.radical_layers.proofs.LayerLaws.{radical-step, layer-spans, span-in-layer, next-layer}
 use Rattle.radical_layers.proofs.Bridge.{at, at-zero, from-span, span-total, moves-matrix, moved-from-span}
 use Rattle.radical_layers.proofs.Bridge.{span-from-moved}
-use Rattle.min_res.specs.Products.{IsProductOf, unit, times as more, Generate, numbers}
+use Rattle.group_algebra.specs.Products.{IsProductOf, unit, times as more, Generate, numbers}
+
+-- numbers below n are the numbers of elements
+pub elements : (n : ℕ) (xs : List ℕ) → All (λ x. x < n) xs → (gs : List (Below n)) × (numbers gs ≡ xs)
+elements n [] a = ([], refl)
+elements n (x ∷ xs) a = go (elements n xs (λ k d l. a (suc k) d (omega (arith, l))))
+  where
+    go : (gs : List (Below n)) × (numbers gs ≡ xs) → (gs : List (Below n)) × (numbers gs ≡ x ∷ xs)
+    go (gs, e) = ((x, a 0 0 (omega arith)) ∷ gs, ap (λ ys. x ∷ ys) e)
 
 -- the product and the unit of Γ, on numbers
 pub record IsNumbered {n : ℕ} (Γ : Group n) (mul : ℕ → ℕ → ℕ) : Type 0 where
@@ -188,9 +199,48 @@ module _ {n q : ℕ} (Γ : Group n) (mul : ℕ → ℕ
         go (v, h, e) = subst (λ x. IsInSpan (suc q) (moves Γ T K E) (entry x)) (sym e)
             (span-from-moved q Γ D T K L E matrix members (λ v s. s) v h)
 
-    -- a greedy choice modulo the echelon list of the moves by generators is one modulo all moves
+    -- the echelon list of the moves by generators is that of all moves
+    pub echelon-of-all : (t : List (List ℕ)) → IsEchelonOf (suc q) D R t → IsEchelonOf (suc q) D (moves Γ T K E) t
+    echelon-of-all t e = record {
+      matrix = e.matrix;
+      echelon = e.echelon;
+      spanned = are_in_span_trans t generated-in-all e.spanned;
+      spans = are_in_span_trans (moves Γ T K E) e.spans all-in-generated;
+    }
+
+    -- a greedy choice modulo it is one modulo all moves
     pub greedy-by-generators : (t : List (List ℕ)) (xs : List ℕ) → IsEchelonOf (suc q) D R t
         → IsGreedy (suc q) E t xs → IsGreedy (suc q) E (moves Γ T K E) xs
-    greedy-by-generators t xs e g = greedy-same-span (suc q) E t (moves Γ T K E)
-        (are_in_span_trans (moves Γ T K E) e.spans all-in-generated)
-        (are_in_span_trans t generated-in-all e.spanned) (length E) xs g
+    greedy-by-generators t xs e g = greedy-same-span (suc q) E t (moves Γ T K E) (echelon-of-all t e).spans
+        (echelon-of-all t e).spanned (length E) xs g
+
+-- the list of J^(i+1) is the echelon list of the moves of that of J^i by generators
+module _ {n q : ℕ} (Γ : Group n) (mul : ℕ → ℕ → ℕ) (N : IsNumbered Γ mul) (D : ℕ) (T : Module (suc q) (monoid Γ))
+    (K : RowForm D T) (i : ℕ) (E : List (List ℕ)) (P : IsEchelonFor (suc q) D (RowIn K (Radical T i)) E)
+    (gs : List (Below n)) (G : Generate n mul (numbers gs)) where
+  radical-add : (i : ℕ) (x y : T.of) → Radical T i x → Radical T i y → Radical T i (T.add x y)
+  radical-add zero x y h k = tt
+  radical-add (suc i) x y h k = both h k
+
+  -- g x is (g - 1) x plus x
+  radical-act : (g : Below n) (x : T.of) → Radical T i x → Radical T i (T.act g x)
+  radical-act g x h = subst (Radical T i) (sub-back T (T.act g x) x)
+      (radical-add i (sub T (T.act g x) x) x (radical-step q Γ D T K i (sub T (T.act g x) x) (moved g x h)) h)
+
+  spans-submodule : IsSubmodule T (λ v. IsInSpan (suc q) E (entry (K.row v)))
+  spans-submodule = record {
+    zero-in = in_span_congruent (λ j. congruent_sym (at-zero q Γ D T K j)) in_span_zero;
+    add-in = λ x y h k. to (T.add x y) (radical-add i x y (from x h) (from y k));
+    act-in = λ g x h. to (T.act g x) (radical-act g x (from x h));
+  }
+    where
+      to : (v : T.of) → Radical T i v → IsInSpan (suc q) E (entry (K.row v))
+      to v h = layer-spans q Γ D T K i E P v h
+
+      from : (v : T.of) → IsInSpan (suc q) E (entry (K.row v)) → Radical T i v
+      from v h = span-in-layer q Γ D T K i E P v h
+
+  pub next-by-generators : (t : List (List ℕ)) → IsEchelonOf (suc q) D (moves_by Γ T K gs E) t
+      → IsEchelonFor (suc q) D (RowIn K (Radical T (suc i))) t
+  next-by-generators t e = next-layer q Γ D T K i E P t
+      (echelon-of-all Γ mul N D T K E P.matrix spans-submodule gs G t e)

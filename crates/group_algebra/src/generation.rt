@@ -1,7 +1,7 @@
 //! Generators of a group: what the (s - 1) v with s among them span is the span of all (g - 1) v.
 
 ghost use Rattle.group_table.specs.Tables.{order, product};
-ghost use Rattle.min_res.specs.Products.{AreGenerators, AreProducts, IsProductOf};
+ghost use Rattle.group_algebra.specs.Products.{AreGenerators, AreProducts, IsProductOf};
 ghost use Rattle.std.specs.Prelude.{◌≡◌, ◌<◌, ℕ, All, IfOk, OnOk, length};
 
 use group_table::{Group, Memory};
@@ -103,7 +103,7 @@ fn add_generator(
 }
 
 /// Generators of a group, each of which is no product of those before it.
-pub(crate) fn generators(alloc: Global, group: &Group) -> Result<Vec<u16>, Memory>
+pub fn generators(alloc: Global, group: &Group) -> Result<Vec<u16>, Memory>
     ensures { IfOk result (λ found. AreGenerators group.now found.items) }
 {
     let order = group.order();

@@ -1,8 +1,8 @@
 use Rattle.std.proofs.Common.{◌≡◌, ◌<◌, ℕ, length}
 use Rattle.std.specs.Prelude.{All}
 use Rattle.group_table.specs.Tables.{order, product}
-use Rattle.min_res.specs.Products.{AreProducts, IsProductOf}
-use Rattle.min_res.proofs.generators.generators.Given as goal
+use Rattle.group_algebra.specs.Products.{AreProducts, IsProductOf}
+use Rattle.group_algebra.proofs.generation.generators.Given as goal
 
 abbrev pub invariant-loop-g : goal.invariant-loop-g
 invariant-loop-g l = record {

@@ -1,5 +1,5 @@
-use Rattle.min_res.proofs.ProductLists.{products-push, generator-product, product-push}
-use Rattle.min_res.proofs.generators.add_generator.Goals as goal
+use Rattle.group_algebra.proofs.ProductLists.{products-push, generator-product, product-push}
+use Rattle.group_algebra.proofs.generation.add_generator.Goals as goal
 
 pub add_all-requires-clause-products : goal.add_all-requires-clause-products
 add_all-requires-clause-products c = rw (

@@ -1,5 +1,5 @@
-use Rattle.min_res.proofs.ProductLists.{product-by}
-use Rattle.min_res.proofs.generators.add_multiples.Goals as goal
+use Rattle.group_algebra.proofs.ProductLists.{product-by}
+use Rattle.group_algebra.proofs.generation.add_multiples.Goals as goal
 
 pub add_product-requires-clause-product : goal.add_product-requires-clause-product
 add_product-requires-clause-product c = product-by _ _ c.args.x _ c.loop-s.s-index c.requires.product

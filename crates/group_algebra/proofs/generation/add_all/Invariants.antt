@@ -1,7 +1,7 @@
 use Rattle.std.proofs.Common.{◌≡◌, length}
 use Rattle.group_table.specs.Tables.{order}
-use Rattle.min_res.specs.Products.{AreProducts}
-use Rattle.min_res.proofs.generators.add_all.Given as goal
+use Rattle.group_algebra.specs.Products.{AreProducts}
+use Rattle.group_algebra.proofs.generation.add_all.Given as goal
 
 abbrev pub invariant-loop-i : goal.invariant-loop-i
 invariant-loop-i l = record {
