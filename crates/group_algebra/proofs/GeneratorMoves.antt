@@ -200,7 +200,8 @@ module _ {n q : ℕ} (Γ : Group n) (mul : ℕ → ℕ
             (span-from-moved q Γ D T K L E matrix members (λ v s. s) v h)
 
     -- the echelon list of the moves by generators is that of all moves
-    pub echelon-of-all : (t : List (List ℕ)) → IsEchelonOf (suc q) D R t → IsEchelonOf (suc q) D (moves Γ T K E) t
+    pub echelon-of-all : (t : List (List ℕ)) → IsEchelonOf (suc q) D R t
+        → IsEchelonOf (suc q) D (moves Γ T K E) t
     echelon-of-all t e = record {
       matrix = e.matrix;
       echelon = e.echelon;
@@ -215,9 +216,10 @@ module _ {n q : ℕ} (Γ : Group n) (mul : ℕ → ℕ
         (echelon-of-all t e).spanned (length E) xs g
 
 -- the list of J^(i+1) is the echelon list of the moves of that of J^i by generators
-module _ {n q : ℕ} (Γ : Group n) (mul : ℕ → ℕ → ℕ) (N : IsNumbered Γ mul) (D : ℕ) (T : Module (suc q) (monoid Γ))
-    (K : RowForm D T) (i : ℕ) (E : List (List ℕ)) (P : IsEchelonFor (suc q) D (RowIn K (Radical T i)) E)
-    (gs : List (Below n)) (G : Generate n mul (numbers gs)) where
+module _ {n q : ℕ} (Γ : Group n) (mul : ℕ → ℕ → ℕ) (N : IsNumbered Γ mul) (D : ℕ)
+    (T : Module (suc q) (monoid Γ)) (K : RowForm D T) (i : ℕ) (E : List (List ℕ))
+    (P : IsEchelonFor (suc q) D (RowIn K (Radical T i)) E) (gs : List (Below n))
+    (G : Generate n mul (numbers gs)) where
   radical-add : (i : ℕ) (x y : T.of) → Radical T i x → Radical T i y → Radical T i (T.add x y)
   radical-add zero x y h k = tt
   radical-add (suc i) x y h k = both h k

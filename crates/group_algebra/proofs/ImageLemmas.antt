@@ -1,5 +1,6 @@
 -- The action of the group and the products, block by block.
-use Rattle.std.proofs.Common.{◌≡◌, ℕ, zero, suc, ◌+◌, ◌*◌, ◌<◌, ◌≤◌, List, length, replicate, arith, ap, sym}
+use Rattle.std.proofs.Common.{◌≡◌, ℕ, zero, suc, ◌+◌, ◌*◌, ◌<◌, ◌≤◌, List, [], length, replicate}
+use Rattle.std.proofs.Common.{arith, ap, sym}
 use Rattle.std.proofs.Common.{◌∙◌, refl}
 use Rattle.std.proofs.lemmas.Grind.{same_number_lists}
 use Rattle.std.proofs.lemmas.List.{length-replicate, get_or-replicate}
@@ -7,8 +8,10 @@ use Rattle.std.proofs.Math.Nat.{mul-le-mul_right}
 use mathlib.Core.Path.{subst, fun_ext}
 use Rattle.group_table.specs.Tables.{order}
 use Rattle.linear_algebra.specs.Modular.{IsCongruent, sum_below}
-use Rattle.linear_algebra.specs.Rows.{entry, IsRow}
-use Rattle.linear_algebra.proofs.Congruences.{same_below}
+use Rattle.linear_algebra.specs.Rows.{entry, row, IsRow}
+use Rattle.linear_algebra.proofs.Congruences.{same_below, congruent_trans, congruent_eq, congruent_sym}
+use Rattle.linear_algebra.proofs.Congruences.{congruent_add, congruent_mul_left}
+use Rattle.linear_algebra.proofs.Sums.{sum_below-same, sum_below-congruent}
 use Rattle.group_modules.specs.Module.{Module, times, IsAdditive}
 use Rattle.group_modules.specs.Field.{Below, residue}
 use Rattle.group_modules.proofs.Laws.{zero-add, lin-add, map-times}
@@ -22,11 +25,13 @@ use Rattle.p_groups.specs.PGroups.{PGroup, largest_residue, group}
 use Rattle.p_groups.proofs.Fields.{residues}
 use Rattle.group_algebra.specs.Coordinates.{layer_coordinates, free_module, row_of, table_of, member}
 use Rattle.group_algebra.specs.Coordinates.{product_with, sizes}
-use Rattle.group_algebra.specs.Gains.{stepped, GainsImage}
+use Rattle.group_algebra.specs.Gains.{image_at, stepped, GainsImage}
 use Rattle.group_algebra.specs.Tables.{IsTranslateRow, IsProductRow, EachRow}
 use Rattle.group_algebra.proofs.Members.{residue-row}
 use Rattle.group_algebra.proofs.LayerRows.{block, each_block, image-added, size-is, expand-one}
+use Rattle.group_algebra.proofs.LayerRows.{entry-of-total}
 use Rattle.group_algebra.proofs.ElementRows.{product-expand}
+use Rattle.group_algebra.proofs.Factors.{image-sum}
 
 pub zeros-are-row : (p w : ℕ) → 0 < p → IsRow p w (replicate w 0)
 zeros-are-row p w l = record {
@@ -43,10 +48,21 @@ row-of-ref {p} {w} {m} x e f h = record {
 }
 
 -- positions by steps
-pub inside-steps : (n k g s L : ℕ) → k < n → g < n → s ≡ n → L ≡ n * n → g + k * s < L
+pub inside-steps : (n k g s L : ℕ) → k < n → g < n → s ≡ n → L ≡ n * n → g + k * s + 1 ≤ L
 inside-steps n k g s L l m e f = let z : (k + 1) * n ≤ n * n =
     mul-le-mul_right n (let y : k + 1 ≤ n = omega (arith, l) in y) in
     let d : k * s ≡ k * n = ap (λ x. k * x) e in omega (arith, z, m, f, d)
+
+-- images with the same entries modulo p
+pub gains-near : (p : ℕ) (ss : List ℕ) (b : ℕ) (R R' : ℕ → ℕ → ℕ) (c : ℕ) (v old new : List ℕ)
+    → ((k j : ℕ) → k < size_of ss → IsCongruent p (R k j) (R' k j)) → GainsImage p ss b R c v old new
+    → GainsImage p ss b R' c v old new
+gains-near p ss b R R' c v old new h C = record {
+  is_row = C.is_row;
+  each = λ i j l m. congruent_trans (C.each i j l m) (congruent_add (congruent_eq refl) (congruent_mul_left c
+      (sum_below-congruent p (size_of ss) _ _
+      (λ k o. congruent_mul_left (entry v (place_of ss b i k)) (h k j o)))));
+}
 
 module _ (G : PGroup) where
   abbrev q : ℕ
@@ -83,7 +99,7 @@ module _ (G : PGroup) where
   pub image-gained : (f : (M 1).of → (M 1).of) → IsAdditive (M 1) (M 1) f → (R : ℕ → List ℕ)
       → ((k : ℕ) → k < n → R k ≡ row_of G 1 (f (member G k)))
       → (b c : ℕ) (ss v old new : List ℕ) → ss ≡ sizes G → IsRow G.table.p (n * b) v
-      → IsRow G.table.p (n * b) old → GainsImage G.table.p ss b R c v old new
+      → IsRow G.table.p (n * b) old → GainsImage G.table.p ss b (λ k j. entry (R k) j) c v old new
       → table_of G b new ≡ (M b).add (table_of G b old)
       (times (M b).add (M b).zero c (each_block G b f (table_of G b v)))
   image-gained f a R e b c ss v old new s rv ro C =
@@ -101,7 +117,8 @@ module _ (G : PGroup) where
   -- the translates by g, and g times a table
   pub acted : (T : List (List ℕ)) → length T ≡ n * n → EachRow (IsTranslateRow G) T
       → (b : ℕ) (g : Below n) (ss v new : List ℕ) → ss ≡ sizes G
-      → IsRow G.table.p (n * b) v → GainsImage G.table.p ss b (stepped T g.0 n) 1 v (replicate (n * b) 0) new
+      → IsRow G.table.p (n * b) v
+      → GainsImage G.table.p ss b (image_at T g.0 n []) 1 v (replicate (n * b) 0) new
       → new ≡ row_of G b ((M b).act g (table_of G b v))
   acted T len H b g ss v new s rv C = row-back b new ((M b).act g (table_of G b v))
       (subst (λ m. IsRow G.table.p (m * b) new) (ap size_of s ∙ size-is G) C.is_row)
@@ -159,30 +176,44 @@ module _ (G : PGroup) where
       ((layer_coordinates G 1).row-table a
       (subst (λ m. IsRow (suc q) m a) (let z : n ≡ n * 1 = omega arith in z) (residue-row G r)))))
 
-  -- one more product
-  pub product-gained : (T : List (List ℕ)) → length T ≡ n * n → EachRow (IsProductRow G) T
-      → (b k : ℕ) (ss a v first old new : List ℕ) → ss ≡ sizes G → k < n
-      → IsRow G.table.p (n * b) v → IsRow G.table.p (n * b) old
-      → GainsImage G.table.p ss b (stepped T k n) (entry a k) v old new
-      → table_of G b old ≡ (M b).add (table_of G b first) (first_products b a (table_of G b v) k)
-      → table_of G b new ≡ (M b).add (table_of G b first) (first_products b a (table_of G b v) (k + 1))
-  product-gained T len H b k ss a v first old new s l rv ro C e =
-      image-gained (product_with G 1 (member G k)) (product-additive 1 (member G k)) (stepped T k n)
-      (λ j m. H (k + j * n) (inside j m) k j l m (let z : k + j * n ≡ j * n + k = omega arith in z))
-      b (entry a k) ss v old new s rv ro C
-      ∙ ap (λ z. (M b).add (table_of G b old) (times (M b).add (M b).zero (entry a k) z))
-      (block-product b (member G k) (table_of G b v))
-      ∙ ap (λ z. (M b).add z term) e
-      ∙ (M b).add-assoc (table_of G b first) (first_products b a (table_of G b v) k) term
-      ∙ ap ((M b).add (table_of G b first)) ((M b).add-comm (first_products b a (table_of G b v) k) term
-      ∙ sym (products-next b a (table_of G b v) k))
+  -- the image of a member under the product with a
+  image-of-product : (T : List (List ℕ)) → length T ≡ n * n → EachRow (IsProductRow G) T → (a : List ℕ)
+      → IsRow G.table.p n a → (l j : ℕ) → l < n
+      → IsCongruent (suc q) (sum_below n (λ i. entry a i * entry (row T (0 + l * n + i)) j))
+      (entry (row_of G 1 (product_with G 1 (table_of G 1 a) (member G l))) j)
+  image-of-product T len H a ra l j m = congruent_sym (congruent_trans
+      (congruent_eq (ap (λ y. entry (row_of G 1 y) j) (sym (products-all 1 a (member G l) ra))))
+      (congruent_trans (entry-of-total G n (entry a) (λ k. product_with G 1 (member G k) (member G l)) j)
+      (congruent_eq (sum_below-same n _ (λ i. entry a i * entry (row T (0 + l * n + i)) j)
+      (λ i o. ap (λ y. entry a i * entry y j) (sym (H (0 + l * n + i) (inside i o) i l o m
+      (let z : 0 + l * n + i ≡ l * n + i = omega arith in z))))))))
     where
-      term : (M b).of
-      term = times (M b).add (M b).zero (entry a k) (product_with G b (member G k) (table_of G b v))
+      inside : (i : ℕ) → i < n → 0 + l * n + i < length T
+      inside i o = let z : (l + 1) * n ≤ n * n =
+          mul-le-mul_right n (let y : l + 1 ≤ n = omega (arith, m) in y) in omega (arith, z, o, len)
 
-      inside : (j : ℕ) → j < n → k + j * n < length T
-      inside j m = let z : (j + 1) * n ≤ n * n =
-          mul-le-mul_right n (let y : j + 1 ≤ n = omega (arith, m) in y) in omega (arith, z, l, len)
+  -- a row that gained the products by a
+  pub product-gained : (T : List (List ℕ)) → length T ≡ n * n → EachRow (IsProductRow G) T
+      → (b : ℕ) (ss a v old new : List ℕ) → ss ≡ sizes G → 0 < n → IsRow G.table.p n a
+      → IsRow G.table.p (n * b) v → IsRow G.table.p (n * b) old
+      → GainsImage G.table.p ss b (image_at T 0 n a) 1 v old new
+      → new ≡ row_of G b ((M b).add (table_of G b old) (product_with G b (table_of G 1 a) (table_of G b v)))
+  product-gained T len H b ss a v old new s some ra rv ro C = row-back b new _
+      (subst (λ m. IsRow G.table.p (m * b) new) (ap size_of s ∙ size-is G) C.is_row)
+      (image-gained (product_with G 1 (table_of G 1 a)) (product-additive 1 (table_of G 1 a))
+      (λ k. row_of G 1 (product_with G 1 (table_of G 1 a) (member G k))) (λ k l. refl)
+      b 1 ss v old new s rv ro
+      (gains-near G.table.p ss b (image_at T 0 n a)
+      (λ k j. entry (row_of G 1 (product_with G 1 (table_of G 1 a) (member G k))) j) 1 v old new
+      (λ k j l. subst (λ p. IsCongruent p (image_at T 0 n a k j)
+      (entry (row_of G 1 (product_with G 1 (table_of G 1 a) (member G k))) j)) (residues G)
+      (congruent_trans (congruent_eq (image-sum T 0 n a k j (omega (arith, some, ra.length_is))
+      ∙ ap (λ m. sum_below m (λ i. entry a i * entry (row T (0 + k * n + i)) j)) ra.length_is))
+      (image-of-product T len H a ra k j (subst (λ m. k < m) (ap size_of s ∙ size-is G) l)))) C)
+      ∙ ap (λ z. (M b).add (table_of G b old) (times (M b).add (M b).zero 1 z))
+      (block-product b (table_of G 1 a) (table_of G b v))
+      ∙ ap ((M b).add (table_of G b old))
+      ((M b).add-zero (product_with G b (table_of G 1 a) (table_of G b v))))
 
   -- products with zeros
   pub no-products : (b : ℕ) (a : List ℕ) (w : (M b).of) (k : ℕ) → ((i : ℕ) → i < k → entry a i ≡ 0)

@@ -5,6 +5,7 @@ use mathlib.Core.Path.{subst}
 use Rattle.linear_algebra.specs.Modular.{IsCongruent, sum_below}
 use Rattle.linear_algebra.specs.Rows.{entry, add_multiple}
 use Rattle.linear_algebra.proofs.Congruences.{congruent_trans, congruent_eq, congruent_mod, congruent_add}
+use Rattle.linear_algebra.proofs.Congruences.{congruent_mul_right}
 use Rattle.linear_algebra.proofs.RowLemmas.{entry-add_multiple, length-add_multiple}
 use Rattle.fp_rows.specs.Values.{RowValue}
 
@@ -51,6 +52,37 @@ images-next p old g k x r mid new A len e h = record {
       (sum_below k (λ i. g i j) + g k j) =
       omega arith in z)))));
 }
+
+pub images-near : (p : ℕ) (old : List ℕ) (g : ℕ → ℕ → ℕ) (k : ℕ) (mid new : RowValue)
+    → AreImagesAdded p old g k mid → new.p ≡ mid.p → length new.entries ≡ length mid.entries
+    → ((j : ℕ) → j < length old → IsCongruent p (entry new.entries j) (entry mid.entries j + g k j))
+    → AreImagesAdded p old g (k + 1) new
+images-near p old g k mid new A e f h = record {
+  prime = e ∙ A.prime;
+  count = f ∙ A.count;
+  sums = λ j l. congruent_trans (h j l) (congruent_trans (congruent_add (A.sums j l) (congruent_eq refl))
+      (congruent_eq (rw add-one
+      (let z : entry old j + sum_below k (λ i. g i j) + g k j ≡ entry old j +
+      (sum_below k (λ i. g i j) + g k j) =
+      omega arith in z))));
+}
+
+-- x times a row, and x times its multiple by c
+pub times-near : (x : ℕ) (r : List ℕ) (mid new : RowValue) → length r ≡ length mid.entries
+    → new ≡ record mid { entries = add_multiple mid.p x mid.entries r } → (j : ℕ) → j < length mid.entries
+    → IsCongruent mid.p (entry new.entries j) (entry mid.entries j + x * entry r j)
+times-near x r mid new len e j l = congruent_trans (congruent_eq (ap (λ (v : RowValue). entry v.entries j) e
+    ∙ entry-add_multiple mid.p x mid.entries r j len l))
+    (congruent_mod (entry mid.entries j + x * entry r j))
+
+pub product-near : (x c y : ℕ) (r : List ℕ) (mid new : RowValue) → length r ≡ length mid.entries
+    → y ≡ (0 + x * c) % mid.p
+    → new ≡ record mid { entries = add_multiple mid.p y mid.entries r } → (j : ℕ) → j < length mid.entries
+    → IsCongruent mid.p (entry new.entries j) (entry mid.entries j + x * (c * entry r j))
+product-near x c y r mid new len d e j l = congruent_trans (times-near y r mid new len e j l)
+    (congruent_add (congruent_eq refl) (congruent_trans (congruent_eq (ap (λ z. z * entry r j) d))
+    (congruent_trans (congruent_mul_right (entry r j) (congruent_mod (0 + x * c)))
+    (congruent_eq (let z : (0 + x * c) * entry r j ≡ x * (c * entry r j) = omega arith in z)))))
 
 -- terms of 0 may be passed over
 pub images-pass : (p : ℕ) (old : List ℕ) (g : ℕ → ℕ → ℕ) (k d : ℕ) (sum : RowValue)

@@ -200,22 +200,22 @@ layers-all p ss b m f old out i inside e A = record {
 
 -- ---- the image of a block
 -- one more layer of the image of a block
-pub image-next : (p : ℕ) (ss : List ℕ) (b m i : ℕ) (v : List ℕ) (R : ℕ → List ℕ) (j x y : ℕ) → i < length ss
-    → IsCongruent p x (sum_below (start_at ss i) (λ k. entry v (place_of ss b m k) * entry (R k) j))
+pub image-next : (p : ℕ) (ss : List ℕ) (b m i : ℕ) (v : List ℕ) (f : ℕ → ℕ) (x y : ℕ) → i < length ss
+    → IsCongruent p x (sum_below (start_at ss i) (λ k. entry v (place_of ss b m k) * f k))
     → IsCongruent p y (x + sum_below (get_or ss i 0)
     (λ k. entry (slice_range v (b * start_at ss i + m * get_or ss i 0)
-    (b * start_at ss i + m * get_or ss i 0 + get_or ss i 0)) k * entry (R (start_at ss i + k)) j))
-    → IsCongruent p y (sum_below (start_at ss (i + 1)) (λ k. entry v (place_of ss b m k) * entry (R k) j))
-image-next p ss b m i v R j x y l h g =
+    (b * start_at ss i + m * get_or ss i 0 + get_or ss i 0)) k * f (start_at ss i + k)))
+    → IsCongruent p y (sum_below (start_at ss (i + 1)) (λ k. entry v (place_of ss b m k) * f k))
+image-next p ss b m i v f x y l h g =
     congruent_trans g (congruent_trans (congruent_add h (congruent_eq
-    (sum_below-same (get_or ss i 0) _ (λ k. entry v (place_of ss b m (start_at ss i + k)) * entry
-    (R (start_at ss i + k)) j)
-    (λ k q. ap (λ z. z * entry (R (start_at ss i + k)) j)
+    (sum_below-same (get_or ss i 0) _
+    (λ k. entry v (place_of ss b m (start_at ss i + k)) * f (start_at ss i + k))
+    (λ k q. ap (λ z. z * f (start_at ss i + k))
     (entry-part v (b * start_at ss i + m * get_or ss i 0) (get_or ss i 0) k q
     ∙ ap (entry v) (sym (place-in-layer ss b m i k l q)))))))
-    (congruent_eq (sym (ap (λ n. sum_below n (λ k. entry v (place_of ss b m k) * entry (R k) j))
+    (congruent_eq (sym (ap (λ n. sum_below n (λ k. entry v (place_of ss b m k) * f k))
     (start-next ss i l)
-    ∙ sum-split (start_at ss i) (get_or ss i 0) (λ k. entry v (place_of ss b m k) * entry (R k) j)))))
+    ∙ sum-split (start_at ss i) (get_or ss i 0) (λ k. entry v (place_of ss b m k) * f k)))))
 
 -- congruent gains
 pub gains-congruent : (p : ℕ) (ss : List ℕ) (b m : ℕ) (f g : ℕ → ℕ) (old new : List ℕ)

@@ -18,4 +18,5 @@ pub mod ImageLemmas
 pub mod BlockSums
 pub mod LayerPlaces
 pub mod ImageSums
+pub mod Factors
 mod Combined

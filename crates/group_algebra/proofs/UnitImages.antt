@@ -1,6 +1,6 @@
 -- The values of a linear map of free modules at unit rows.
-use Rattle.std.proofs.Common.{◌≡◌, ◌≢◌, ℕ, suc, ◌+◌, ◌*◌, ◌<◌, ◌≤◌, ◌⊎◌, List, length, replicate, inl, inr}
-use Rattle.std.proofs.Common.{arith, ap}
+use Rattle.std.proofs.Common.{◌≡◌, ◌≢◌, ℕ, suc, ◌+◌, ◌*◌, ◌<◌, ◌≤◌, ◌⊎◌, List, [], length, replicate, inl}
+use Rattle.std.proofs.Common.{inr, arith, ap}
 use Rattle.std.proofs.Common.{sym, ◌∙◌}
 use Rattle.std.proofs.lemmas.Bool.{cases_eq}
 use Rattle.std.proofs.Math.Nat.{mul-le-mul_right}
@@ -19,7 +19,7 @@ use Rattle.p_groups.specs.PGroups.{PGroup, largest_residue, group, prime_of}
 use Rattle.p_groups.proofs.Fields.{residues}
 use Rattle.linear_algebra.proofs.Fields.{field_of_prime}
 use Rattle.group_algebra.specs.Coordinates.{free_module, row_of, table_of, member, product_with, sizes}
-use Rattle.group_algebra.specs.Gains.{stepped, GainsImage}
+use Rattle.group_algebra.specs.Gains.{image_at, stepped, GainsImage}
 use Rattle.group_algebra.specs.RowMaps.{map_row}
 use Rattle.group_algebra.specs.Tables.{IsProductRow, EachRow}
 use Rattle.group_algebra.proofs.BlockSums.{block, entry-block, block-is-row, map-is}
@@ -54,7 +54,7 @@ module _ (G : PGroup) where
   pub multiplied : (T : List (List ℕ)) → length T ≡ n * n → EachRow (IsProductRow G) T
       → (b k : ℕ) (ss v new : List ℕ) → ss ≡ sizes G → k < n
       → IsRow G.table.p (n * b) v
-      → GainsImage G.table.p ss b (stepped T k n) 1 v (replicate (n * b) 0) new
+      → GainsImage G.table.p ss b (image_at T k n []) 1 v (replicate (n * b) 0) new
       → new ≡ row_of G b (product_with G b (member G k) (table_of G b v))
   multiplied T len H b k ss v new s l rv C = row-back G b new (product_with G b (member G k) (table_of G b v))
       (subst (λ m. IsRow G.table.p (m * b) new) (ap size_of s ∙ size-is G) C.is_row)

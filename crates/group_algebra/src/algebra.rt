@@ -3,6 +3,7 @@
 ghost use Rattle.std.specs.Prelude.{◌≡◌, ◌*◌, ◌^◌, ◌<◌, ℕ, List, length, slice_index, IfOk};
 ghost use Rattle.group_modules.specs.Tables.{block-sum};
 ghost use Rattle.linear_algebra.specs.Kernels.{unit_row};
+ghost use Rattle.linear_algebra.specs.Rows.{entry};
 ghost use Rattle.radical_layers.specs.Placing.{place_of};
 ghost use Rattle.fp_rows.specs.Refs.{entries_of, modulus_of};
 ghost use Rattle.p_groups.specs.PGroups.{largest_residue, group as group_of, order_of, prime_of};
@@ -177,6 +178,7 @@ impl Algebra {
             rows: &self.translates,
             first: g as usize,
             step: self.group.order() as usize,
+            factors: &[],
         };
         out.clear();
         add_image(&self.places, images, rank, 1, v, out);
@@ -253,9 +255,29 @@ impl Algebra {
             rows: &self.products,
             first: location.member,
             step: self.group.order() as usize,
+            factors: &[],
         };
         out.clear();
         add_image(&self.places, images, rank, 1, row, out);
+    }
+
+    // The entries of a block, and 0 after them.
+    fn factors_of(&self, a: Block<'_>) -> [u8; 256]
+        requires inside { a.index < a.count }
+        requires fits { order_of self.now * a.count < 2 ^ 64 }
+        requires modulus { modulus_of a.row ≡ prime_of self.now }
+        requires length { length (entries_of a.row) ≡ order_of self.now * a.count }
+        ensures count { length result ≡ 256 }
+        ensures entries { (k : ℕ) → k < order_of self.now
+            → entry result k ≡ entry (entries_of a.entry.row) (place_of (sizes self.now) a.entry.count
+            a.entry.index k) }
+        ensures below { (k : ℕ) → k < order_of self.now → entry result k < prime_of self.now }
+    {
+        let mut factors = [0; 256];
+        for k in 0..self.group.order() as usize {
+            factors[k] = a.row.get(self.place(a.count, a.index, k));
+        }
+        factors
     }
 
     // Adds the product of a block of a row, read in place as a member of kG, and a member v of kG^rank.
@@ -282,14 +304,13 @@ impl Algebra {
         if is_zero_block(&self.places, a.count, a.index, a.row) {
             return;
         }
-        for k in 0..n {
-            let images = Images {
-                rows: &self.products,
-                first: k,
-                step: n,
-            };
-            let c = a.row.get(self.place(a.count, a.index, k));
-            add_image(&self.places, images, rank, c, v, out);
-        }
+        let factors = self.factors_of(a);
+        let images = Images {
+            rows: &self.products,
+            first: 0,
+            step: n,
+            factors: &factors[..n],
+        };
+        add_image(&self.places, images, rank, 1, v, out);
     }
 }

@@ -2,14 +2,14 @@
 
 ghost use Rattle.std.specs.Prelude.{◌≡◌, ◌↔◌, ◌+◌, ◌*◌, ◌^◌, ◌<◌, ◌≤◌, ℕ, length, IsTrue};
 ghost use Rattle.linear_algebra.specs.Modular.{IsCongruent, sum_below};
-ghost use Rattle.linear_algebra.specs.Rows.{entry, IsRow};
+ghost use Rattle.linear_algebra.specs.Rows.{entry, row, IsRow};
 ghost use Rattle.radical_layers.specs.Placing.{size_of, place_of};
 ghost use Rattle.fp_rows.specs.Refs.{entries_of, modulus_of};
-ghost use Rattle.group_algebra.specs.Gains.{stepped, BlockGains, image_entry, GainsImage, IsZeroBlock};
-ghost use Rattle.group_algebra.specs.Gains.{BeginsAt};
+ghost use Rattle.group_algebra.specs.Gains.{BlockGains, image_at, image_entry, reach, stepped, BeginsAt};
+ghost use Rattle.group_algebra.specs.Gains.{GainsImage, IsZeroBlock};
 
 use crate::places::Places;
-use fp_rows::{Matrix, Row, RowRef, ShortRow};
+use fp_rows::{Matrix, Row, RowRef, ShortRow, add_product};
 
 /// Adds c times the row r of the group algebra to one block, a layer at a time.
 fn add_to_block(places: &Places, rank: usize, block: usize, c: u8, r: RowRef<'_>, out: &mut Row)
@@ -57,16 +57,17 @@ pub(crate) fn is_zero_block(places: &Places, rank: usize, block: usize, v: RowRe
 }
 
 /// Where a linear map of the group algebra takes the members of the layer basis: to every step-th row, from
-/// the first on.
+/// the first on; with factors, to the sum of as many rows from there on, each times its factor.
 #[derive(Clone, Copy)]
 pub(crate) struct Images<'a> {
     pub(crate) rows: &'a Matrix,
     pub(crate) first: usize,
     pub(crate) step: usize,
+    pub(crate) factors: &'a [u8],
 }
 
 impl<'a> Images<'a> {
-    /// The image of member k.
+    // The image of member k without factors.
     fn image(&self, k: usize) -> RowRef<'a>
         requires inside { self.now.first + k * self.now.step < length self.now.rows.now.rows }
         requires few { length self.now.rows.now.rows ≤ 65536 }
@@ -76,6 +77,57 @@ impl<'a> Images<'a> {
     {
         self.rows.row(self.first + k * self.step)
     }
+
+    // Adds x times the sum of the rows of member k, each times its factor.
+    fn add_combination(&self, x: u8, k: usize, sum: &mut ShortRow)
+        requires factor { x < sum.old.p }
+        requires factors { (i : ℕ) → i < length self.now.factors.now
+            → entry self.now.factors.now i < sum.old.p }
+        requires prime { self.now.rows.now.p ≡ sum.old.p }
+        requires width { self.now.rows.now.width ≡ length sum.old.entries }
+        requires inside { self.now.first + k * self.now.step + length self.now.factors.now
+            ≤ length self.now.rows.now.rows }
+        requires few { length self.now.rows.now.rows ≤ 65536 }
+        ensures prime { sum.new.p ≡ sum.old.p }
+        ensures same_length { length sum.new.entries ≡ length sum.old.entries }
+        ensures sums { (j : ℕ) → j < length sum.old.entries
+            → IsCongruent sum.old.p (entry sum.new.entries j)
+            (entry sum.old.entries j + x * sum_below (length self.now.factors.now)
+            (λ i. entry self.now.factors.now i
+            * entry (row self.now.rows.now.rows (self.now.first + k * self.now.step + i)) j)) }
+    {
+        for i in 0..self.factors.len() {
+            let c = self.factors[i];
+            if c != 0 {
+                let y = add_product(self.rows.prime(), 0, x, c);
+                sum.add(y, self.rows.row(self.first + k * self.step + i));
+            }
+        }
+    }
+
+    // Adds x times the image of member k.
+    fn add(&self, x: u8, k: usize, sum: &mut ShortRow)
+        requires factor { x < sum.old.p }
+        requires factors { (i : ℕ) → i < length self.now.factors.now
+            → entry self.now.factors.now i < sum.old.p }
+        requires prime { self.now.rows.now.p ≡ sum.old.p }
+        requires width { self.now.rows.now.width ≡ length sum.old.entries }
+        requires inside { self.now.first + k * self.now.step + reach self.now.factors.now
+            ≤ length self.now.rows.now.rows }
+        requires few { length self.now.rows.now.rows ≤ 65536 }
+        ensures prime { sum.new.p ≡ sum.old.p }
+        ensures same_length { length sum.new.entries ≡ length sum.old.entries }
+        ensures sums { (j : ℕ) → j < length sum.old.entries
+            → IsCongruent sum.old.p (entry sum.new.entries j)
+            (entry sum.old.entries j + x * image_at self.now.rows.now.rows self.now.first self.now.step
+            self.now.factors.now k j) }
+    {
+        if self.factors.is_empty() {
+            sum.add(x, self.image(k));
+        } else {
+            self.add_combination(x, k, sum);
+        }
+    }
 }
 
 // Adds the images of the members from number `start` on with these coefficients.
@@ -83,7 +135,9 @@ fn add_images(images: Images<'_>, start: usize, coefficients: RowRef<'_>, sum: &
     requires primes { (modulus_of coefficients ≡ sum.old.p) × (images.rows.now.p ≡ sum.old.p) }
     requires width { images.rows.now.width ≡ length sum.old.entries }
     requires inside { (k : ℕ) → k < length (entries_of coefficients)
-        → images.first + (start + k) * images.step < length images.rows.now.rows }
+        → images.first + (start + k) * images.step + reach images.factors.now
+        ≤ length images.rows.now.rows }
+    requires factors { (i : ℕ) → i < length images.factors.now → entry images.factors.now i < sum.old.p }
     requires few { length images.rows.now.rows ≤ 65536 }
     requires short { start + length (entries_of coefficients) ≤ 256 }
     ensures prime { sum.new.p ≡ sum.old.p }
@@ -92,11 +146,12 @@ fn add_images(images: Images<'_>, start: usize, coefficients: RowRef<'_>, sum: &
         → IsCongruent sum.old.p (entry sum.new.entries j)
         (entry sum.old.entries j + sum_below (length (entries_of coefficients.entry))
         (λ k. entry (entries_of coefficients.entry) k
-        * entry (stepped images.entry.rows.now.rows images.entry.first images.entry.step (start + k)) j)) }
+        * image_at images.entry.rows.now.rows images.entry.first images.entry.step
+        images.entry.factors.now (start + k) j)) }
 {
     let mut k = coefficients.next_place(0);
     while k < coefficients.len() {
-        sum.add(coefficients.get(k), images.image(start + k));
+        images.add(coefficients.get(k), start + k, sum);
         k = coefficients.next_place(k + 1);
     }
 }
@@ -154,14 +209,17 @@ fn block_image(
     requires width { images.rows.now.width ≡ size_of places.now }
     requires short { size_of places.now ≤ 256 }
     requires inside { (k : ℕ) → k < size_of places.now
-        → images.first + k * images.step < length images.rows.now.rows }
+        → images.first + k * images.step + reach images.factors.now ≤ length images.rows.now.rows }
+    requires factors { (i : ℕ) → i < length images.factors.now
+        → entry images.factors.now i < modulus_of v.row }
     requires few { length images.rows.now.rows ≤ 65536 }
     ensures prime { result.p ≡ modulus_of v.entry.row }
     ensures length { length result.entries ≡ size_of places.now }
     ensures image { (j : ℕ) → j < size_of places.now → IsCongruent result.p (entry result.entries j)
         (sum_below (size_of places.now) (λ k. entry (entries_of v.entry.row)
         (place_of places.now rank block k)
-        * entry (stepped images.entry.rows.now.rows images.entry.first images.entry.step k) j)) }
+        * image_at images.entry.rows.now.rows images.entry.first images.entry.step
+        images.entry.factors.now k j)) }
 {
     let _length = v.row.len();
     let mut sum = ShortRow::zero(images.rows.prime(), images.rows.width());
@@ -194,13 +252,14 @@ fn add_block_image(
     requires small { size_of places.now * rank < 2 ^ 64 }
     requires width { images.rows.now.width ≡ size_of places.now }
     requires inside { (k : ℕ) → k < size_of places.now
-        → images.first + k * images.step < length images.rows.now.rows }
+        → images.first + k * images.step + reach images.factors.now ≤ length images.rows.now.rows }
+    requires factors { (i : ℕ) → i < length images.factors.now → entry images.factors.now i < out.old.p }
     requires few { length images.rows.now.rows ≤ 65536 }
     requires short { size_of places.now ≤ 256 }
     ensures prime { out.new.p ≡ out.old.p }
     ensures gains { BlockGains out.old.p places.now rank block
-        (image_entry places.now rank (stepped images.entry.rows.now.rows images.entry.first
-        images.entry.step) c (entries_of v.entry.row) block)
+        (image_entry places.now rank (image_at images.entry.rows.now.rows images.entry.first
+        images.entry.step images.entry.factors.now) c (entries_of v.entry.row) block)
         out.old.entries out.new.entries }
 {
     prove!(out.len() == v.row.len());
@@ -224,12 +283,14 @@ pub(crate) fn add_image(
     requires small { size_of places.now * rank < 2 ^ 64 }
     requires width { images.rows.now.width ≡ size_of places.now }
     requires inside { (k : ℕ) → k < size_of places.now
-        → images.first + k * images.step < length images.rows.now.rows }
+        → images.first + k * images.step + reach images.factors.now ≤ length images.rows.now.rows }
+    requires factors { (i : ℕ) → i < length images.factors.now → entry images.factors.now i < out.old.p }
     requires few { length images.rows.now.rows ≤ 65536 }
     requires short { size_of places.now ≤ 256 }
     ensures prime { out.new.p ≡ out.old.p }
     ensures gains { GainsImage out.old.p places.now rank
-        (stepped images.entry.rows.now.rows images.entry.first images.entry.step) c (entries_of v.entry)
+        (image_at images.entry.rows.now.rows images.entry.first images.entry.step images.entry.factors.now)
+        c (entries_of v.entry)
         out.old.entries out.new.entries }
 {
     prove!(out.len() == v.len());

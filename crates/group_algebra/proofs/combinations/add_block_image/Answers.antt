@@ -2,7 +2,7 @@ use Rattle.std.proofs.Common.{◌*◌, ◌∙◌}
 use Rattle.linear_algebra.specs.Rows.{entry}
 use Rattle.linear_algebra.proofs.Congruences.{congruent_mul_left}
 use Rattle.fp_rows.specs.Refs.{entries_of}
-use Rattle.group_algebra.specs.Gains.{stepped, image_entry}
+use Rattle.group_algebra.specs.Gains.{image_at, image_entry}
 use Rattle.group_algebra.proofs.LayerPlaces.{gains-congruent}
 use Rattle.group_algebra.proofs.combinations.add_block_image.Goals as goal
 
@@ -10,7 +10,8 @@ pub returns-clause-gains : goal.returns-clause-gains
 returns-clause-gains c = gains-congruent c.args.out.now.p c.args.places.now c.args.rank c.args.block
     (λ j. c.args.c * entry (entries_of c.view.result) j)
     (image_entry c.args.places.now c.args.rank
-    (stepped c.args.images.rows.now.rows c.args.images.first c.args.images.step) c.args.c
+    (image_at c.args.images.rows.now.rows c.args.images.first c.args.images.step
+    c.args.images.factors.now) c.args.c
     (entries_of c.args.v.row) c.args.block)
     c.args.out.now.entries c.add_to_block.new.out.entries
     (λ j l. congruent_mul_left c.args.c (rw c.view.ensures.entries

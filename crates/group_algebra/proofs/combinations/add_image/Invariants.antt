@@ -3,7 +3,7 @@ use Rattle.linear_algebra.specs.Modular.{IsCongruent}
 use Rattle.linear_algebra.specs.Rows.{entry, IsRow}
 use Rattle.radical_layers.specs.Placing.{place_of, size_of}
 use Rattle.fp_rows.specs.Refs.{entries_of}
-use Rattle.group_algebra.specs.Gains.{stepped, image_entry}
+use Rattle.group_algebra.specs.Gains.{image_at, image_entry}
 use Rattle.group_algebra.proofs.combinations.add_image.Given as goal
 
 abbrev pub invariant-loop-block : goal.invariant-loop-block
@@ -13,7 +13,8 @@ invariant-loop-block l =
     × ((i j : ℕ) → i < l.block → j < size_of l.places
     → IsCongruent l.fn.out.p (entry l.out.entries (place_of l.places l.rank i j))
     (entry l.fn.out.entries (place_of l.places l.rank i j) + image_entry l.places l.rank
-    (stepped l.images.rows.now.rows l.images.first l.images.step) l.c (entries_of l.fn.v) i j))
+    (image_at l.images.rows.now.rows l.images.first l.images.step l.images.factors.now) l.c
+    (entries_of l.fn.v) i j))
     × ((i j : ℕ) → l.block ≤ i → i < l.rank → j < size_of l.places
     → entry l.out.entries (place_of l.places l.rank i j) ≡ entry l.fn.out.entries
     (place_of l.places l.rank i j))

@@ -8,7 +8,7 @@ use Rattle.linear_algebra.proofs.Sums.{sum_below-same, sum_below-zero}
 use Rattle.radical_layers.specs.Placing.{place_of}
 use Rattle.fp_rows.specs.Refs.{entries_of}
 use Rattle.fp_rows.specs.Values.{RowValue}
-use Rattle.group_algebra.specs.Gains.{stepped}
+use Rattle.group_algebra.specs.Gains.{image_at}
 use Rattle.group_algebra.specs.Places.{start_at}
 use Rattle.group_algebra.proofs.LayerPlaces.{image-next, start-next, length-part}
 use Rattle.group_algebra.proofs.combinations.block_image.Goals as goal
@@ -28,7 +28,8 @@ loop-i-init c = record {
       ∙ get_or-replicate c.width.result j 0 0 (omega (arith, l, c.width.ensures, c.requires.width))
       ∙ sym (no-terms (start_at c.args.places.now c.args.v.layer)
       (λ k. entry (entries_of c.args.v.row) (place_of c.args.places.now c.args.rank c.args.block k))
-      (λ k. entry (stepped c.args.images.rows.now.rows c.args.images.first c.args.images.step k) j)
+      (λ k. image_at c.args.images.rows.now.rows c.args.images.first c.args.images.step
+      c.args.images.factors.now k j)
       (λ k m. c.requires.begins.zero c.args.block k c.requires.block
       (let e = c.requires.begins.start_is in omega (arith, m, e)))));
 }
@@ -50,8 +51,9 @@ loop-i-preserved c =
           (sym (start-next c.args.places.now c.loop-i.i layer));
       image = λ j l. rw p (image-next c.loop-i.sum.p c.args.places.now c.args.rank c.args.block c.loop-i.i
           (entries_of c.args.v.row)
-          (stepped c.args.images.rows.now.rows c.args.images.first c.args.images.step)
-          j (entry c.loop-i.sum.entries j) (entry c.add_images.new.sum.entries j) layer
+          (λ k. image_at c.args.images.rows.now.rows c.args.images.first c.args.images.step
+          c.args.images.factors.now k j) (entry c.loop-i.sum.entries j)
+          (entry c.add_images.new.sum.entries j) layer
           (c.loop-i.invariant.image j l)
           (rw (
             n,

@@ -3,7 +3,7 @@ use Rattle.linear_algebra.specs.Modular.{IsCongruent, sum_below}
 use Rattle.linear_algebra.specs.Rows.{entry}
 use Rattle.radical_layers.specs.Placing.{place_of, size_of}
 use Rattle.fp_rows.specs.Refs.{entries_of, modulus_of}
-use Rattle.group_algebra.specs.Gains.{stepped}
+use Rattle.group_algebra.specs.Gains.{image_at}
 use Rattle.group_algebra.specs.Places.{start_at}
 use Rattle.group_algebra.proofs.combinations.block_image.Given as goal
 
@@ -14,5 +14,6 @@ invariant-loop-i l = record {
   start : l.start ≡ start_at l.places l.i;
   image : (j : ℕ) → j < size_of l.places → IsCongruent l.sum.p (entry l.sum.entries j)
       (sum_below (start_at l.places l.i) (λ k. entry (entries_of l.v.row) (place_of l.places l.rank l.block k)
-      * entry (stepped l.images.rows.now.rows l.images.first l.images.step k) j));
+      * image_at l.images.rows.now.rows l.images.first l.images.step l.images.factors.now
+      k j));
 }

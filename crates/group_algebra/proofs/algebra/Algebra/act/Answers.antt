@@ -1,11 +1,11 @@
-use Rattle.std.proofs.Common.{◌≡◌, ◌<◌, ◌*◌, ◌^◌, length, replicate, ap, sym, ◌∙◌}
+use Rattle.std.proofs.Common.{◌≡◌, [], ◌<◌, ◌*◌, ◌^◌, length, replicate, ap, sym, ◌∙◌}
 use Rattle.std.proofs.lemmas.List.{length-replicate}
 use mathlib.Core.Path.{subst}
 use Rattle.group_table.specs.Tables.{order}
 use Rattle.linear_algebra.specs.Rows.{IsRow}
 use Rattle.radical_layers.specs.Placing.{size_of}
 use Rattle.fp_rows.specs.Refs.{entries_of}
-use Rattle.group_algebra.specs.Gains.{stepped, GainsImage}
+use Rattle.group_algebra.specs.Gains.{image_at, GainsImage}
 use Rattle.group_algebra.proofs.LayerRows.{size-is}
 use Rattle.group_algebra.proofs.ImageLemmas.{row-of-ref, inside-steps, acted}
 use Rattle.group_algebra.proofs.algebra.Algebra.act.Goals as goal
@@ -53,7 +53,7 @@ returns-clause-moved c =
     ap (λ r. r.entries) c.clear.ensures
     ∙ ap (λ k. replicate k 0) (rw (← c.self.view_is) at c.requires.out_length) in
     let C : GainsImage c.self.inside.group.table.p c.self.inside.places c.args.rank
-    (stepped c.self.inside.translates.rows c.args.g (order c.self.inside.group.table)) 1
+    (image_at c.self.inside.translates.rows c.args.g (order c.self.inside.group.table) []) 1
     (entries_of c.args.v) (replicate
     (order c.self.inside.group.table * c.args.rank) 0) c.add_image.new.out.entries
     = rw (p, zeros, c.order.ensures.value) at c.add_image.ensures.gains in

@@ -1,4 +1,5 @@
-use Rattle.std.proofs.Common.{◌≡◌, ◌<◌, ℕ, List, ◌+◌, ◌*◌, ◌^◌, length, arith, ap, sym, ◌∙◌, refl}
+use Rattle.std.proofs.Common.{◌≡◌, ◌<◌, ◌≤◌, ℕ, List, ◌*◌, ◌^◌, length, take, arith, ap, sym, ◌∙◌, refl}
+use Rattle.std.proofs.lemmas.List.{length-take-le, get_or-take}
 use mathlib.Core.Path.{subst}
 use Rattle.group_table.specs.Tables.{order}
 use Rattle.linear_algebra.specs.Rows.{entry, IsRow}
@@ -8,34 +9,20 @@ use Rattle.fp_rows.specs.Refs.{entries_of}
 use Rattle.p_groups.specs.PGroups.{PGroup}
 use Rattle.group_algebra.specs.Coordinates.{free_module, row_of, table_of, sizes, product_with}
 use Rattle.group_algebra.specs.RowMaps.{IsBlock}
-use Rattle.group_algebra.specs.Gains.{stepped, GainsImage, IsZeroBlock}
+use Rattle.group_algebra.specs.Gains.{image_at, GainsImage, IsZeroBlock}
 use Rattle.group_algebra.proofs.BlockSums.{block, entry-block, block-is, block-is-row}
+use Rattle.group_algebra.proofs.Factors.{reach-within}
 use Rattle.group_algebra.proofs.LayerRows.{size-is}
 use Rattle.group_algebra.proofs.Members.{residue-row}
-use Rattle.group_algebra.proofs.ImageLemmas.{row-of-ref, inside-steps, row-back, first_products, products-all}
-use Rattle.group_algebra.proofs.ImageLemmas.{product-gained, nothing-gained}
+use Rattle.group_algebra.proofs.ImageLemmas.{row-of-ref, product-gained, nothing-gained}
 use Rattle.group_algebra.proofs.algebra.Algebra.add_product.Goals as goal
-
-pub loop-k-init : goal.loop-k-init
-loop-k-init c =
-    let r : IsRow c.args.self.now.table.p (order c.args.self.now.table * c.args.rank) c.args.out.now.entries =
-    rw (c.requires.prime, c.requires.out_length) at c.len.ensures.row in
-    let n : c.order-n.result ≡ order c.args.self.now.table = rw (← c.self.view_is) c.order-n.ensures.value in (
-      (n, refl),
-      r,
-      sym ((free_module c.args.self.now c.args.rank).add-zero
-          (table_of c.args.self.now c.args.rank c.args.out.now.entries)),
-    )
 
 pub add_image-requires-clause-lengths : goal.add_image-requires-clause-lengths
 add_image-requires-clause-lengths c =
     let size : size_of c.self.inside.places ≡ order c.self.inside.group.table =
-    ap size_of c.self.invariant.sizes_are ∙ size-is c.self.inside.group in
-    let v : length (entries_of c.args.v) ≡ order c.self.inside.group.table * c.args.rank =
-    rw (← c.self.view_is) at c.requires.length in (
-      v ∙ ap (λ k. k * c.args.rank) (sym size),
-      (rw (← c.self.view_is) at c.loop-k.invariant.1.length_is)
-          ∙ ap (λ k. k * c.args.rank) (sym size),
+    ap size_of c.self.invariant.sizes_are ∙ size-is c.self.inside.group in (
+      (rw (← c.self.view_is) at c.requires.length) ∙ ap (λ k. k * c.args.rank) (sym size),
+      (rw (← c.self.view_is) at c.requires.out_length) ∙ ap (λ k. k * c.args.rank) (sym size),
     )
 
 pub add_image-requires-clause-small : goal.add_image-requires-clause-small
@@ -53,63 +40,34 @@ add_image-requires-clause-width c =
     ap size_of c.self.invariant.sizes_are ∙ size-is c.self.inside.group in
     c.self.invariant.product_shape.width ∙ sym size
 
-pub add_image-requires-clause-inside : goal.add_image-requires-clause-inside
-add_image-requires-clause-inside c k l =
+pub add_image-requires-clause-short : goal.add_image-requires-clause-short
+add_image-requires-clause-short c =
     let size : size_of c.self.inside.places ≡ order c.self.inside.group.table =
     ap size_of c.self.invariant.sizes_are ∙ size-is c.self.inside.group in
-    inside-steps (order c.self.inside.group.table) k c.loop-k.k c.order-n.result
-    (length c.self.inside.products.rows)
-    (subst (λ m. k < m) size l) (subst (λ m. c.loop-k.k < m) c.order-n.ensures.value c.loop-k-test.true)
-    c.order-n.ensures.value
-    c.self.invariant.product_shape.rows
+    rw size c.self.invariant.small
 
-pub loop-k-preserved : goal.loop-k-preserved
-loop-k-preserved c =
+-- the factors are the block
+block-factors : (G : PGroup) (m i : ℕ) (x fs : List ℕ) → order G.table ≤ length fs
+    → ((k : ℕ) → k < order G.table → entry fs k ≡ entry x (place_of (sizes G) m i k))
+    → take (order G.table) fs ≡ block G m x i
+block-factors G m i x fs l h = block-is G m x i (take (order G.table) fs) (record {
+  count = length-take-le (order G.table) fs l;
+  each = λ k o. get_or-take (order G.table) fs k 0 o ∙ h k o;
+})
+
+pub add_image-requires-clause-inside : goal.add_image-requires-clause-inside
+add_image-requires-clause-inside c k l =
     let G : PGroup = c.self.inside.group in
-    let b : ℕ = c.args.rank in
-    let k : ℕ = c.loop-k.k in
-    let x : List ℕ = entries_of c.args.a.row in
-    let A : List ℕ = block G c.args.a.count x c.args.a.index in
-    let v : List ℕ = entries_of c.args.v in
-    let new : List ℕ = c.add_image.new.out.entries in
     let size : size_of c.self.inside.places ≡ order G.table = ap size_of c.self.invariant.sizes_are
     ∙ size-is G in
-    let p : c.loop-k.out.p ≡ G.table.p = c.loop-k.invariant.0.1
-    ∙ (rw (← c.self.view_is) at c.requires.prime) in
-    let l : k < order G.table = subst (λ m. k < m) c.order-n.ensures.value c.loop-k-test.true in
-    let place : c.place.result ≡ place_of (sizes G) c.args.a.count c.args.a.index k =
-    subst (λ (X : PGroup). c.place.result ≡ place_of (sizes X) c.args.a.count c.args.a.index k)
-    (sym c.self.view_is) c.place.ensures.value in
-    let factor : c.get-c.result ≡ entry A k =
-    c.get-c.ensures.value ∙ ap (entry x) place ∙ sym (entry-block G c.args.a.count x c.args.a.index k l) in
-    let C : GainsImage G.table.p c.self.inside.places b
-    (stepped c.self.inside.products.rows k (order G.table)) (entry A k) v
-    c.loop-k.out.entries new = rw (p, c.order-n.ensures.value, factor) at c.add_image.ensures.gains in
-    let r : IsRow G.table.p (order G.table * b) v =
-    row-of-ref v (rw (← c.self.view_is) at c.requires.length)
-    (rw (← c.self.view_is) at c.requires.moduli.1) c.args.v.below in
-    let before : IsRow G.table.p (order G.table * b) c.loop-k.out.entries =
-    rw (← c.self.view_is) at c.loop-k.invariant.1 in
-    let after : IsRow G.table.p (order G.table * b) new =
-    subst (λ m. IsRow G.table.p (m * b) new) size C.is_row in
-    let q : c.add_image.new.out.p ≡ c.args.out.now.p = c.add_image.ensures.prime ∙ c.loop-k.invariant.0.1 in
-    let partial : table_of G b c.loop-k.out.entries
-    ≡ (free_module G b).add (table_of G b c.args.out.now.entries) (first_products G b A (table_of G b v) k)
-    = subst (λ (X : PGroup). table_of X b c.loop-k.out.entries
-    ≡ (free_module X b).add (table_of X b c.args.out.now.entries)
-    (first_products X b (block X c.args.a.count x c.args.a.index) (table_of X b v) k))
-    (sym c.self.view_is) c.loop-k.invariant.2 in (
-      (subst (λ (X : PGroup). c.order-n.result ≡ order X.table) c.self.view_is c.order-n.ensures.value, q),
-      subst (λ (X : PGroup). IsRow X.table.p (order X.table * b) new) c.self.view_is after,
-      subst (λ (X : PGroup). table_of X b new
-          ≡ (free_module X b).add (table_of X b c.args.out.now.entries)
-          (first_products X b (block X c.args.a.count x c.args.a.index) (table_of X b v)
-          (k + 1))) c.self.view_is
-          (product-gained G c.self.inside.products.rows c.self.invariant.product_shape.rows
-          c.self.invariant.products_are b k
-          c.self.inside.places A v c.args.out.now.entries c.loop-k.out.entries new c.self.invariant.sizes_are
-          l r before C partial),
-    )
+    let count : length (take c.order-n.result c.factors_of-factors.result) ≡ c.order-n.result =
+    length-take-le c.order-n.result c.factors_of-factors.result
+    (omega (arith, c.order-n.ensures.small, c.factors_of-factors.ensures.count)) in
+    reach-within (take c.order-n.result c.factors_of-factors.result) k c.order-n.result
+    (length c.self.inside.products.rows) count
+    (subst (λ n. 0 < n) (sym c.order-n.ensures.value) G.law.law.some)
+    (omega (arith, l, size, c.order-n.ensures.value))
+    (c.self.invariant.product_shape.rows ∙ ap (λ n. n * n) (sym c.order-n.ensures.value))
 
 pub returns-clause-gained : goal.returns-clause-gained
 returns-clause-gained c a' B' =
@@ -118,9 +76,21 @@ returns-clause-gained c a' B' =
     let x : List ℕ = entries_of c.args.a.row in
     let A : List ℕ = block G c.args.a.count x c.args.a.index in
     let v : List ℕ = entries_of c.args.v in
-    let out : List ℕ = c.loop-k.out.entries in
-    let end : c.loop-k.k ≡ order G.table =
-    omega (arith, c.order-n.ensures.value, c.loop-k-test.false, c.loop-k.auto.k-end) in
+    let new : List ℕ = c.add_image.new.out.entries in
+    let n : c.order-n.result ≡ order G.table = c.order-n.ensures.value in
+    let fs : List ℕ = c.factors_of-factors.result in
+    let each : (k : ℕ) → k < order G.table
+    → entry fs k ≡ entry x (place_of (sizes G) c.args.a.count c.args.a.index k) =
+    subst (λ (X : PGroup). (k : ℕ) → k < order X.table
+    → entry fs k ≡ entry x (place_of (sizes X) c.args.a.count c.args.a.index k)) (sym c.self.view_is)
+    c.factors_of-factors.ensures.entries in
+    let factors : take c.order-n.result fs ≡ A = ap (λ m. take m fs) n
+    ∙ block-factors G c.args.a.count c.args.a.index x fs
+    (omega (arith, n, c.order-n.ensures.small, c.factors_of-factors.ensures.count)) each in
+    let p : c.args.out.now.p ≡ G.table.p = rw (← c.self.view_is) at c.requires.prime in
+    let C : GainsImage G.table.p c.self.inside.places b
+    (image_at c.self.inside.products.rows 0 (order G.table) A) 1 v c.args.out.now.entries new =
+    rw (p, factors, n) at c.add_image.ensures.gains in
     let wide : IsRow G.table.p (order G.table * c.args.a.count) x =
     row-of-ref x (rw (← c.self.view_is) at c.requires.factor_length)
     (rw (← c.self.view_is) at c.requires.moduli.0) c.args.a.row.below in
@@ -128,28 +98,18 @@ returns-clause-gained c a' B' =
     (block-is-row G c.args.a.count x (residue-row G wide) c.args.a.index) in
     let same : a' ≡ A = block-is G c.args.a.count x c.args.a.index a'
     (subst (λ (X : PGroup). IsBlock X c.args.a.count c.args.a.index x a') (sym c.self.view_is) B') in
-    let r : IsRow G.table.p (order G.table * b) out = rw (← c.self.view_is) at c.loop-k.invariant.1 in
-    let whole : table_of G b out
-    ≡ (free_module G b).add (table_of G b c.args.out.now.entries)
-    (first_products G b A (table_of G b v) c.loop-k.k)
-    = subst (λ (X : PGroup). table_of X b out
-    ≡ (free_module X b).add (table_of X b c.args.out.now.entries)
-    (first_products X b (block X c.args.a.count x c.args.a.index) (table_of X b v) c.loop-k.k))
-    (sym c.self.view_is) c.loop-k.invariant.2 in
-    subst (λ (X : PGroup). out ≡ row_of X b ((free_module X b).add (table_of X b c.args.out.now.entries)
+    let r : IsRow G.table.p (order G.table * b) v =
+    row-of-ref v (rw (← c.self.view_is) at c.requires.length)
+    (rw (← c.self.view_is) at c.requires.moduli.1) c.args.v.below in
+    let out : IsRow G.table.p (order G.table * b) c.args.out.now.entries =
+    rw (← c.self.view_is) at (rw (c.requires.prime, c.requires.out_length) at c.len.ensures.row) in
+    subst (λ (X : PGroup). new ≡ row_of X b ((free_module X b).add (table_of X b c.args.out.now.entries)
     (product_with X b (table_of X 1 a') (table_of X b v)))) c.self.view_is
-    (row-back G b out
-    ((free_module G b).add (table_of G b c.args.out.now.entries)
-    (product_with G b (table_of G 1 a') (table_of G b v))) r
-    (whole ∙ ap (λ y. (free_module G b).add (table_of G b c.args.out.now.entries) y)
-    (ap (first_products G b A (table_of G b v)) end ∙ products-all G b A (table_of G b v) a
-    ∙ ap (λ y. product_with G b (table_of G 1 y) (table_of G b v)) (sym same))))
-
-pub add_image-requires-clause-short : goal.add_image-requires-clause-short
-add_image-requires-clause-short c =
-    let size : size_of c.self.inside.places ≡ order c.self.inside.group.table =
-    ap size_of c.self.invariant.sizes_are ∙ size-is c.self.inside.group in
-    rw size c.self.invariant.small
+    (subst (λ y. new ≡ row_of G b ((free_module G b).add (table_of G b c.args.out.now.entries)
+    (product_with G b (table_of G 1 y) (table_of G b v)))) (sym same)
+    (product-gained G c.self.inside.products.rows c.self.invariant.product_shape.rows
+    c.self.invariant.products_are b c.self.inside.places A v c.args.out.now.entries new
+    c.self.invariant.sizes_are G.law.law.some a r out C))
 
 pub is_zero_block-requires-clause-length : goal.is_zero_block-requires-clause-length
 is_zero_block-requires-clause-length c =

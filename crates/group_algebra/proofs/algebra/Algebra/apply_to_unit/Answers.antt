@@ -1,4 +1,4 @@
-use Rattle.std.proofs.Common.{◌≡◌, ◌<◌, ℕ, List, ◌*◌, ◌^◌, length, replicate, ap, sym, ◌∙◌}
+use Rattle.std.proofs.Common.{◌≡◌, [], ◌<◌, ℕ, List, ◌*◌, ◌^◌, length, replicate, ap, sym, ◌∙◌}
 use Rattle.std.proofs.lemmas.List.{length-replicate}
 use mathlib.Core.Path.{subst}
 use Rattle.group_table.specs.Tables.{order}
@@ -7,7 +7,7 @@ use Rattle.linear_algebra.specs.Rows.{row, IsRow}
 use Rattle.radical_layers.specs.Placing.{size_of, place_of}
 use Rattle.p_groups.specs.PGroups.{PGroup}
 use Rattle.group_algebra.specs.Coordinates.{sizes}
-use Rattle.group_algebra.specs.Gains.{stepped, GainsImage}
+use Rattle.group_algebra.specs.Gains.{image_at, GainsImage}
 use Rattle.group_algebra.specs.RowMaps.{map_row}
 use Rattle.group_algebra.proofs.LayerRows.{size-is}
 use Rattle.group_algebra.proofs.ImageLemmas.{inside-steps}
@@ -90,7 +90,7 @@ returns-clause-value c =
     ap (λ r. r.entries) c.clear.ensures
     ∙ ap (λ k. replicate k 0) (rw (← c.self.view_is) at c.requires.out_length) in
     let C : GainsImage G.table.p c.self.inside.places b
-    (stepped c.self.inside.products.rows k (order G.table)) 1
+    (image_at c.self.inside.products.rows k (order G.table) []) 1
     (row rows i) (replicate (order G.table * b) 0) c.add_image.new.out.entries
     = rw (p, zeros, c.order.ensures.value, c.row-row.ensures.entries) at c.add_image.ensures.gains in
     let r : IsRow G.table.p (order G.table * b) (row rows i) =
