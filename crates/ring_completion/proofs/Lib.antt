@@ -41,5 +41,6 @@ pub mod Witness
 pub mod ThreePowers
 pub mod ExchangeExample
 pub mod LeftLists
-pub mod Results
 pub mod Choosing
+pub mod Reached
+pub mod Results

@@ -35,7 +35,9 @@ use Rattle.graded_polynomials.specs.AllMonomials.{all_monomials}
 use Rattle.graded_polynomials.proofs.AllMonomials.{all-monomials}
 use Rattle.ring_completion.proofs.AddedGenerators.{up, left-with-last, list-values-with-last}
 use Rattle.ring_completion.proofs.Stays.{polynomial-with-last, times-more}
-use Rattle.ring_completion.specs.Completions.{generator_times, IsGenerator}
+use Rattle.ring_completion.specs.Borders.{HasStandardQuotient, AreReached}
+use Rattle.ring_completion.specs.Completions.{generator_times, IsGenerator, AreProducts}
+use Rattle.ring_completion.specs.Eliminations.{AreForms, AreCritical}
 use Rattle.ring_completion.proofs.SpanRows.{all-values, are-all-values, echelon-of-all}
 use Rattle.ring_completion.proofs.CriticalRows.{leading-if-pivot, reduced-form}
 use Rattle.ring_completion.proofs.FormRows.{rows-over-left}
@@ -45,6 +47,7 @@ use Rattle.ring_completion.proofs.LeftLists.{stood, left, left-descend}
 use Rattle.ring_completion.proofs.ListRelations.{relations-from, merged, relations-along}
 use Rattle.ring_completion.proofs.ListRows.{polynomial-of-list}
 use Rattle.ring_completion.proofs.ReducedForms.{same-value}
+use Rattle.ring_completion.proofs.Reached.{reached-separate, candidate-reached}
 use Rattle.ring_completion.proofs.Reduction.{Separates}
 
 module _ (q n : ℕ) (field : IsFieldModulo (suc q)) (G : GradedAlgebra q) (gs : List (Generator (Vector q)))
@@ -61,6 +64,11 @@ module _ (q n : ℕ) (field : IsFieldModulo (suc q)) (G : GradedAlgebra q) (gs :
   separates-candidates ms C = candidates-separate q field G.mul (IsOfDegree q G) G.laws gs positive free n
       rs R ms C
 
+  pub separates-reached : (ms : List (List ℕ)) → AreReached q (algebra q G) gs (suc n) ms
+      → Separates q (degrees gs) (algebra q G) (IsConsequence q (algebra q G) gs rs (suc n)) (suc n) ms
+  separates-reached = reached-separate q (Vector q) (algebra q G) (IsOfDegree q G) G.laws gs field positive
+      free n rs R
+
   pub separates-left : (ms : List (List ℕ)) → AreLeft q (algebra q G) gs rs (suc n) ms
       → Separates q (degrees gs) (algebra q G) (IsConsequence q (algebra q G) gs rs (suc n)) (suc n) ms
   separates-left ms C m M = go (C.all m M)
@@ -72,39 +80,42 @@ module _ (q n : ℕ) (field : IsFieldModulo (suc q)) (G : GradedAlgebra q) (gs :
       go (inl l) = inl l
       go (inr h) = inr ((λ i. C.each i.0 i.1 (let z : slice_index_or ms i.0 [] ≡ m = i.2 in rw z h)), h)
 
-  -- which candidates lead in the consequences
+  -- which members of a list of products with standard monomials lead in the consequences
   module _ (ms : List (List ℕ)) (products : ℕ → List ℕ → List Term) (forms : ℕ → List ℕ → List ℕ)
-      (rows E : List (List ℕ))
-      (C : IsCompletion q G.mul gs rs (suc n) ms products forms rows)
+      (rows E : List (List ℕ)) (S : AreSome q (degrees gs) (suc n) ms)
+      (separates : Separates q (degrees gs) (algebra q G) (IsConsequence q (algebra q G) gs rs (suc n))
+      (suc n) ms)
+      (quotients : (k : ℕ) → k < length ms → HasStandardQuotient q (algebra q G) gs (slice_index_or ms k []))
+      (P : AreProducts q (algebra q G) gs (suc n) products) (F : AreForms q G.mul gs rs (suc n) ms forms)
+      (K : AreCritical q G.mul gs (suc n) products forms rows)
       (e : IsEchelonOf (suc q) (length ms) rows E) where
-    pub candidate-pivots : (k : ℕ) → k < length ms
+    abbrev Leads : List ℕ → Type 0
+    Leads m = IsLeading q (algebra q G) (IsConsequence q (algebra q G) gs rs (suc n)) m
+
+    pub list-pivots : (k : ℕ) → k < length ms
         → IsLeading q (algebra q G) (IsConsequence q (algebra q G) gs rs (suc n)) (slice_index_or ms k [])
         ↔ IsPivot E k
-    candidate-pivots k l = (
-      pivot-if-leading q field G.mul (IsOfDegree q G) G.laws gs positive free n rs R ms C.candidates all.0
-          all.1 products C.products_are forms C.forms_are rows E C.critical e k l,
-      (λ p. leading-if-pivot q field G.mul (IsOfDegree q G) G.laws gs positive free n rs R ms
-          C.candidates.some
-          products C.products_are forms C.forms_are rows E C.critical e p.0 k p.1 p.2 l),
+    list-pivots k l = (
+      pivot-if-leading q field G.mul (IsOfDegree q G) G.laws gs positive free n rs R ms S separates quotients
+          all.0 all.1 products P forms F rows E K e k l,
+      (λ p. leading-if-pivot q field G.mul (IsOfDegree q G) G.laws gs positive free n rs R ms S
+          products P forms F rows E K e p.0 k p.1 p.2 l),
     )
 
     -- those that are no pivots are the monomials that lead in no consequence
-    pub left-candidates : AreLeft q (algebra q G) gs rs (suc n) (without_pivots E 0 ms)
-    left-candidates = record {
+    pub left-of-list : AreLeft q (algebra q G) gs rs (suc n) (without_pivots E 0 ms)
+    left-of-list = record {
       some = record {
         each = λ i l. let s = stood E 0 ms i l in
-            subst (IsMonomial q (degrees gs) (suc n)) (sym s.2) (C.candidates.some.each s.0 s.1);
-        descending = left-descend E 0 ms C.candidates.some.descending;
+            subst (IsMonomial q (degrees gs) (suc n)) (sym s.2) (S.each s.0 s.1);
+        descending = left-descend E 0 ms S.descending;
       };
       each = λ k l h. let s = stood E 0 ms k l in
           none-if-not-found E s.0 (ap (is_pivot E) (let z : s.0 ≡ 0 + s.0 = omega arith in z) ∙ s.3)
-          ((candidate-pivots s.0 s.1).0 (subst Leads s.2 h));
-      all = λ m M. go m (separates-candidates ms C.candidates m M);
+          ((list-pivots s.0 s.1).0 (subst Leads s.2 h));
+      all = λ m M. go m (separates m M);
     }
       where
-        Leads : List ℕ → Type 0
-        Leads m = IsLeading q (algebra q G) (IsConsequence q (algebra q G) gs rs (suc n)) m
-
         Left : List ℕ → Type 0
         Left m = IsListed (without_pivots E 0 ms) m ⊎ Leads m
 
@@ -113,21 +124,49 @@ module _ (q n : ℕ) (field : IsFieldModulo (suc q)) (G : GradedAlgebra q) (gs :
         go m (inl i) = pick (cases_Bool (is_pivot E i.0))
           where
             pick : (is_pivot E i.0 ≡ true) ⊎ (is_pivot E i.0 ≡ false) → Left m
-            pick (inl t) = inr (subst Leads i.2 ((candidate-pivots i.0 i.1).1 (pivot-if-found E i.0 t)))
+            pick (inl t) = inr (subst Leads i.2 ((list-pivots i.0 i.1).1 (pivot-if-found E i.0 t)))
             pick (inr f) = let s = left E 0 ms i.0 i.1
                 (ap (is_pivot E) (let z : 0 + i.0 ≡ i.0 = omega arith in z) ∙ f) in inl (s.0, s.1, s.2 ∙ i.2)
 
-    -- a form reduced by the critical rows is a form over what is left of the candidates
+    -- a form reduced by the critical rows is a form over what is left of the list
+    pub form-of-list : (f : List Term) (r w : List ℕ) → IsOver q (degrees gs) (suc n) f
+        → IsRow (suc q) (length ms) r
+        → IsConsequence q (algebra q G) gs rs (suc n) (f ++ scaled q (polynomial_of ms r))
+        → IsRowReduced (suc q) E r w
+        → IsConsequence q (algebra q G) gs rs (suc n)
+        (f ++ scaled q (polynomial_of (without_pivots E 0 ms) (entries_without E 0 w)))
+    form-of-list f r w o x c D = subst (λ g. IsConsequence q (algebra q G) gs rs (suc n) (f ++ scaled q g))
+        (rows-over-left E ms w D.zero_at_pivots)
+        (reduced-form q field G.mul (IsOfDegree q G) G.laws gs positive free n rs R ms S
+        products P forms F rows E K e f r w o x c D)
+
+  -- the same for the candidates
+  module _ (ms : List (List ℕ)) (products : ℕ → List ℕ → List Term) (forms : ℕ → List ℕ → List ℕ)
+      (rows E : List (List ℕ))
+      (C : IsCompletion q G.mul gs rs (suc n) ms products forms rows)
+      (e : IsEchelonOf (suc q) (length ms) rows E) where
+    quotients-of : (k : ℕ) → k < length ms → HasStandardQuotient q (algebra q G) gs (slice_index_or ms k [])
+    quotients-of = candidate-reached q (Vector q) (algebra q G) (IsOfDegree q G) G.laws gs field positive
+        free n rs R ms C.candidates
+
+    pub candidate-pivots : (k : ℕ) → k < length ms
+        → IsLeading q (algebra q G) (IsConsequence q (algebra q G) gs rs (suc n)) (slice_index_or ms k [])
+        ↔ IsPivot E k
+    candidate-pivots = list-pivots ms products forms rows E C.candidates.some
+        (separates-candidates ms C.candidates) quotients-of C.products_are C.forms_are C.critical e
+
+    pub left-candidates : AreLeft q (algebra q G) gs rs (suc n) (without_pivots E 0 ms)
+    left-candidates = left-of-list ms products forms rows E C.candidates.some
+        (separates-candidates ms C.candidates) quotients-of C.products_are C.forms_are C.critical e
+
     pub form-over-left : (f : List Term) (r w : List ℕ) → IsOver q (degrees gs) (suc n) f
         → IsRow (suc q) (length ms) r
         → IsConsequence q (algebra q G) gs rs (suc n) (f ++ scaled q (polynomial_of ms r))
         → IsRowReduced (suc q) E r w
         → IsConsequence q (algebra q G) gs rs (suc n)
         (f ++ scaled q (polynomial_of (without_pivots E 0 ms) (entries_without E 0 w)))
-    form-over-left f r w o x c D = subst (λ g. IsConsequence q (algebra q G) gs rs (suc n) (f ++ scaled q g))
-        (rows-over-left E ms w D.zero_at_pivots)
-        (reduced-form q field G.mul (IsOfDegree q G) G.laws gs positive free n rs R ms C.candidates.some
-        products C.products_are forms C.forms_are rows E C.critical e f r w o x c D)
+    form-over-left = form-of-list ms products forms rows E C.candidates.some
+        (separates-candidates ms C.candidates) quotients-of C.products_are C.forms_are C.critical e
 
   -- relations and standard monomials over a list off which all monomials lead in the consequences
   module _ (ms values kernel : List (List ℕ)) (S : AreSome q (degrees gs) (suc n) ms)

@@ -17,6 +17,7 @@ use Rattle.graded_algebra.specs.Presentations.{IsStandard, IsRelations}
 use Rattle.graded_algebra.specs.Vectors.{Vector, algebra, unit}
 use Rattle.graded_algebra.proofs.Leading.{not-zero}
 use Rattle.presentation_rows.specs.Values.{vector, AreValues}
+use Rattle.ring_completion.specs.Borders.{AreReached}
 use Rattle.ring_completion.specs.Candidates.{AreSome, IsListed, IsQuotient, AreCandidates, AreLeft}
 use Rattle.ring_completion.specs.Completions.{alone, generator_times, degree_of, IsGenerator, IsStandardOf}
 use Rattle.ring_completion.specs.Completions.{IsReduced, AreProducts}
@@ -27,7 +28,8 @@ use Rattle.ring_completion.proofs.FormRows.{form-of-product}
 use Rattle.ring_completion.proofs.OpenLine.{line}
 use Rattle.ring_completion.proofs.ThreePowers.{field, one-row}
 use Rattle.ring_completion.proofs.Results.{free, separates-left, nothing-leads, relations-of-list}
-use Rattle.ring_completion.proofs.Results.{standard-of-list, left-candidates}
+use Rattle.ring_completion.proofs.Reached.{candidate-reached}
+use Rattle.ring_completion.proofs.Results.{standard-of-list, left-candidates, left-of-list, separates-reached}
 use Rattle.std.proofs.Math.Path.{fun_ext}
 use Rattle.graded_polynomials.proofs.Terms.{eqb-false, false≢true}
 
@@ -239,3 +241,19 @@ no-rows = record {
 pub left-two : AreLeft 1 (algebra 1 line) gs [] 2 ((2 ∷ []) ∷ [])
 left-two = left-candidates 1 1 field line gs positive [] relations-one ((2 ∷ []) ∷ []) products forms [] []
     completion no-rows
+
+-- x^2 is a product of x with a standard monomial, and so the law over these products says the same
+x-squared-reached : AreReached 1 (algebra 1 line) gs 2 ((2 ∷ []) ∷ [])
+x-squared-reached = record {
+  some = some 1;
+  each = candidate-reached 1 (Vector 1) (algebra 1 line) _ line.laws gs field positive
+      (free 1 1 field line gs positive [] relations-one) 1 [] relations-one ((2 ∷ []) ∷ [])
+      x-squared-candidate;
+  all = λ m M h. (powers-of-x 1).all m M;
+}
+
+pub left-of-products : AreLeft 1 (algebra 1 line) gs [] 2 ((2 ∷ []) ∷ [])
+left-of-products = left-of-list 1 1 field line gs positive [] relations-one ((2 ∷ []) ∷ []) products forms
+    [] [] (some 1)
+    (separates-reached 1 1 field line gs positive [] relations-one ((2 ∷ []) ∷ []) x-squared-reached)
+    x-squared-reached.each are-products are-forms no-critical-rows no-rows

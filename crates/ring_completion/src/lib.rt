@@ -28,7 +28,8 @@ ghost use Rattle.presentation_rows.specs.Values.{vector, AreValues, AreUnitRows}
 ghost use Rattle.ring_completion.specs.Candidates.{AreSome, IsListed, IsQuotient, AreCandidates, AreLeft};
 ghost use Rattle.ring_completion.specs.Completions.{generator_times, degree_of, IsGenerator, IsStandardOf};
 ghost use Rattle.ring_completion.specs.Completions.{IsClearBefore, AreProducts};
-ghost use Rattle.ring_completion.specs.Eliminations.{AreForms, exchange, form_of};
+ghost use Rattle.ring_completion.specs.Borders.{AreReached};
+ghost use Rattle.ring_completion.specs.Eliminations.{AreForms, AreCritical, exchange, form_of};
 ghost use Rattle.ring_completion.specs.Left.{without_pivots, entries_without, IsCompletion};
 ghost use Rattle.ring_completion.specs.Listings.{AreStandardLists, candidates_of, is_clear_before, is_listed};
 ghost use Rattle.ring_completion.specs.Listings.{standard_of};
@@ -64,6 +65,47 @@ pub fn candidates_that_are_left()
         → IsCompletion q G.mul gs rs (suc n) ms products forms rows
         → IsEchelonOf (suc q) (length ms) rows reduced
         → AreLeft q (algebra q G) gs rs (suc n) (without_pivots reduced 0 ms) }
+{}
+
+/// The monomials that are a generator times a standard monomial serve as the candidates do: with the rows of
+/// the products as forms, those that are no pivots of the critical rows are the monomials that lead in no
+/// consequence of the relations of lower degree, and a form that is reduced is one over them.
+pub fn monomials_that_are_left()
+    ensures left { (q n : ℕ) (G : GradedAlgebra q) (gs : List (Generator (Vector q))) (rs : List Polynomial)
+        (ms : List (List ℕ)) (products : ℕ → List ℕ → List Term) (forms : ℕ → List ℕ → List ℕ)
+        (rows reduced : List (List ℕ))
+        → IsFieldModulo (suc q) → Each (λ e. 0 < e) (degrees gs) → IsRelations q (algebra q G) gs n rs
+        → AreReached q (algebra q G) gs (suc n) ms → AreProducts q (algebra q G) gs (suc n) products
+        → AreForms q G.mul gs rs (suc n) ms forms → AreCritical q G.mul gs (suc n) products forms rows
+        → IsEchelonOf (suc q) (length ms) rows reduced
+        → AreLeft q (algebra q G) gs rs (suc n) (without_pivots reduced 0 ms) }
+    ensures forms { (q n : ℕ) (G : GradedAlgebra q) (gs : List (Generator (Vector q))) (rs : List Polynomial)
+        (ms : List (List ℕ)) (products : ℕ → List ℕ → List Term) (forms : ℕ → List ℕ → List ℕ)
+        (rows reduced : List (List ℕ)) (f : List Term) (u w : List ℕ)
+        → IsFieldModulo (suc q) → Each (λ e. 0 < e) (degrees gs) → IsRelations q (algebra q G) gs n rs
+        → AreReached q (algebra q G) gs (suc n) ms → AreProducts q (algebra q G) gs (suc n) products
+        → AreForms q G.mul gs rs (suc n) ms forms → AreCritical q G.mul gs (suc n) products forms rows
+        → IsEchelonOf (suc q) (length ms) rows reduced
+        → IsOver q (degrees gs) (suc n) f → IsRow (suc q) (length ms) u
+        → IsConsequence q (algebra q G) gs rs (suc n) (f ++ scaled q (polynomial_of ms u))
+        → IsRowReduced (suc q) reduced u w
+        → IsConsequence q (algebra q G) gs rs (suc n)
+        (f ++ scaled q (polynomial_of (without_pivots reduced 0 ms) (entries_without reduced 0 w))) }
+{}
+
+/// The candidates are those monomials with a standard quotient of which each quotient is standard.
+pub fn candidates_among_products()
+    ensures { (q n : ℕ) (G : GradedAlgebra q) (gs : List (Generator (Vector q))) (rs : List Polynomial)
+        (ms cs : List (List ℕ))
+        → IsFieldModulo (suc q) → Each (λ e. 0 < e) (degrees gs) → IsRelations q (algebra q G) gs n rs
+        → AreReached q (algebra q G) gs (suc n) ms → AreSome q (degrees gs) (suc n) cs
+        → ((k i e : ℕ) (r : List ℕ) → k < length cs → IsQuotient q (degrees gs) i e r (slice_index_or cs k [])
+        → IsStandard q (algebra q G) gs e r)
+        → ((k : ℕ) → k < length ms
+        → ((i e : ℕ) (r : List ℕ) → IsQuotient q (degrees gs) i e r (slice_index_or ms k [])
+        → IsStandard q (algebra q G) gs e r)
+        → IsListed cs (slice_index_or ms k []))
+        → AreCandidates q (algebra q G) gs (suc n) cs }
 {}
 
 /// The rows of the kernel of the values of the candidates, whose pivots are none of the critical rows', are
