@@ -1,14 +1,21 @@
 -- Why there are no stages to the last degree.
-use Rattle.std.specs.Prelude.{◌≡◌, ℕ, List, ⊤}
+use Rattle.std.specs.Prelude.{◌≡◌, ℕ, ◌-◌, ◌≤◌, List, ⊤}
 use Rattle.std.specs.declared.option.Option.{Option}
 use Rattle.std.specs.declared.option.Option.TheVariants.{None, Some}
 use Rattle.coho_io.specs.Causes.{Rose}
 use Rattle.coho_io.specs.Content.{Content}
+use Rattle.p_groups.specs.PGroups.{PGroup}
 use Rattle.stage_records.specs.Walks as walks
 use Rattle.stage_walk.specs.declared.fault.StagesFault.{StagesFault}
 use Rattle.stage_walk.specs.declared.fault.StagesFault.TheVariants as fault
 use Rattle.stage_walk.specs.Asked.{Asked, AfterWalk, WalkRefuses}
-use Rattle.stage_walk.specs.Dimensions.{IsFirstAbove}
+use Rattle.stage_walk.specs.Dimensions.{Fit, IsFirstAbove}
+
+-- a record that is refused has a number to n, and the dimensions of the degrees before it are not above the
+-- limit
+abbrev pub IsNumbered : PGroup → ℕ → StagesFault → Type 0
+IsNumbered G n (fault.Record d) = (1 ≤ d) × (d ≤ n) × Fit G (d - 1)
+IsNumbered G n _ = ⊤
 
 -- the count of the path that is named rose
 abbrev pub RoseAt : Option (List ℕ) → (before now : List ℕ → ℕ) → Type 0

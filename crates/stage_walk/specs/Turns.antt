@@ -13,6 +13,7 @@ use Rattle.stage_file.specs.Honest.{records_of}
 use Rattle.stage_walk.specs.declared.fault.StagesFault.{StagesFault}
 use Rattle.stage_walk.specs.declared.fault.StagesFault.TheVariants as fault
 use Rattle.stage_walk.specs.Dimensions.{dimension}
+use Rattle.stage_walk.specs.Faults.{IsNumbered}
 
 -- it holds of the bytes under a path, where files are told; and then they are there
 abbrev pub OfBytes : Option Content → List ℕ → (List ℕ → Type 0) → Type 0
@@ -91,6 +92,6 @@ module _ (G : PGroup) (n : ℕ) (path : List ℕ) (known : Option Content) where
   -- why the records are not all taken
   abbrev pub IsRecordsStop : (before now : List ℕ → ℕ) → StagesFault → Type 0
   IsRecordsStop before now fault.Read = Rose (before path) (now path)
-  IsRecordsStop before now (fault.Record d) = RefusesRecord d
+  IsRecordsStop before now (fault.Record d) = RefusesRecord d × IsNumbered G n (fault.Record d)
   IsRecordsStop before now fault.Memory = ⊤
   IsRecordsStop before now _ = ⊥

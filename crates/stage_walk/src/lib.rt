@@ -13,3 +13,5 @@ pub use fault::StagesFault;
 pub use stages::stages;
 pub use walking::taken_stages;
 
+#[cfg(test)]
+mod tests;

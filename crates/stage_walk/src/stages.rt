@@ -5,7 +5,7 @@ ghost use Rattle.coho_io.specs.Causes.{NoneFell};
 ghost use Rattle.limits.specs.declared.TheConstants.{GREATEST_DEGREE};
 ghost use Rattle.stage_walk.specs.Asked.{AfterWalk, asked};
 ghost use Rattle.stage_walk.specs.Dimensions.{Fit};
-ghost use Rattle.stage_walk.specs.Faults.{IsStagesFault, IsWalkStop};
+ghost use Rattle.stage_walk.specs.Faults.{IsNumbered, IsStagesFault, IsWalkStop};
 ghost use Rattle.stage_walk.specs.Saved.{Leaves, SavesAll};
 
 use crate::StagesFault;
@@ -36,6 +36,7 @@ fn first_stages<F: Files>(
         (λ count. r.last ≡ count)) }
     ensures refused { IfErr result (IsWalkStop (asked a c.now n from.entry None) (F.content files.old)
         (F.read_faults files.old) (F.read_faults files.new)) }
+    ensures numbered { IfErr result (IsNumbered a n) }
     ensures content { F.content files.new ≡ F.content files.old }
     ensures later { NoneFell (F.read_faults files.old) (F.read_faults files.new) }
     ensures later_writes { NoneFell (F.write_faults files.old) (F.write_faults files.new) }
@@ -81,6 +82,7 @@ pub fn stages<F: Files>(
     ensures refused { IfErr result (IsStagesFault (asked a c.now n from.entry save.entry)
         (F.content files.old) (F.read_faults files.old) (F.read_faults files.new)
         (F.write_faults files.old) (F.write_faults files.new)) }
+    ensures numbered { IfErr result (IsNumbered a n) }
     ensures later { NoneFell (F.read_faults files.old) (F.read_faults files.new) }
     ensures later_writes { NoneFell (F.write_faults files.old) (F.write_faults files.new) }
 {

@@ -5,7 +5,7 @@ ghost use Rattle.coho_io.specs.Causes.{NoneFell};
 ghost use Rattle.limits.specs.declared.TheConstants.{GREATEST_DEGREE};
 ghost use Rattle.stage_walk.specs.Asked.{AfterWalk, asked_from};
 ghost use Rattle.stage_walk.specs.Dimensions.{Fit};
-ghost use Rattle.stage_walk.specs.Faults.{IsWalkStop};
+ghost use Rattle.stage_walk.specs.Faults.{IsNumbered, IsWalkStop};
 ghost use Rattle.stage_walk.specs.Turns.{IsHeaderAnswer, IsHeaderStop, IsRecordsStop, OfBytes, TakesRecords};
 
 use crate::StagesFault;
@@ -98,6 +98,7 @@ pub fn taken_stages<F: Files>(
         (λ count. r.last ≡ count)) }
     ensures refused { IfErr result (IsWalkStop (asked_from a c.now n path.now) (F.content files.old)
         (F.read_faults files.old) (F.read_faults files.new)) }
+    ensures numbered { IfErr result (IsNumbered a n) }
     ensures content { F.content files.new ≡ F.content files.old }
     ensures later { NoneFell (F.read_faults files.old) (F.read_faults files.new) }
     ensures later_writes { NoneFell (F.write_faults files.old) (F.write_faults files.new) }
