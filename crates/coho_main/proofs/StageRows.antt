@@ -15,6 +15,7 @@ use Rattle.p_groups.specs.PGroups.{PGroup, order_of}
 use Rattle.min_res.specs.declared.fault.ResFault.{ResFault}
 use Rattle.min_res.specs.declared.fault.ResFault.TheVariants as fault
 use Rattle.min_res.specs.Values.{BoundaryValue, StageValue, ResolutionValue, boundary_of, no_rows}
+use Rattle.min_res.specs.Values.{first_alone}
 use Rattle.min_res.specs.Defined.{IsStageAt}
 use Rattle.min_res.specs.Stages.{rank_of, stage_rows}
 use Rattle.min_res.specs.Refusals.{IsRefusal}
@@ -207,7 +208,7 @@ module _ (G H : PGroup) (i last : ℕ) (same : H ≡ G) (at : last ≡ i) where
 -- the resolution of a presentation
 
 module _ (P : Presentation) (n : ℕ) (G : PGroup) (start : ResolutionValue) (is : IsTableOf P G)
-    (from : start ≡ record { group = G; last = 0 }) where
+    (from : start ≡ first_alone G) where
   pub resolution_to : (new : ResolutionValue) → new.group ≡ start.group → new.last ≡ n → Fit start.group n
       → IsResolutionTo P n new
   resolution_to new same last fit = record {

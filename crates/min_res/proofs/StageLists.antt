@@ -27,14 +27,17 @@ pub values-push : {Z : Type 0} (items : List (Rc StageValue Z)) (x : Rc StageVal
 values-push {Z} items x = map-append (λ (r : Rc StageValue Z). r.value) items (x ∷ [])
 
 module _ (G : PGroup) (generators : List ℕ) where
-  pub store-push : (stages : List StageValue) (s : StageValue) → IsResolutionStore G generators stages
+  pub store-push : (stages : List StageValue) (s : StageValue) (computed now : ℕ)
+      → IsResolutionStore G generators stages computed
+      → now ≤ suc computed
       → length stages < 2 ^ 32
       → IsStageAt G (length stages) s → s.kernel.width ≤ 2 ^ 28
-      → IsResolutionStore G generators (stages ++ s ∷ [])
-  store-push stages s R few new small = record {
+      → IsResolutionStore G generators (stages ++ s ∷ []) now
+  store-push stages s computed now R more few new small = record {
     generate = R.generate;
     some = omega (arith, count);
     few = omega (arith, count, few);
+    computed_fits = omega (arith, count, more, R.computed_fits);
     each = λ d t l. every d t l;
     small = λ d t l. narrow d t l;
   }
@@ -70,11 +73,12 @@ module _ (G : PGroup) (generators : List ℕ) where
               (sym (here d t (let e : d ≡ length stages = omega (arith, m, l, count) in e))) small
 
   pub store-start : (s : StageValue) → AreGenerators G.table generators → IsStageAt G 0 s
-      → s.kernel.width ≤ 2 ^ 28 → IsResolutionStore G generators (s ∷ [])
+      → s.kernel.width ≤ 2 ^ 28 → IsResolutionStore G generators (s ∷ []) 0
   store-start s A first small = record {
     generate = A;
     some = omega arith;
     few = omega arith;
+    computed_fits = omega arith;
     each = stages;
     small = narrow;
   }
@@ -88,11 +92,12 @@ module _ (G : PGroup) (generators : List ℕ) where
       narrow (suc d) t l = absurd (omega (arith, l))
 
 -- the stage at a place is the one of that degree
-pub kept-at : {Z : Type 0} (G G' : PGroup) (generators : List ℕ) (items : List (Rc StageValue Z)) (d last : ℕ)
-    (x : Rc StageValue Z) → IsResolutionStore G generators (stage_values items) → G ≡ G'
+pub kept-at : {Z : Type 0} (G G' : PGroup) (generators : List ℕ) (items : List (Rc StageValue Z))
+    (computed d last : ℕ) (x : Rc StageValue Z)
+    → IsResolutionStore G generators (stage_values items) computed → G ≡ G'
     → length items - 1 ≡ last → d ≤ last → x ≡ get_or items d x → (IsStageAt G' d x.value)
     × (x.value.kernel.width ≤ 2 ^ 28)
-kept-at {Z} G G' generators items d last x R g e l i = (
+kept-at {Z} G G' generators items computed d last x R g e l i = (
   let P : PGroup → Type 0 = λ H. IsStageAt H d x.value in
       subst P g (subst (λ s. IsStageAt G d s) same (R.each d x.value inside)),
   subst (λ (s : StageValue). s.kernel.width ≤ 2 ^ 28) same (R.small d x.value inside),
@@ -109,15 +114,16 @@ kept-at {Z} G G' generators items d last x R g e l i = (
 
 -- one more stage
 pub grown : {Z : Type 0} (G G' : PGroup) (generators : List ℕ) (items new : List (Rc StageValue Z))
-    (last limit : ℕ) (x : Rc StageValue Z) (s : StageValue)
-    → IsResolutionStore G generators (stage_values items) → G ≡ G' → length items - 1 ≡ last
+    (computed now last limit : ℕ) (x : Rc StageValue Z) (s : StageValue)
+    → IsResolutionStore G generators (stage_values items) computed → now ≤ suc computed → G ≡ G'
+    → length items - 1 ≡ last
     → last + 1 < 2 ^ 32 → IsStageAt G' (suc last) s
     → s.kernel.width ≤ limit → limit ≤ 2 ^ 28 → x.value ≡ s → new ≡ items ++ x ∷ []
-    → IsResolutionStore G generators (stage_values new)
-grown {Z} G G' generators items new last limit x s R g e few stage narrow l v n =
-    subst (λ t. IsResolutionStore G generators t)
+    → IsResolutionStore G generators (stage_values new) now
+grown {Z} G G' generators items new computed now last limit x s R more g e few stage narrow l v n =
+    subst (λ t. IsResolutionStore G generators t now)
     (sym (ap (λ (t : List (Rc StageValue Z)). stage_values t) n ∙ values-push items x))
-    (store-push G generators (stage_values items) x.value R (omega (arith, count, few))
+    (store-push G generators (stage_values items) x.value computed now R more (omega (arith, count, few))
     (let P : PGroup → Type 0 = λ H. IsStageAt H (length (stage_values items)) x.value in
     subst P (sym g) (subst (λ t. IsStageAt G' (length (stage_values items)) t) (sym v)
     (subst (λ k. IsStageAt G' k s) (sym count) stage)))
@@ -132,9 +138,9 @@ pub started : {Z : Type 0} (G : PGroup) (T : GroupTable) (generators : List ℕ)
     (old items : List (Rc StageValue Z)) (x : Rc StageValue Z) (s : StageValue) → T ≡ G.table
     → AreGenerators T generators
     → IsStageAt G 0 s → s.kernel.width ≤ 256 → x.value ≡ s → old ≡ [] → items ≡ old ++ x ∷ []
-    → IsResolutionStore G generators (stage_values items)
+    → IsResolutionStore G generators (stage_values items) 0
 started {Z} G T generators old items x s g A first narrow v o n =
-    subst (λ t. IsResolutionStore G generators t)
+    subst (λ t. IsResolutionStore G generators t 0)
     (sym (ap (λ (t : List (Rc StageValue Z)). stage_values t) (n
     ∙ ap (λ (t : List (Rc StageValue Z)). t ++ x ∷ []) o)))
     (store-start G generators x.value (subst (λ H. AreGenerators H generators) g A)

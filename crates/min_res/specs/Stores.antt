@@ -10,10 +10,13 @@ use Rattle.min_res.specs.Defined.{IsStageAt}
 abbrev pub stage_values : {Z : Type 0} → List (Rc StageValue Z) → List StageValue
 stage_values stages = map (λ s. s.value) stages
 
--- generators of the group, and its stages from degree 0 on, of which there is one at least
-pub record IsResolutionStore (G : PGroup) (generators : List ℕ) (stages : List StageValue) : Type 0 where
+-- generators of the group, its stages from degree 0 on, of which there is one at least, and how many of those
+-- above degree 0 elimination made
+pub record IsResolutionStore (G : PGroup) (generators : List ℕ) (stages : List StageValue) (computed : ℕ)
+    : Type 0 where
   pub generate : AreGenerators G.table generators
   pub some : 0 < length stages
   pub few : length stages ≤ 2 ^ 32
+  pub computed_fits : computed < length stages
   pub each : (d : ℕ) (s : StageValue) → d < length stages → IsStageAt G d (slice_index_or stages d s)
   pub small : (d : ℕ) (s : StageValue) → d < length stages → (slice_index_or stages d s).kernel.width ≤ 2 ^ 28

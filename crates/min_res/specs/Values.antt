@@ -36,9 +36,17 @@ boundary_of s =
 pub record ResolutionValue : Type 0 where
   pub group : PGroup
   pub last : ℕ
+  -- how many of them elimination made
+  pub computed : ℕ
+
+-- the stage of degree 0 alone
+abbrev pub first_alone : PGroup → ResolutionValue
+first_alone G = record { group = G; last = 0; computed = 0 }
 
 -- how it is stored
 abbrev pub coded_resolution : Coded ResolutionValue
 coded_resolution =
-    code_by (PGroup × ℕ) (coded× coded_p_group coded_ℕ)
-    (λ r. (r.group, r.last)) (λ p. record { group = p.0; last = p.1 }) (λ _. refl)
+    code_by (PGroup × (ℕ × ℕ)) (coded× coded_p_group (coded× coded_ℕ coded_ℕ))
+    (λ r. (r.group, (r.last, r.computed)))
+    (λ p. record { group = p.0; last = p.1.0; computed = p.1.1 })
+    (λ _. refl)

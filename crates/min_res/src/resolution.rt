@@ -5,6 +5,7 @@ ghost use Rattle.min_res.specs.Defined.{InK, IsExactMinimal, IsSectionOf, IsStag
 ghost use Rattle.min_res.specs.Refusals.{IsRefusal};
 ghost use Rattle.min_res.specs.RecordChecks.{IsNotAdopted, MayFollow};
 ghost use Rattle.min_res.specs.Stages.{rank_of, stage_rows};
+ghost use Rattle.min_res.specs.Values.{first_alone};
 ghost use Rattle.resolution_stages.specs.Chain.{parts_of};
 ghost use Rattle.std.specs.Prelude.{◌≡◌, ◌≤◌, ◌<◌, ◌+◌, ◌-◌, ◌*◌, ◌^◌, ◌↔◌, suc, length};
 ghost use Rattle.std.specs.Prelude.{IfErr, IfOk, IfSome, IsNone, OnErr, OnOk};
@@ -28,15 +29,16 @@ use std::rc::Rc;
 /// The stages 0 to `last` of the minimal resolution of the field of p elements over the group algebra of a
 /// p-group.
 ///
-/// It is seen as the group and the number `last`: the stage of each degree is that of the group, so a
-/// resolution that is extended keeps its algebra and all its stages, and what was made from it is made from
-/// the longer one.
+/// It is seen as the group and the numbers `last` and `computed`: the stage of each degree is that of the
+/// group, so a resolution that is extended keeps its algebra and all its stages, and what was made from it is
+/// made from the longer one.
 #[derive(Drop)]
 pub struct Resolution {
     alloc: Global,
     algebra: Algebra,
     generators: Vec<u16>,
     stages: Vec<Rc<Stage>>,
+    computed: u32,
 }
 
 impl Model for Resolution {
@@ -48,15 +50,20 @@ impl Model for Resolution {
 
     ghost coded = { coded_resolution };
 
-    ghost view = { λ r. record { group = r.algebra; last = length r.stages.items - 1 } };
+    ghost view = { λ r. record {
+      group = r.algebra;
+      last = length r.stages.items - 1;
+      computed = r.computed;
+    } };
 
-    ghost invariant = { λ r. IsResolutionStore r.algebra r.generators.items (stage_values r.stages.items) };
+    ghost invariant = { λ r. IsResolutionStore r.algebra r.generators.items (stage_values r.stages.items)
+        r.computed };
 }
 
 impl Resolution {
     /// The resolution with the stage of degree 0 alone.
     pub fn start(alloc: Global, a: Algebra) -> Result<Resolution, Memory>
-        ensures { IfOk result (λ r. r ≡ record { group = a; last = 0 }) }
+        ensures { IfOk result (λ r. r ≡ first_alone a) }
     {
         let generators = generators(alloc, a.group().as_group())?;
         let first = Rc::new(alloc, first_stage(alloc, &a)?)?;
@@ -67,6 +74,7 @@ impl Resolution {
             algebra: a,
             generators,
             stages,
+            computed: 0,
         })
     }
 
@@ -77,6 +85,7 @@ impl Resolution {
         requires limit { limit ≤ 2 ^ 28 }
         ensures group { self.new.group ≡ self.old.group }
         ensures grown { OnOk result (self.new.last ≡ suc self.old.last) }
+        ensures computed { OnOk result (self.new.computed ≡ suc self.old.computed) }
         ensures within { OnOk result
             (order_of self.old.group * rank_of self.old.group (suc self.old.last) ≤ limit) }
         ensures refused { IfErr result (λ e. IsRefusal self.old.group (suc self.old.last) limit e) }
@@ -89,6 +98,7 @@ impl Resolution {
         let stage = self.next(limit)?;
         let shared = Rc::new(self.alloc, stage)?;
         self.stages.push(shared)?;
+        self.computed += 1;
         Ok(())
     }
 
@@ -117,6 +127,7 @@ impl Resolution {
         requires small { order_of self.old.group * length (S.parts given.now).positions ≤ 2 ^ 28 }
         ensures group { self.new.group ≡ self.old.group }
         ensures grown { OnOk result (self.new.last ≡ suc self.old.last) }
+        ensures computed { self.new.computed ≡ self.old.computed }
         ensures next { OnOk result
             (S.parts given.now ≡ parts_of (stage_rows self.old.group) self.old.last) }
         ensures refused { IfErr result (IsNotAdopted self.old.group self.old.last (S.parts given.now)) }
@@ -159,6 +170,13 @@ impl Resolution {
         ensures { result ≡ self.now.last }
     {
         (self.stages.len() - 1) as u32
+    }
+
+    /// The number of stages that `extend` made: 0 after `start`, and `adopt` keeps it.
+    pub fn computed(&self) -> u32
+        ensures { result ≡ self.now.computed }
+    {
+        self.computed
     }
 
     /// The stage of degree d, which is at most `last`. The rows of its kernel have at most 2^28 entries.

@@ -77,6 +77,7 @@ fn resolves_the_dihedral_group(rt: HostRuntime) -> Result<(), Fail> {
         )
     );
     assert!(rt; resolution.stage(3).is_none());
+    assert_eq!(rt; resolution.computed(), 2);
     Ok(())
 }
 
