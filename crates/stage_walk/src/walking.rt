@@ -1,6 +1,6 @@
 //! The walk over a stage file that nobody vouches for.
 
-ghost use Rattle.std.specs.Prelude.{◌≡◌, ◌≤◌, IfErr, IfOk, OnOk};
+ghost use Rattle.std.specs.Prelude.{◌≡◌, ◌≤◌, ⊤, IfErr, IfOk, OnOk};
 ghost use Rattle.coho_io.specs.Causes.{NoneFell};
 ghost use Rattle.limits.specs.declared.TheConstants.{GREATEST_DEGREE};
 ghost use Rattle.stage_walk.specs.Asked.{AfterWalk, asked_from};
@@ -55,6 +55,7 @@ fn take_records<F: Files>(
 ) -> Result<(), StagesFault>
     requires first { resolution.old.last ≡ 0 }
     requires degree { n ≤ GREATEST_DEGREE }
+    requires there { OfBytes (F.content files.old) path.now (λ bytes. ⊤) }
     ensures group { resolution.new.group ≡ resolution.old.group }
     ensures computed { resolution.new.computed ≡ resolution.old.computed }
     ensures last { resolution.new.last ≤ n }

@@ -1,0 +1,5 @@
+pub mod Fronts
+pub mod Headers
+pub mod Turns
+pub mod Growing
+pub mod Whole
