@@ -3,6 +3,9 @@ use Rattle.std.proofs.Common.{◌≡◌, ◌⊎◌, ℕ, zero, suc, ◌+◌, ◌
 use Rattle.std.proofs.Common.{◌++◌, length, take, drop, Some, None, inl, inr, refl, sym, ◌∙◌, ap, subst, arith, leb}
 use Rattle.std.proofs.Common.{append_assoc, ◌≤◌}
 use Rattle.std.specs.declared.option.Option.{Option}
+use Rattle.std.specs.declared.result.Result.{Result}
+use Rattle.std.specs.declared.result.Result.TheVariants.{Ok, Err}
+use Rattle.std.specs.Prelude.{OnErr, OnOk}
 use Rattle.std.specs.Option.{IfSome}
 use Rattle.std.specs.Ordering.{nat_cmp, eq_by_cmp}
 use Rattle.std.specs.Cmp.Lexicographic.{slice_cmp, nat_list_cmp_total}
@@ -14,16 +17,29 @@ use Rattle.std.proofs.lemmas.Slice.Eq.{bytes_eq-Decides}
 use Rattle.coho_io.specs.Content.{Content, FileMap, file, or_outside, or_empty, with_file, with_piece}
 use Rattle.coho_io.specs.Content.{AppendsFrontOrStays, AppendsPiece, Creates, CreatesOrStays}
 use Rattle.p_groups.specs.PGroups.{PGroup, order_of}
+use Rattle.min_res.specs.Defined.{IsStageAt}
 use Rattle.min_res.specs.Stages.{stage_rows}
+use Rattle.min_res.specs.Values.{StageValue}
 use Rattle.resolution_stages.specs.Chain.{parts_of}
 use Rattle.stage_records.specs.Claims.{AreThere}
 use Rattle.stage_records.specs.Records.{record_at, record_bytes}
 use Rattle.stage_records.specs.Walks.{records_from, stage_bytes, with_rest}
 use Rattle.stage_records.proofs.Files.{file-claims}
 use Rattle.stage_file.specs.Honest.{records_of}
+use Rattle.stage_file.specs.Written.{IsSomeStage}
 use Rattle.stage_walk.specs.Dimensions.{dimension, Fit}
 use Rattle.stage_walk.specs.Growing.{file_with, record_of, Holds, HoldsFront, Gains, GainsFront}
 use Rattle.stage_walk.specs.Saved.{saved}
+
+-- what follows of an answer, whichever it is
+
+pub on_ok : {T E : Type 0} {A B : Type 0} (r : Result T E) → (A → B) → OnOk r A → OnOk r B
+on_ok (Ok x) f h = f h
+on_ok (Err e) f h = tt
+
+pub on_err : {T E : Type 0} {A B : Type 0} (r : Result T E) → (A → B) → OnErr r A → OnErr r B
+on_err (Ok x) f h = tt
+on_err (Err e) f h = f h
 
 -- a file that is written again
 
@@ -131,8 +147,9 @@ module _ (G : PGroup) where
 
   are_there : (c : ℕ) → Fit G c → AreThere (records_of G) c 1
   are_there c fit i l =
-      (record_bytes (order_of G) (suc i) (parts_of (stage_rows G) i),
-      there i (fit (suc i) (omega arith) (omega (arith, l))))
+      let r : List ℕ = record_bytes (order_of G) (suc i) (parts_of (stage_rows G) i) in
+      let z : suc i ≡ 1 + i = omega arith in
+      (r, subst (λ k. records_of G k ≡ Some r) z (there i (fit (suc i) (omega arith) (omega (arith, l)))))
 
   -- it has the header alone at first, and one record more after each stage
   pub file_begins : (header : List ℕ) → file_with header G 0 ≡ header
@@ -144,11 +161,16 @@ module _ (G : PGroup) where
     where
       by-record : (o : Option (List ℕ)) → records_of G (suc d) ≡ o
           → file_with header G (suc d) ≡ file_with header G d ++ or_empty o
-      by-record (Some r) e = (file-claims (records_of G) header d (are_there d fit)).more r e
+      by-record (Some r) e =
+          let z : suc d ≡ 1 + d = omega arith in
+          (file-claims (records_of G) header d (are_there d fit)).more r
+          (subst (λ k. records_of G k ≡ Some r) z e)
       by-record None e =
+          let z : suc d ≡ 1 + d = omega arith in
           let one : suc d ≡ d + 1 = omega arith in
           ap (file_with header G) one
-          ∙ (file-claims (records_of G) header d (are_there d fit)).stop 1 e
+          ∙ (file-claims (records_of G) header d (are_there d fit)).stop 1
+          (subst (λ k. records_of G k ≡ None) z e)
           ∙ sym (append-nil (file_with header G d))
 
   -- and stops before a stage that is too large
@@ -156,8 +178,10 @@ module _ (G : PGroup) where
       → file_with header G n ≡ file_with header G d
   file_stops header d n fit above l =
       let m : n ≡ d + (n - d) = omega (arith, l) in
+      let z : suc d ≡ 1 + d = omega arith in
       ap (file_with header G) m
-      ∙ (file-claims (records_of G) header d (are_there d fit)).stop (n - d) (missing d above)
+      ∙ (file-claims (records_of G) header d (are_there d fit)).stop (n - d)
+      (subst (λ k. records_of G k ≡ None) z (missing d above))
 
   -- each of its stages is a front of it
   more_records : (c m d : ℕ) → (rest : List ℕ)
@@ -165,7 +189,10 @@ module _ (G : PGroup) where
   unfolding records_from
   more_records zero m d = (records_from (records_of G) (zero + m) d, refl)
   more_records (suc c) m d =
-      let ih = more_records c m (suc d) in by-record (records_of G d) ih.0 ih.1
+      let ih = more_records c m (suc d) in
+      let p = by-record (records_of G d) ih.0 ih.1 in
+      let y : suc c + m ≡ suc (c + m) = omega arith in
+      (p.0, ap (λ k. records_from (records_of G) k d) y ∙ p.1)
     where
       by-record : (o : Option (List ℕ)) (rest : List ℕ)
           → records_from (records_of G) (c + m) (suc d) ≡ records_from (records_of G) c (suc d) ++ rest
@@ -187,6 +214,17 @@ module _ (G : PGroup) where
         ap (λ k. header ++ records_from (records_of G) k 1) m ∙ ap (λ x. header ++ x) p.1
             ∙ sym (append_assoc header (records_from (records_of G) d 1) p.0),
       )
+
+-- the record that is written of a stage is the one of its degree
+pub own_record : (G : PGroup) (d : ℕ) (s : StageValue) (items : List ℕ) → IsStageAt G d s
+    → ((H : PGroup) → IsStageAt H s.degree s
+    → record_at (order_of H) (stage_rows H) s.degree ≡ Some items) → record_of G d ≡ items
+own_record G d s items L f =
+    ap or_empty (subst (λ k. record_at (order_of G) (stage_rows G) k ≡ Some items) L.degree_is
+    (f G (subst (λ k. IsStageAt G k s) (sym L.degree_is) L)))
+
+pub some_stage : (G : PGroup) (d : ℕ) (s : StageValue) → IsStageAt G d s → IsSomeStage s
+some_stage G d s L = record { group = G; is_stage = subst (λ k. IsStageAt G k s) (sym L.degree_is) L }
 
 -- a front of a front
 cut_inside : (all before piece rest : List ℕ) (k : ℕ) → all ≡ (before ++ piece) ++ rest

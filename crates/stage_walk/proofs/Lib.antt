@@ -3,3 +3,4 @@ pub mod Headers
 pub mod Turns
 pub mod Growing
 pub mod Whole
+pub mod Loops

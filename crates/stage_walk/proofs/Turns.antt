@@ -16,7 +16,7 @@ use Rattle.stage_records.specs.declared.shape.Shape.{Shape}
 use Rattle.stage_records.specs.declared.field.Field.{Field}
 use Rattle.stage_records.specs.Claims.{FrontClaims}
 use Rattle.stage_records.specs.Readings.{AreBytes, Cut, Whole, Malformed, read_record}
-use Rattle.stage_records.specs.Walks.{length_at, is_in_range, Ends, Takes, Refuses, next, Walked, ended, one_more}
+use Rattle.stage_records.specs.Walks.{length_at, is_in_range, Ends, Takes, Refuses, Next, next, Walked, ended, one_more}
 use Rattle.stage_records.specs.Walks.{refused, walk_records}
 use Rattle.stage_records.specs.Walks as walks
 use Rattle.stage_records.proofs.Buffers.{front-claims}
@@ -36,18 +36,18 @@ pub range_some : (bytes : List ℕ) (L : ℕ) → range_at bytes ≡ Some L
     → (is_in_range (length_at bytes) ≡ true) × (L ≡ length_at bytes) × (36 ≤ L) × (L ≤ 16781348)
 range_some bytes L e =
     elim (cases_Bool (ltb (length bytes) 4)) [
-      | inl t ↦ let z : None ≡ Some L = sym (cond-true (ltb (length bytes) 4) None _ t) ∙ e in absurd (cc)
+      | inl t ↦ let z : None ≡ Some L = sym (cond-true (ltb (length bytes) 4) None (ranged (length_at bytes)) t) ∙ e in absurd (cc)
       | inr f ↦ in-range (cases_Bool (is_in_range (length_at bytes)))
-          (sym (cond-false (ltb (length bytes) 4) None _ f) ∙ e)
+          (sym (cond-false (ltb (length bytes) 4) None (ranged (length_at bytes)) f) ∙ e)
     ]
   where
     in-range : (is_in_range (length_at bytes) ≡ true) ⊎ (is_in_range (length_at bytes) ≡ false)
         → ranged (length_at bytes) ≡ Some L
         → (is_in_range (length_at bytes) ≡ true) × (L ≡ length_at bytes) × (36 ≤ L) × (L ≤ 16781348)
-    in-range (inr r) h = let z : None ≡ Some L = sym (cond-false (is_in_range (length_at bytes)) _ None r) ∙ h in
+    in-range (inr r) h = let z : None ≡ Some L = sym (cond-false (is_in_range (length_at bytes)) (Some (length_at bytes)) None r) ∙ h in
         absurd (cc)
     in-range (inl r) h =
-        let z : Some (length_at bytes) ≡ Some L = sym (cond-true (is_in_range (length_at bytes)) _ None r) ∙ h in
+        let z : Some (length_at bytes) ≡ Some L = sym (cond-true (is_in_range (length_at bytes)) (Some (length_at bytes)) None r) ∙ h in
         let same : L ≡ length_at bytes = cc in
         let both = and_parts (leb 36 (length_at bytes)) (leb (length_at bytes) 16781348) r in (
           r,
@@ -65,7 +65,7 @@ range_none bytes e =
         | inr r ↦ inr r
         | inl r ↦ let z : Some (length_at bytes) ≡ None =
             sym (cond-true (is_in_range (length_at bytes)) (Some (length_at bytes)) None r)
-            ∙ sym (cond-false (ltb (length bytes) 4) None _ f) ∙ e in absurd (cc)
+            ∙ sym (cond-false (ltb (length bytes) 4) None (ranged (length_at bytes)) f) ∙ e in absurd (cc)
       ]
     ]
 
@@ -176,6 +176,35 @@ module _ (G : PGroup) (d : ℕ) (shape : Shape) (bytes : List ℕ) (low : suc d 
       subst (λ (R : StageParts). order_of G * length R.positions ≤ 4096) same
       (small-parts G d shape bytes Q H l B r)
 
+  -- the same over the bytes under a path, where files are told
+
+  module _ (known : Option Content) (path : List ℕ) (at : ℕ)
+      (part : (told : Content) → known ≡ Some told → IsRecordPart (file told path) at bytes) where
+    abbrev pub Comes : (List ℕ → Next → Type 0) → Type 0
+    Comes Way = OfBytes known path (GoesAt G d at Way)
+
+    pub ends_turn : read_record shape bytes ≡ Cut → Comes (λ rest way. way ≡ Ends)
+    ends_turn r told t =
+        of_part (file told path) at bytes (GoesAt G d at (λ rest way. way ≡ Ends)) (part told t)
+        (λ all e. ends all at e r)
+
+    pub refuses_turn : (f : Field) → read_record shape bytes ≡ Malformed f → Comes (λ rest way. way ≡ Refuses)
+    refuses_turn f r told t =
+        of_part (file told path) at bytes (GoesAt G d at (λ rest way. way ≡ Refuses)) (part told t)
+        (λ all e. refuses all at e f r)
+
+    pub takes_turn : (Q : StageParts) → read_record shape bytes ≡ Whole Q → Q ≡ parts_of (stage_rows G) d
+        → Comes (λ rest way. way ≡ Takes (drop (length bytes) rest))
+    takes_turn Q r same told t =
+        of_part (file told path) at bytes (GoesAt G d at (λ rest way. way ≡ Takes (drop (length bytes) rest)))
+        (part told t) (λ all e. takes all at e Q r same)
+
+    pub fails_turn : (Q : StageParts) (c : Check) (k : ℕ) → read_record shape bytes ≡ Whole Q
+        → IsFirstFailure G d Q c k → Comes (λ rest way. way ≡ Refuses)
+    fails_turn Q c k r F told t =
+        of_part (file told path) at bytes (GoesAt G d at (λ rest way. way ≡ Refuses)) (part told t)
+        (λ all e. fails all at e Q c k r F)
+
 -- the walk over the records
 
 -- a walk with k records more before it
@@ -186,11 +215,19 @@ abbrev pub IsWalkedTo : PGroup → (n k at : ℕ) → List ℕ → Type 0
 IsWalkedTo G n k at bytes = walk_records (records_of G) n 1 (drop 40 bytes)
     ≡ plus k (walk_records (records_of G) (n - k) (suc k) (drop at bytes))
 
+walk-zero : (records : ℕ → Option (List ℕ)) (d : ℕ) (x : List ℕ) → walk_records records 0 d x ≡ ended
+unfolding walk_records
+walk-zero records d x = refl
+
+plus-zero : (w : Walked) → w ≡ plus 0 w
+plus-zero w = let e : w.taken ≡ 0 + w.taken = omega arith in ap (λ k. record { taken = k; fault = w.fault }) e
+
 module _ (G : PGroup) (n : ℕ) (bytes : List ℕ) where
   pub walk-start : IsWalkedTo G n 0 40 bytes
   walk-start =
       let e : n ≡ n - 0 = omega arith in
       ap (λ m. walk_records (records_of G) m 1 (drop 40 bytes)) e
+      ∙ plus-zero (walk_records (records_of G) (n - 0) 1 (drop 40 bytes))
 
   pub walk-step : (k at len : ℕ) → k < n → IsWalkedTo G n k at bytes
       → next (records_of G (suc k)) (drop at bytes) ≡ Takes (drop len (drop at bytes))
@@ -207,9 +244,6 @@ module _ (G : PGroup) (n : ℕ) (bytes : List ℕ) where
       more : (w : Walked) → plus k (one_more w) ≡ plus (suc k) w
       more w = let e : k + suc w.taken ≡ suc k + w.taken = omega arith in
           ap (λ m. record { taken = m; fault = w.fault }) e
-
-  stops : (k : ℕ) (w : Walked) → plus k w ≡ record { taken = k + w.taken; fault = w.fault }
-  stops k w = refl
 
   pub walk-end : (k at : ℕ) → k < n → IsWalkedTo G n k at bytes
       → next (records_of G (suc k)) (drop at bytes) ≡ Ends
@@ -235,9 +269,5 @@ module _ (G : PGroup) (n : ℕ) (bytes : List ℕ) where
   walk-all k at l h =
       let e : n - k ≡ 0 = omega (arith, l) in
       let z : k + 0 ≡ k = omega arith in
-      h ∙ ap (plus k) (ap (λ m. walk_records (records_of G) m (suc k) (drop at bytes)) e ∙ nothing (suc k) (drop at bytes))
+      h ∙ ap (plus k) (ap (λ m. walk_records (records_of G) m (suc k) (drop at bytes)) e ∙ walk-zero (records_of G) (suc k) (drop at bytes))
       ∙ ap (λ m. record { taken = m; fault = None }) z
-    where
-      nothing : (d : ℕ) (x : List ℕ) → walk_records (records_of G) 0 d x ≡ ended
-      unfolding walk_records
-      nothing d x = refl

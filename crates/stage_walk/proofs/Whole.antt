@@ -100,7 +100,7 @@ module _ (G : PGroup) (P : Presentation) (n : ℕ) (path : List ℕ) (known : Op
     records_stop fault.Read o h = (path, refl, h)
     records_stop fault.Header o h = absurd h
     records_stop fault.Presentation o h = absurd h
-    records_stop (fault.Record d) o h files k =
+    records_stop (fault.Record d) o h = λ files k.
         let p = h.0 files (told_files files k) in
         (p.2.0, records_at o files (told_files files k) p.0 p.1 _ p.2.1)
     records_stop (fault.TooLarge d X) o h = absurd h
@@ -139,7 +139,7 @@ module _ (A : Asked) (old new : Option Content) (same : new ≡ old) where
   walk_leaves before now (fault.Record d) h = same
   walk_leaves before now (fault.TooLarge d X) h = absurd h
   walk_leaves before now fault.Write h = absurd h
-  walk_leaves before now fault.Memory h told k = inl (same ∙ k)
+  walk_leaves before now fault.Memory h = λ told k. inl (same ∙ k)
 
 pub walk_fault : (A : Asked) (known : Option Content) (reads reads_now writes writes_now : List ℕ → ℕ)
     (e : StagesFault) → IsWalkStop A known reads reads_now e

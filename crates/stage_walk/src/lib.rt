@@ -5,13 +5,12 @@
 mod fault;
 mod pieces;
 mod records;
+mod resolving;
 mod saving;
-mod stages;
+
 mod walking;
 
 pub use fault::StagesFault;
-pub use stages::stages;
+pub use resolving::stages;
 pub use walking::taken_stages;
 
-#[cfg(test)]
-mod tests;

@@ -1,10 +1,14 @@
 //! One record of a stage file, read and taken up.
 
-ghost use Rattle.std.specs.Prelude.{◌≡◌, ◌≤◌, ◌<◌, ◌^◌, length, IfErr, IfOk, Some, true};
+ghost use Rattle.std.specs.Prelude.{◌≡◌, ◌≤◌, ◌<◌, ◌^◌, ℕ, suc, length, IfErr, IfOk, Some};
 ghost use Rattle.coho_io.specs.Causes.{NoneFell};
 ghost use Rattle.coho_io.specs.Content.{Content, file};
 ghost use Rattle.limits.specs.declared.TheConstants.{GREATEST_DEGREE};
-ghost use Rattle.stage_file.specs.Honest.{IsShapeAt};
+ghost use Rattle.group_table.specs.Prime.{prime_value};
+ghost use Rattle.p_groups.specs.PGroups.{PGroup};
+ghost use Rattle.stage_file.specs.Honest.{IsShapeAt, IsVerdict};
+ghost use Rattle.stage_file.specs.Views.{IsOver, reading_of};
+ghost use Rattle.stage_records.specs.Readings.{AreBytes, read_record};
 ghost use Rattle.stage_walk.specs.Pieces.{IsReadStop, IsRecordPart, range_at};
 ghost use Rattle.stage_walk.specs.Turns.{IsTurn, IsTurnStop};
 
@@ -30,7 +34,7 @@ fn length_of(bytes: &[u8]) -> Option<usize>
 
 // What stands at a place of a file where a record is due: the four bytes of its length, and where this is in
 // its range as many more.
-fn read_record<F: Files>(
+fn read_bytes<F: Files>(
     alloc: Global,
     files: &mut F,
     path: &str,
@@ -69,6 +73,17 @@ fn shape_after(resolution: &Resolution) -> Shape
     }
 }
 
+// The record at the front of bytes, each of which is below 256, as the verdict on it asks.
+fn next_of<'a>(bytes: &'a [u8], shape: &Shape) -> Record<'a>
+    ensures bytes { AreBytes bytes.now }
+    ensures reading { reading_of result ≡ read_record shape.now bytes.now }
+    ensures prime { IsOver (prime_value shape.now.p) result }
+    ensures verdict { (G : PGroup) (d : ℕ) → suc d ≤ GREATEST_DEGREE → IsShapeAt G d shape.now
+        → IsVerdict G d shape.now bytes.now }
+{
+    next_record(bytes, shape)
+}
+
 /// Takes up the record at a place of a file, where it is the one of the stage after the last, and says how
 /// many bytes it has; `None` where the file ends or the record is cut.
 pub(crate) fn take_record<F: Files>(
@@ -90,9 +105,9 @@ pub(crate) fn take_record<F: Files>(
     ensures later { NoneFell (F.read_faults files.old) (F.read_faults files.new) }
     ensures later_writes { NoneFell (F.write_faults files.old) (F.write_faults files.new) }
 {
-    let bytes = read_record(alloc, files, path, at)?;
+    let bytes = read_bytes(alloc, files, path, at)?;
     let number = resolution.last() + 1;
-    match next_record(&bytes, &shape_after(resolution)) {
+    match next_of(&bytes, &shape_after(resolution)) {
         Record::Cut => Ok(None),
         Record::Malformed(_) => Err(StagesFault::Record { number }),
         Record::Whole(parts) => match resolution.adopt(&parts) {
