@@ -5,7 +5,7 @@ use Rattle.std.proofs.Common.{append_assoc, ◌≤◌}
 use Rattle.std.specs.declared.option.Option.{Option}
 use Rattle.std.specs.declared.result.Result.{Result}
 use Rattle.std.specs.declared.result.Result.TheVariants.{Ok, Err}
-use Rattle.std.specs.Prelude.{OnErr, OnOk}
+use Rattle.std.specs.Prelude.{IfErr, OnErr, OnOk}
 use Rattle.std.specs.Option.{IfSome}
 use Rattle.std.specs.Ordering.{nat_cmp, eq_by_cmp}
 use Rattle.std.specs.Cmp.Lexicographic.{slice_cmp, nat_list_cmp_total}
@@ -28,7 +28,10 @@ use Rattle.stage_records.proofs.Files.{file-claims}
 use Rattle.stage_file.specs.Honest.{records_of}
 use Rattle.stage_file.specs.Written.{IsSomeStage}
 use Rattle.stage_walk.specs.Dimensions.{dimension, Fit}
-use Rattle.stage_walk.specs.Growing.{file_with, record_of, Holds, HoldsFront, Gains, GainsFront}
+use Rattle.stage_walk.specs.declared.fault.StagesFault.{StagesFault}
+use Rattle.stage_walk.specs.declared.fault.StagesFault.TheVariants as fault
+use Rattle.stage_walk.specs.Growing.{file_with, record_of, Holds, HoldsFront, Gains, GainsFront, IsWriteStop}
+use Rattle.stage_walk.specs.Growing.{LeavesStage}
 use Rattle.stage_walk.specs.Saved.{saved}
 
 -- what follows of an answer, whichever it is
@@ -275,3 +278,16 @@ header_front G header named first new n h files e =
           inr (length (take p.0 header), p.1
           ∙ ap (λ x. Some (saved named x files)) (cut_inside (file_with header G n) [] header q.0 p.0 all))
     ]
+
+-- what an append that stops leaves
+pub append_left : {T : Type 0} (r : Result T StagesFault) (named : Option (List ℕ)) (piece : List ℕ)
+    (old new : Option Content) (before now : List ℕ → ℕ) → IfErr r (IsWriteStop named before now)
+    → OnErr r (GainsFront named piece old new) → IfErr r (LeavesStage named piece old new)
+append_left (Ok x) named piece old new before now h g = tt
+append_left (Err fault.Read) named piece old new before now h g = absurd h
+append_left (Err fault.Header) named piece old new before now h g = absurd h
+append_left (Err fault.Presentation) named piece old new before now h g = absurd h
+append_left (Err (fault.Record d)) named piece old new before now h g = absurd h
+append_left (Err (fault.TooLarge d X)) named piece old new before now h g = absurd h
+append_left (Err fault.Write) named piece old new before now h g = g
+append_left (Err fault.Memory) named piece old new before now h g = g

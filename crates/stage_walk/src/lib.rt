@@ -14,3 +14,6 @@ pub use fault::StagesFault;
 pub use resolving::stages;
 pub use walking::taken_stages;
 
+
+#[cfg(test)]
+mod tests;
