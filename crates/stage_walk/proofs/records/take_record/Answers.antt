@@ -1,5 +1,7 @@
 use Rattle.std.proofs.Common.{◌≡◌, ◌+◌, ◌*◌, ◌^◌, ◌<◌, ◌≤◌, suc, length, drop, refl, arith, sym, ap, subst}
 use Rattle.coho_io.specs.Content.{file}
+use Rattle.min_res.specs.RecordChecks.{IsNotAdopted}
+use Rattle.min_res.specs.declared.adopt_fault.AdoptFault.TheVariants as fault
 use Rattle.p_groups.specs.PGroups.{order_of}
 use Rattle.stage_records.specs.Walks.{Takes}
 use Rattle.stage_file.specs.Views.{parts_of_ref}
@@ -76,11 +78,15 @@ returns-in-Ok-clause-turn g c =
 pub returns-in-Err-False-clause-refused : goal.returns-in-Err-False-clause-refused
 returns-in-Err-False-clause-refused g c =
     let low : suc c.args.resolution.now.last ≤ 24 = omega (arith, c.requires.before) in
+    let N : IsNotAdopted c.args.resolution.now.group c.args.resolution.now.last (parts_of_ref c.in-Whole.parts)
+    (fault.False c.in-Err-False.field-0-0 c.in-Err-False.field-0-1) = subst
+    (IsNotAdopted c.args.resolution.now.group c.args.resolution.now.last (parts_of_ref c.in-Whole.parts))
+    c.in-Err-False.field-0-is c.in-Err-False.ensures.refused in
     (omega (arith, c.last-number.ensures), fails_turn c.args.resolution.now.group c.args.resolution.now.last c.shape_after.result c.deref.result.now low
     c.shape_after.ensures (c.next_of.ensures.verdict c.args.resolution.now.group
     c.args.resolution.now.last low c.shape_after.ensures) c.next_of.ensures.bytes
     (g.F.Files.content c.args.files.now) c.args.path.now c.args.at
     (λ told t. subst (IsRecordPart (file told c.args.path.now) c.args.at) (sym c.deref.ensures.value)
     (c.in_ok-bytes.ensures.part told t))
-    (parts_of_ref c.in-Whole.parts) c.in-Err-False.ensures.refused.0 c.in-Err-False.field-0-1
-    (sym c.in-Whole.ensures.reading) c.in-Err-False.ensures.refused.2)
+    (parts_of_ref c.in-Whole.parts) N.0 c.in-Err-False.field-0-1
+    (sym c.in-Whole.ensures.reading) N.2)

@@ -4,6 +4,7 @@ use Rattle.min_res.specs.Values.{ResolutionValue}
 use Rattle.stage_walk.specs.Asked.{path_of}
 use Rattle.stage_walk.specs.Growing.{Gains, LeavesStage, record_of}
 use Rattle.stage_walk.proofs.Growing.{append_left}
+use Rattle.stage_walk.proofs.saving.save_stage.Goals.{then-last-d+in_ok-compute, else-last-d}
 use Rattle.stage_walk.proofs.saving.save_stage.Goals as goal
 
 pub returns-clause-gained : goal.returns-clause-gained
