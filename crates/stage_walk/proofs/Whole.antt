@@ -18,7 +18,7 @@ use Rattle.stage_walk.specs.declared.fault.StagesFault.TheVariants as fault
 use Rattle.stage_walk.specs.Asked.{Asked, AfterWalk, AreKnown, Refuses, Takes, WalkRefuses, asked_from, walk_from}
 use Rattle.stage_walk.specs.Dimensions.{IsFirstAbove}
 use Rattle.stage_walk.specs.Faults.{IsNumbered, IsStagesFault, IsWalkStop, RoseAt}
-use Rattle.stage_walk.specs.Growing.{Holds, HoldsFront, IsStagesStop, LeavesStages, file_with}
+use Rattle.stage_walk.specs.Growing.{Holds, HoldsFront, IsStagesStop, IsWriteStop, LeavesStages, file_with}
 use Rattle.stage_walk.specs.Saved.{Leaves, SavesAll, SavesFront, saved}
 use Rattle.stage_walk.specs.Turns.{EndsAtHeader, GoesOn, IsHeaderStop, IsRecordsStop, OfBytes, RefusesHeader}
 use Rattle.stage_walk.specs.Turns.{TakesRecords}
@@ -35,6 +35,12 @@ at_bytes known path Have told bytes o k e =
 pub rose_later : (path : List ℕ) (before mid now : List ℕ → ℕ) → NoneFell before mid
     → Rose (mid path) (now path) → Rose (before path) (now path)
 rose_later path before mid now l r = let h : before path ≤ mid path = l path in omega (arith, h, r)
+
+pub none_later : (before mid now : List ℕ → ℕ) → NoneFell before mid → NoneFell mid now → NoneFell before now
+none_later before mid now l m path =
+    let h : before path ≤ mid path = l path in
+    let k : mid path ≤ now path = m path in
+    omega (arith, h, k)
 
 module _ (G : PGroup) (P : Presentation) (n : ℕ) (path : List ℕ) (known : Option Content) (honest : List ℕ)
     (header : honest ≡ header_bytes (canonical P)) where
@@ -199,6 +205,18 @@ module _ (A : Asked) (H : PGroup) (group : H ≡ A.group) (header : List ℕ) (h
     stop_fault reads reads_now writes writes_mid writes_now fault.Write l h =
         ((h.0, h.1, rose_later h.0 writes writes_mid writes_now l h.2), passed)
     stop_fault reads reads_now writes writes_mid writes_now fault.Memory l h = tt
+
+-- what a header that is not written leaves
+pub begin_left : (named : Option (List ℕ)) (bytes : List ℕ) (old new : Option Content) (before now : List ℕ → ℕ)
+    (e : StagesFault) → IsWriteStop named before now e → HoldsFront named bytes old new
+    → LeavesStages named bytes old new e
+begin_left named bytes old new before now fault.Read h f = absurd h
+begin_left named bytes old new before now fault.Header h f = absurd h
+begin_left named bytes old new before now fault.Presentation h f = absurd h
+begin_left named bytes old new before now (fault.Record d) h f = absurd h
+begin_left named bytes old new before now (fault.TooLarge d X) h f = absurd h
+begin_left named bytes old new before now fault.Write h f = f
+begin_left named bytes old new before now fault.Memory h f = f
 
 -- records that are refused are those of the walk
 pub stop_numbered : (G : PGroup) (n d : ℕ) (named : Option (List ℕ)) (before now : List ℕ → ℕ) (e : StagesFault)
