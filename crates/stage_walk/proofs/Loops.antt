@@ -88,8 +88,8 @@ module _ (G : PGroup) (path : List ℕ) (known now : Option Content) (same : now
             let r = walk-refused G n p.0 old.last at inside (w told p.0 t p.1)
             (goes (λ rest way. way ≡ Refuses) h.1 told p.0 t p.1) in
             let same_number : suc old.last ≡ d = sym h.0 in
-            (p.0, p.1, old.last + 0,
-            r ∙ ap (λ k. record { taken = old.last + 0; fault = Some (walks.Record k) }) same_number),
+            (p.0, p.1, (old.last + 0,
+            r ∙ ap (λ k. record { taken = old.last + 0; fault = Some (walks.Record k) }) same_number)),
         (omega (arith, h.0), omega (arith, h.0, inside),
         let e : old.last ≡ d - 1 = omega (arith, h.0) in subst (Fit G) e fit),
       )
@@ -130,8 +130,8 @@ module _ (G : PGroup) (header : List ℕ) (named : Option (List ℕ)) (first old
     stage_left (fault.Record k) s l = absurd s
     stage_left (fault.TooLarge k X) s l =
         let is : suc d ≡ k = sym (s.0 ∙ number) in
-        let X-is : X ≡ dimension G (suc d) = s.1.0 ∙ ap (λ K. dimension K e) group ∙ ap (dimension G) number in
-        let above : 4096 < dimension G (suc d) = omega (arith, s.1.1, X-is) in
+        let X-is : X ≡ dimension G (suc d) = s.1 ∙ ap (λ K. dimension K e) group ∙ ap (dimension G) number in
+        let above : 4096 < dimension G (suc d) = omega (arith, s.2, X-is) in
         subst (λ x. Holds named (file_with header G n) first x) (sym l)
         (too_large G header named first old d n (omega (arith, inside)) fit above h)
     stage_left fault.Write s l = front_kept H e group number fit l
@@ -146,8 +146,8 @@ module _ (G : PGroup) (header : List ℕ) (named : Option (List ℕ)) (first old
     stage_stop (fault.TooLarge k X) later s = record {
       from = omega (arith, s.0, number);
       to = omega (arith, s.0, number, inside);
-      is = s.1.0 ∙ ap (λ K. dimension K e) group ∙ ap (dimension G) (sym s.0);
-      above = s.1.1;
+      is = s.1 ∙ ap (λ K. dimension K e) group ∙ ap (dimension G) (sym s.0);
+      above = s.2;
       first = λ c from less. fit c from (omega (arith, less, s.0, number));
     }
     stage_stop fault.Write later s = (s.0, s.1, rose_later s.0 before mid after later s.2)

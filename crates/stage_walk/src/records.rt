@@ -1,6 +1,6 @@
 //! One record of a stage file, read and taken up.
 
-ghost use Rattle.std.specs.Prelude.{◌≡◌, ◌≤◌, ◌<◌, ◌^◌, ℕ, suc, length, IfErr, IfOk, Some};
+ghost use Rattle.std.specs.Prelude.{◌≡◌, ◌≤◌, ◌<◌, ◌^◌, ℕ, suc, length, IfErr, IfOk, OnErr, Some};
 ghost use Rattle.coho_io.specs.Causes.{NoneFell};
 ghost use Rattle.coho_io.specs.Content.{Content, file};
 ghost use Rattle.limits.specs.declared.TheConstants.{GREATEST_DEGREE};
@@ -101,6 +101,7 @@ pub(crate) fn take_record<F: Files>(
         (IsTurn resolution.old resolution.new path.now at (F.content files.old)) }
     ensures refused { IfErr result (IsTurnStop resolution.old resolution.new path.now at (F.content files.old)
         (F.read_faults files.old) (F.read_faults files.new)) }
+    ensures kept { OnErr result (resolution.new ≡ resolution.old) }
     ensures content { F.content files.new ≡ F.content files.old }
     ensures later { NoneFell (F.read_faults files.old) (F.read_faults files.new) }
     ensures later_writes { NoneFell (F.write_faults files.old) (F.write_faults files.new) }
