@@ -134,6 +134,40 @@ stop_later A known before mid now (fault.TooLarge d X) l h = h
 stop_later A known before mid now fault.Write l h = h
 stop_later A known before mid now fault.Memory l h = h
 
+-- where no file is named, no stage is taken
+pub after_none : (A : Asked) (known : Option Content) (last : ℕ) → A.from ≡ None → last ≡ 0
+    → AfterWalk A known (λ c. last ≡ c)
+after_none A known last e z files k = (0, ap (λ from. walk_from A from files) e, z)
+
+-- the walk is the same whatever is saved
+module _ (G : PGroup) (text : List ℕ) (n : ℕ) where
+  abbrev with_paths : (from save : Option (List ℕ)) → Asked
+  with_paths from save = record { group = G; text = text; degree = n; from = from; save = save }
+
+  same_walk : (from save : Option (List ℕ)) (files : Content)
+      → walk_from (with_paths from save) from files ≡ walk_from (with_paths from None) from files
+  same_walk None save files = refl
+  same_walk (Some path) save files = refl
+
+  module _ (from save : Option (List ℕ)) (known : Option Content) where
+    pub after_saving : (Held : ℕ → Type 0) → AfterWalk (with_paths from None) known Held
+        → AfterWalk (with_paths from save) known Held
+    after_saving Held w files k = let t = w files k in (t.0, same_walk from save files ∙ t.1, t.2)
+
+    refuses_saving : (f : WalkFault) → WalkRefuses (with_paths from None) known f
+        → WalkRefuses (with_paths from save) known f
+    refuses_saving f w files k = let t = w files k in (t.0, same_walk from save files ∙ t.1)
+
+    pub stop_saving : (before now : List ℕ → ℕ) (e : StagesFault)
+        → IsWalkStop (with_paths from None) known before now e → IsWalkStop (with_paths from save) known before now e
+    stop_saving before now fault.Read h = h
+    stop_saving before now fault.Header h = refuses_saving walks.Header h
+    stop_saving before now fault.Presentation h = refuses_saving walks.Presentation h
+    stop_saving before now (fault.Record d) h = refuses_saving (walks.Record d) h
+    stop_saving before now (fault.TooLarge d X) h = h
+    stop_saving before now fault.Write h = h
+    stop_saving before now fault.Memory h = h
+
 -- stages after a walk
 
 module _ (A : Asked) (old new : Option Content) (same : new ≡ old) where
@@ -219,15 +253,15 @@ begin_left named bytes old new before now fault.Write h f = f
 begin_left named bytes old new before now fault.Memory h f = f
 
 -- records that are refused are those of the walk
-pub stop_numbered : (G : PGroup) (n d : ℕ) (named : Option (List ℕ)) (before now : List ℕ → ℕ) (e : StagesFault)
-    → IsStagesStop G d named before now e → IsNumbered G n e
-stop_numbered G n d named before now fault.Read h = tt
-stop_numbered G n d named before now fault.Header h = tt
-stop_numbered G n d named before now fault.Presentation h = tt
-stop_numbered G n d named before now (fault.Record k) h = absurd h
-stop_numbered G n d named before now (fault.TooLarge k X) h = tt
-stop_numbered G n d named before now fault.Write h = tt
-stop_numbered G n d named before now fault.Memory h = tt
+pub stop_numbered : (H G : PGroup) (n d : ℕ) (named : Option (List ℕ)) (before now : List ℕ → ℕ)
+    (e : StagesFault) → IsStagesStop H d named before now e → IsNumbered G n e
+stop_numbered H G n d named before now fault.Read h = tt
+stop_numbered H G n d named before now fault.Header h = tt
+stop_numbered H G n d named before now fault.Presentation h = tt
+stop_numbered H G n d named before now (fault.Record k) h = absurd h
+stop_numbered H G n d named before now (fault.TooLarge k X) h = tt
+stop_numbered H G n d named before now fault.Write h = tt
+stop_numbered H G n d named before now fault.Memory h = tt
 
 -- the stages that were not taken were computed
 pub rest_computed : (A : Asked) (known : Option Content) (last first new n : ℕ)
