@@ -4,3 +4,4 @@ pub mod Turns
 pub mod Growing
 pub mod Whole
 pub mod Loops
+pub mod Taken
