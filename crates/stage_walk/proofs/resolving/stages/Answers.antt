@@ -1,6 +1,8 @@
 use Rattle.std.proofs.Common.{◌≡◌, sym, ◌∙◌, ap, subst}
 use Rattle.std.proofs.lemmas.Result.{err_from_is_err_and}
+use Rattle.power_commutator.specs.Presentations.{Presentation}
 use Rattle.pc_text.specs.Canonical.{canonical}
+use Rattle.stage_records.specs.Records.{header_bytes}
 use Rattle.stage_walk.specs.Asked.{asked, path_of}
 use Rattle.stage_walk.specs.Dimensions.{Fit}
 use Rattle.stage_walk.proofs.Whole.{after_saving, all_saved, rest_computed, stop_fault, stop_leaves, stop_numbered}
@@ -39,7 +41,8 @@ returns-in_err-save_stages-clause-left g c =
     c.from_residual-in_err-save_stages.ensures.1 in
     rw (p.1, p.2) (stop_leaves (asked c.args.a c.args.c.now c.args.n c.args.from c.args.save)
     c.in_ok-resolution.resolution.group c.in_ok-resolution.ensures.group c.in_ok-honest.honest
-    c.in_ok-honest.ensures (g.F.Files.content c.args.files.now) (g.F.Files.content c.first_stages.new.files)
+    (c.in_ok-honest.ensures
+    ∙ ap (λ (P : Presentation). header_bytes (canonical P)) c.presentation.ensures.value) (g.F.Files.content c.args.files.now) (g.F.Files.content c.first_stages.new.files)
     (g.F.Files.content c.save_stages.new.files) c.first_stages.ensures.content c.in_ok-resolution.resolution.last
     (after_saving c.args.a (canonical c.args.c.now) c.args.n (path_of c.args.from) (path_of c.args.save)
     (g.F.Files.content c.args.files.now) (λ count. c.in_ok-resolution.resolution.last ≡ count)
@@ -53,7 +56,8 @@ returns-in_err-save_stages-clause-refused g c =
     c.from_residual-in_err-save_stages.ensures.1 in
     rw (p.1, p.2) (stop_fault (asked c.args.a c.args.c.now c.args.n c.args.from c.args.save)
     c.in_ok-resolution.resolution.group c.in_ok-resolution.ensures.group c.in_ok-honest.honest
-    c.in_ok-honest.ensures (g.F.Files.content c.args.files.now) (g.F.Files.content c.first_stages.new.files)
+    (c.in_ok-honest.ensures
+    ∙ ap (λ (P : Presentation). header_bytes (canonical P)) c.presentation.ensures.value) (g.F.Files.content c.args.files.now) (g.F.Files.content c.first_stages.new.files)
     (g.F.Files.content c.save_stages.new.files) c.first_stages.ensures.content c.in_ok-resolution.resolution.last
     (after_saving c.args.a (canonical c.args.c.now) c.args.n (path_of c.args.from) (path_of c.args.save)
     (g.F.Files.content c.args.files.now) (λ count. c.in_ok-resolution.resolution.last ≡ count)
@@ -88,5 +92,6 @@ returns-clause-computed g c = rest_computed (asked c.args.a c.args.c.now c.args.
 pub returns-clause-saved : goal.returns-clause-saved
 returns-clause-saved g c = all_saved (asked c.args.a c.args.c.now c.args.n c.args.from c.args.save)
     c.in_ok-resolution.resolution.group c.in_ok-resolution.ensures.group c.in_ok-honest.honest
-    c.in_ok-honest.ensures (g.F.Files.content c.args.files.now) (g.F.Files.content c.first_stages.new.files)
+    (c.in_ok-honest.ensures
+    ∙ ap (λ (P : Presentation). header_bytes (canonical P)) c.presentation.ensures.value) (g.F.Files.content c.args.files.now) (g.F.Files.content c.first_stages.new.files)
     (g.F.Files.content c.save_stages.new.files) c.first_stages.ensures.content c.in_ok-save_stages.ensures.saved
