@@ -18,7 +18,7 @@ use Rattle.stage_walk.specs.declared.fault.StagesFault.TheVariants as fault
 use Rattle.stage_walk.specs.Asked.{Asked, AfterWalk, AreKnown, Refuses, Takes, WalkRefuses, asked_from, walk_from}
 use Rattle.stage_walk.specs.Dimensions.{IsFirstAbove}
 use Rattle.stage_walk.specs.Faults.{IsNumbered, IsStagesFault, IsWalkStop, RoseAt}
-use Rattle.stage_walk.specs.Growing.{Holds, HoldsFront, IsStagesStop, LeavesStages, file_with}
+use Rattle.stage_walk.specs.Growing.{Holds, HoldsFront, IsStagesStop, IsWriteStop, LeavesStages, file_with}
 use Rattle.stage_walk.specs.Saved.{Leaves, SavesAll, SavesFront, saved}
 use Rattle.stage_walk.specs.Turns.{EndsAtHeader, GoesOn, IsHeaderStop, IsRecordsStop, OfBytes, RefusesHeader}
 use Rattle.stage_walk.specs.Turns.{TakesRecords}
@@ -35,6 +35,12 @@ at_bytes known path Have told bytes o k e =
 pub rose_later : (path : List ℕ) (before mid now : List ℕ → ℕ) → NoneFell before mid
     → Rose (mid path) (now path) → Rose (before path) (now path)
 rose_later path before mid now l r = let h : before path ≤ mid path = l path in omega (arith, h, r)
+
+pub none_later : (before mid now : List ℕ → ℕ) → NoneFell before mid → NoneFell mid now → NoneFell before now
+none_later before mid now l m path =
+    let h : before path ≤ mid path = l path in
+    let k : mid path ≤ now path = m path in
+    omega (arith, h, k)
 
 module _ (G : PGroup) (P : Presentation) (n : ℕ) (path : List ℕ) (known : Option Content) (honest : List ℕ)
     (header : honest ≡ header_bytes (canonical P)) where
@@ -128,6 +134,40 @@ stop_later A known before mid now (fault.TooLarge d X) l h = h
 stop_later A known before mid now fault.Write l h = h
 stop_later A known before mid now fault.Memory l h = h
 
+-- where no file is named, no stage is taken
+pub after_none : (A : Asked) (known : Option Content) (last : ℕ) → A.from ≡ None → last ≡ 0
+    → AfterWalk A known (λ c. last ≡ c)
+after_none A known last e z files k = (0, ap (λ from. walk_from A from files) e, z)
+
+-- the walk is the same whatever is saved
+module _ (G : PGroup) (text : List ℕ) (n : ℕ) where
+  abbrev with_paths : (from save : Option (List ℕ)) → Asked
+  with_paths from save = record { group = G; text = text; degree = n; from = from; save = save }
+
+  same_walk : (from save : Option (List ℕ)) (files : Content)
+      → walk_from (with_paths from save) from files ≡ walk_from (with_paths from None) from files
+  same_walk None save files = refl
+  same_walk (Some path) save files = refl
+
+  module _ (from save : Option (List ℕ)) (known : Option Content) where
+    pub after_saving : (Held : ℕ → Type 0) → AfterWalk (with_paths from None) known Held
+        → AfterWalk (with_paths from save) known Held
+    after_saving Held w files k = let t = w files k in (t.0, same_walk from save files ∙ t.1, t.2)
+
+    refuses_saving : (f : WalkFault) → WalkRefuses (with_paths from None) known f
+        → WalkRefuses (with_paths from save) known f
+    refuses_saving f w files k = let t = w files k in (t.0, same_walk from save files ∙ t.1)
+
+    pub stop_saving : (before now : List ℕ → ℕ) (e : StagesFault)
+        → IsWalkStop (with_paths from None) known before now e → IsWalkStop (with_paths from save) known before now e
+    stop_saving before now fault.Read h = h
+    stop_saving before now fault.Header h = refuses_saving walks.Header h
+    stop_saving before now fault.Presentation h = refuses_saving walks.Presentation h
+    stop_saving before now (fault.Record d) h = refuses_saving (walks.Record d) h
+    stop_saving before now (fault.TooLarge d X) h = h
+    stop_saving before now fault.Write h = h
+    stop_saving before now fault.Memory h = h
+
 -- stages after a walk
 
 module _ (A : Asked) (old new : Option Content) (same : new ≡ old) where
@@ -200,16 +240,28 @@ module _ (A : Asked) (H : PGroup) (group : H ≡ A.group) (header : List ℕ) (h
         ((h.0, h.1, rose_later h.0 writes writes_mid writes_now l h.2), passed)
     stop_fault reads reads_now writes writes_mid writes_now fault.Memory l h = tt
 
+-- what a header that is not written leaves
+pub begin_left : (named : Option (List ℕ)) (bytes : List ℕ) (old new : Option Content) (before now : List ℕ → ℕ)
+    (e : StagesFault) → IsWriteStop named before now e → HoldsFront named bytes old new
+    → LeavesStages named bytes old new e
+begin_left named bytes old new before now fault.Read h f = absurd h
+begin_left named bytes old new before now fault.Header h f = absurd h
+begin_left named bytes old new before now fault.Presentation h f = absurd h
+begin_left named bytes old new before now (fault.Record d) h f = absurd h
+begin_left named bytes old new before now (fault.TooLarge d X) h f = absurd h
+begin_left named bytes old new before now fault.Write h f = f
+begin_left named bytes old new before now fault.Memory h f = f
+
 -- records that are refused are those of the walk
-pub stop_numbered : (G : PGroup) (n d : ℕ) (named : Option (List ℕ)) (before now : List ℕ → ℕ) (e : StagesFault)
-    → IsStagesStop G d named before now e → IsNumbered G n e
-stop_numbered G n d named before now fault.Read h = tt
-stop_numbered G n d named before now fault.Header h = tt
-stop_numbered G n d named before now fault.Presentation h = tt
-stop_numbered G n d named before now (fault.Record k) h = absurd h
-stop_numbered G n d named before now (fault.TooLarge k X) h = tt
-stop_numbered G n d named before now fault.Write h = tt
-stop_numbered G n d named before now fault.Memory h = tt
+pub stop_numbered : (H G : PGroup) (n d : ℕ) (named : Option (List ℕ)) (before now : List ℕ → ℕ)
+    (e : StagesFault) → IsStagesStop H d named before now e → IsNumbered G n e
+stop_numbered H G n d named before now fault.Read h = tt
+stop_numbered H G n d named before now fault.Header h = tt
+stop_numbered H G n d named before now fault.Presentation h = tt
+stop_numbered H G n d named before now (fault.Record k) h = absurd h
+stop_numbered H G n d named before now (fault.TooLarge k X) h = tt
+stop_numbered H G n d named before now fault.Write h = tt
+stop_numbered H G n d named before now fault.Memory h = tt
 
 -- the stages that were not taken were computed
 pub rest_computed : (A : Asked) (known : Option Content) (last first new n : ℕ)

@@ -12,7 +12,7 @@ invariant-loop-i g l = record {
   to : l.resolution.last ≤ l.n;
   computed : l.resolution.computed + l.fn.resolution.last ≡ l.fn.resolution.computed + l.resolution.last;
   fit : Fit l.fn.resolution.group l.resolution.last;
-  held : Holds (path_of l.save) (file_with l.header.now l.fn.resolution.group l.i)
+  held : Holds (path_of l.save) (file_with l.header l.fn.resolution.group l.i)
       (g.F.Files.content l.fn.files) (g.F.Files.content l.files);
   later : NoneFell (g.F.Files.read_faults l.fn.files) (g.F.Files.read_faults l.files);
   later_writes : NoneFell (g.F.Files.write_faults l.fn.files) (g.F.Files.write_faults l.files);
