@@ -1,9 +1,8 @@
 -- A file that is read in pieces from a place on.
-use Rattle.std.proofs.Common.{◌≡◌, ℕ, ◌+◌, ◌-◌, ◌<◌, ◌≤◌, List, [], ◌++◌, length, take, drop, inl, inr, sym, ◌∙◌}
-use Rattle.std.proofs.Common.{ap, subst, arith, length-append, Some, None, true, false, Bool}
+use Rattle.std.proofs.Common.{◌≡◌, ℕ, ◌+◌, ◌-◌, ◌<◌, ◌≤◌, List, ◌++◌, length, take, drop, inl, inr, sym}
+use Rattle.std.proofs.Common.{◌∙◌, ap, subst, arith, length-append, Some, None}
 use Rattle.std.specs.declared.option.Option.{Option}
 use Rattle.std.specs.Option.{IfSome}
-use Rattle.std.proofs.lemmas.Bool.{cases_Bool, cond-true, cond-false, ltb-true, ltb-false}
 use Rattle.std.proofs.lemmas.List.{length-take, length-drop, take_min, take_all, drop-drop}
 use Rattle.std.proofs.Math.Seq.{take-add}
 use Rattle.coho_io.specs.Content.{ReadsAt}
@@ -56,6 +55,7 @@ part_at_end (Some all) from len old new k h r z l b =
 
 pub part_at_length : (o : Option (List ℕ)) (from len : ℕ) (bytes : List ℕ) → IsFrontFrom o from bytes
     → 0 < len → len ≤ length bytes → length bytes ≤ len → IsPart o from len bytes
-part_at_length None from len bytes h some full bound = let e = ap length h in absurd (omega (arith, e, some, full))
+part_at_length None from len bytes h some full bound = let e = ap length h in absurd
+    (omega (arith, e, some, full))
 part_at_length (Some all) from len bytes h some full bound =
     let e : length bytes ≡ len = omega (arith, full, bound) in h ∙ ap (λ n. take n (drop from all)) e

@@ -1,7 +1,7 @@
 -- The file that stages are saved to, as it grows.
-use Rattle.std.proofs.Common.{◌≡◌, ◌⊎◌, ℕ, zero, suc, ◌+◌, ◌-◌, ◌*◌, ◌<◌, ◌≤◌, Bool, true, false, cond, List, []}
-use Rattle.std.proofs.Common.{◌++◌, length, take, drop, Some, None, inl, inr, refl, sym, ◌∙◌, ap, subst, arith, leb}
-use Rattle.std.proofs.Common.{append_assoc, ◌≤◌}
+use Rattle.std.proofs.Common.{◌≡◌, ◌⊎◌, ℕ, zero, suc, ◌+◌, ◌-◌, ◌<◌, ◌≤◌, Bool, true, false, cond, List}
+use Rattle.std.proofs.Common.{[], ◌++◌, length, take, drop, Some, None, inl, inr, refl, sym, ◌∙◌, ap, subst}
+use Rattle.std.proofs.Common.{arith, leb, append_assoc, ◌≤◌}
 use Rattle.std.specs.declared.option.Option.{Option}
 use Rattle.std.specs.declared.result.Result.{Result}
 use Rattle.std.specs.declared.result.Result.TheVariants.{Ok, Err}
@@ -9,7 +9,8 @@ use Rattle.std.specs.Prelude.{IfErr, OnErr, OnOk}
 use Rattle.std.specs.Option.{IfSome}
 use Rattle.std.specs.Ordering.{nat_cmp, eq_by_cmp}
 use Rattle.std.specs.Cmp.Lexicographic.{slice_cmp, nat_list_cmp_total}
-use Rattle.std.specs.FinMap.{get, insert, get-insert, same_map, slice_cmp-IsAntisymmetric, nat_cmp-IsAntisymmetric}
+use Rattle.std.specs.FinMap.{get, insert, get-insert, same_map, slice_cmp-IsAntisymmetric}
+use Rattle.std.specs.FinMap.{nat_cmp-IsAntisymmetric}
 use Rattle.std.proofs.lemmas.Bool.{cond-true, cond-false, lt-leb, le-leb}
 use Rattle.std.proofs.lemmas.List.{append-nil, take-append-drop, take_at}
 use Rattle.std.proofs.lemmas.Map.Text.{is_eq-slice_cmp}
@@ -90,7 +91,8 @@ module _ (path piece : List ℕ) (old new : Option Content) where
 
   pub gains_front : AppendsFrontOrStays old new path piece → GainsFront (Some path) piece old new
   gains_front h c before e =
-      elim (told (λ files. (new ≡ Some files) ⊎ ((k : ℕ) × (new ≡ Some (with_piece files path (take k piece)))))
+      elim (told (λ files. (new ≡ Some files) ⊎
+      ((k : ℕ) × (new ≡ Some (with_piece files path (take k piece)))))
       old (with_file c path before) e h) [
         | inl s ↦ (0, s ∙ ap (λ x. Some (with_file c path x)) (sym (append-nil before)))
         | inr p ↦ (p.0, p.1 ∙ ap (λ files. Some files) (piece_behind c path before (take p.0 piece)))
@@ -256,18 +258,22 @@ module _ (G : PGroup) (header : List ℕ) (named : Option (List ℕ)) (first old
       let q = file_front G header (suc d) n (omega (arith, l)) in
       let all : file_with header G n ≡ (file_with header G d ++ record_of G (suc d)) ++ q.0 =
       q.1 ∙ ap (λ x. x ++ q.0) (file_grows G header d fit) in
-      inr (length (file_with header G d ++ take p.0 (record_of G (suc d))),
-      p.1 ∙ ap (λ x. Some (saved named x files))
-      (cut_inside (file_with header G n) (file_with header G d) (record_of G (suc d)) q.0 p.0 all))
+      inr (
+        length (file_with header G d ++ take p.0 (record_of G (suc d))),
+        p.1 ∙ ap (λ x. Some (saved named x files))
+            (cut_inside (file_with header G n) (file_with header G d) (record_of G (suc d)) q.0 p.0 all),
+      )
 
-pub too_large : (G : PGroup) (header : List ℕ) (named : Option (List ℕ)) (first old : Option Content) (d n : ℕ)
+pub too_large : (G : PGroup) (header : List ℕ) (named : Option (List ℕ)) (first old : Option Content)
+    (d n : ℕ)
     → d ≤ n → Fit G d → 4096 < dimension G (suc d) → Holds named (file_with header G d) first old
     → Holds named (file_with header G n) first old
 too_large G header named first old d n l fit above h files e =
     h files e ∙ ap (λ x. Some (saved named x files)) (sym (file_stops G header d n fit above l))
 
 -- the header alone is a front too
-pub header_front : (G : PGroup) (header : List ℕ) (named : Option (List ℕ)) (first new : Option Content) (n : ℕ)
+pub header_front : (G : PGroup) (header : List ℕ) (named : Option (List ℕ)) (first new : Option Content)
+    (n : ℕ)
     → HoldsFront named header first new → HoldsFront named (file_with header G n) first new
 header_front G header named first new n h files e =
     elim (h files e) [
@@ -275,8 +281,12 @@ header_front G header named first new n h files e =
       | inr p ↦ let q = file_front G header 0 n (omega arith) in
           let all : file_with header G n ≡ ([] ++ header) ++ q.0 =
           q.1 ∙ ap (λ x. x ++ q.0) (file_begins G header) in
-          inr (length (take p.0 header), p.1
-          ∙ ap (λ x. Some (saved named x files)) (cut_inside (file_with header G n) [] header q.0 p.0 all))
+          inr (
+            length (take p.0 header),
+            p.1
+                ∙ ap (λ x. Some (saved named x files))
+                (cut_inside (file_with header G n) [] header q.0 p.0 all),
+          )
     ]
 
 -- what an append that stops leaves

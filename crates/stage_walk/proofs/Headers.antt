@@ -1,11 +1,11 @@
 -- The front of a file against the honest header.
-use Rattle.std.proofs.Common.{◌≡◌, ℕ, ◌<◌, ◌≤◌, min, List, [], length, take, drop, Some, None, true, false, Bool}
+use Rattle.std.proofs.Common.{◌≡◌, ℕ, ◌≤◌, min, List, [], length, take, Some, None}
 use Rattle.std.proofs.Common.{inl, inr, refl, sym, ◌∙◌, ap, ap₂, subst, arith, ltb}
 use Rattle.std.specs.declared.option.Option.{Option}
 use Rattle.std.specs.Str.{bytes_eq}
-use Rattle.std.proofs.lemmas.Bool.{cases_Bool, ltb-true, ltb-false}
+use Rattle.std.proofs.lemmas.Bool.{cases_Bool, ltb-true}
 use Rattle.std.proofs.lemmas.List.{length-take, take-take, drop_all}
-use Rattle.stage_records.specs.Walks.{agrees, walk, walk_records, ended}
+use Rattle.stage_records.specs.Walks.{agrees, walk, walk_records}
 use Rattle.stage_records.specs.Walks as walks
 use Rattle.stage_records.proofs.Cuts.{walk-header, walk-presentation, walk-on, walk-nil}
 use Rattle.stage_file.specs.Headers.{header_answer}
@@ -36,12 +36,24 @@ header-says honest all =
         | inr f ↦ rw (same-agrees 8 honest all (omega arith), t, same-agrees 40 honest all (omega arith), f)
             (λ records c. walk-presentation honest records c all t f)
         | inl u ↦ elim (cases_Bool (ltb (length (take 40 all)) 40)) [
-          | inl s ↦ rw (same-agrees 8 honest all (omega arith), t, same-agrees 40 honest all (omega arith), u, s)
+          | inl s ↦ rw (
+            same-agrees 8 honest all (omega arith),
+            t,
+            same-agrees 40 honest all (omega arith),
+            u,
+            s,
+          )
               (λ records c. walk-on honest records c all t u
               ∙ ap (λ rest. walk_records records c 1 rest)
               (drop_all 40 all (omega (arith, length-take 40 all, ltb-true (length (take 40 all)) 40 s)))
               ∙ walk-nil records 1 c)
-          | inr s ↦ rw (same-agrees 8 honest all (omega arith), t, same-agrees 40 honest all (omega arith), u, s)
+          | inr s ↦ rw (
+            same-agrees 8 honest all (omega arith),
+            t,
+            same-agrees 40 honest all (omega arith),
+            u,
+            s,
+          )
               (λ records c. walk-on honest records c all t u)
         ]
       ]

@@ -1,22 +1,22 @@
 -- The loops over the records of a file, and over the stages that are saved.
-use Rattle.std.proofs.Common.{◌≡◌, ◌⊎◌, ℕ, zero, suc, ◌+◌, ◌-◌, ◌<◌, ◌≤◌, max, List, drop, Some, None, inl, inr, refl}
-use Rattle.std.proofs.Common.{sym, ◌∙◌, ap, subst, arith}
+use Rattle.std.proofs.Common.{◌≡◌, ◌⊎◌, ℕ, zero, suc, ◌+◌, ◌-◌, ◌<◌, ◌≤◌, List, drop, Some, None, inl}
+use Rattle.std.proofs.Common.{inr, sym, ◌∙◌, ap, subst, arith}
 use Rattle.std.specs.Prelude.{⊤}
 use Rattle.std.specs.declared.option.Option.{Option}
-use Rattle.coho_io.specs.Causes.{NoneFell, Rose}
+use Rattle.coho_io.specs.Causes.{NoneFell}
 use Rattle.coho_io.specs.Content.{Content, file}
 use Rattle.p_groups.specs.PGroups.{PGroup}
 use Rattle.min_res.specs.Values.{ResolutionValue}
-use Rattle.stage_records.specs.Walks.{Ends, Next, Refuses, Takes, next, walk_records}
+use Rattle.stage_records.specs.Walks.{Ends, Next, Refuses, Takes, next}
 use Rattle.stage_records.specs.Walks as walks
 use Rattle.stage_file.specs.Honest.{records_of}
 use Rattle.stage_walk.specs.declared.fault.StagesFault.{StagesFault}
 use Rattle.stage_walk.specs.declared.fault.StagesFault.TheVariants as fault
-use Rattle.stage_walk.specs.Dimensions.{dimension, Fit, IsFirstAbove}
-use Rattle.stage_walk.specs.Faults.{IsNumbered, RoseAt}
-use Rattle.stage_walk.specs.Growing.{Gains, GainsFront, Holds, HoldsFront, IsStageStop, IsStagesStop, IsWriteStop}
+use Rattle.stage_walk.specs.Dimensions.{dimension, Fit}
+use Rattle.stage_walk.specs.Growing.{Gains, GainsFront, Holds, HoldsFront, IsStageStop, IsStagesStop}
 use Rattle.stage_walk.specs.Growing.{LeavesStage, LeavesStages, file_with, record_of}
-use Rattle.stage_walk.specs.Turns.{EndsHere, GoesAt, IsRecordsStop, IsTurnStop, OfBytes, TakesOne, TakesRecords}
+use Rattle.stage_walk.specs.Turns.{EndsHere, GoesAt, IsRecordsStop, IsTurnStop, OfBytes, TakesOne}
+use Rattle.stage_walk.specs.Turns.{TakesRecords}
 use Rattle.stage_walk.proofs.Growing.{grown, stopped, too_large}
 use Rattle.stage_walk.proofs.Turns.{IsWalkedTo, walk-all, walk-end, walk-refused, walk-start, walk-step}
 use Rattle.stage_walk.proofs.Whole.{at_bytes, rose_later}
@@ -50,14 +50,16 @@ module _ (G : PGroup) (path : List ℕ) (known now : Option Content) (same : now
 
   module _ (old new : ResolutionValue) (at : ℕ) (group : old.group ≡ G) (inside : old.last < n)
       (w : HasWalked G path known n old.last at) where
-    goes : (Way : List ℕ → Next → Type 0) → OfBytes now path (GoesAt old.group old.last at Way) → (told : Content)
+    goes : (Way : List ℕ → Next → Type 0) → OfBytes now path (GoesAt old.group old.last at Way)
+        → (told : Content)
         (bytes : List ℕ) → known ≡ Some told → file told path ≡ Some bytes
         → Way (drop at bytes) (next (records_of G (suc old.last)) (drop at bytes))
     goes Way o told bytes t e =
         subst (λ H. Way (drop at bytes) (next (records_of H (suc old.last)) (drop at bytes))) group
         (at_bytes now path (GoesAt old.group old.last at Way) told bytes o (same ∙ t) e)
 
-    pub walked_one : (len : ℕ) → TakesOne old new path at now len → HasWalked G path known n new.last (at + len)
+    pub walked_one : (len : ℕ) → TakesOne old new path at now len
+        → HasWalked G path known n new.last (at + len)
     walked_one len T told bytes t e =
         subst (λ k. IsWalkedTo G n k (at + len) bytes) (sym T.grown)
         (walk-step G n bytes old.last at len inside (w told bytes t e)
@@ -71,10 +73,13 @@ module _ (G : PGroup) (path : List ℕ) (known now : Option Content) (same : now
     pub walked_end : EndsHere old new path at now → OfBytes known path (λ bytes. ⊤)
         → TakesRecords G n path known new.last
     walked_end E there told t =
-        let p = there told t in
-        (p.0, p.1, walk-end G n p.0 old.last at inside (w told p.0 t p.1)
-        (goes (λ rest way. way ≡ Ends) E.ends told p.0 t p.1)
-        ∙ ap (λ (r : ResolutionValue). record { taken = r.last; fault = None }) (sym E.same))
+        let p = there told t in (
+          p.0,
+          p.1,
+          walk-end G n p.0 old.last at inside (w told p.0 t p.1)
+              (goes (λ rest way. way ≡ Ends) E.ends told p.0 t p.1)
+              ∙ ap (λ (r : ResolutionValue). record { taken = r.last; fault = None }) (sym E.same),
+        )
 
     module _ (before mid after : List ℕ → ℕ) (later : NoneFell before mid) (fit : Fit G old.last)
         (there : OfBytes known path (λ bytes. ⊤)) where
@@ -87,11 +92,19 @@ module _ (G : PGroup) (path : List ℕ) (known now : Option Content) (same : now
         λ told t. let p = there told t in
             let r = walk-refused G n p.0 old.last at inside (w told p.0 t p.1)
             (goes (λ rest way. way ≡ Refuses) h.1 told p.0 t p.1) in
-            let same_number : suc old.last ≡ d = sym h.0 in
-            (p.0, p.1, (old.last + 0,
-            r ∙ ap (λ k. record { taken = old.last + 0; fault = Some (walks.Record k) }) same_number)),
-        (omega (arith, h.0), omega (arith, h.0, inside),
-        let e : old.last ≡ d - 1 = omega (arith, h.0) in subst (Fit G) e fit),
+            let same_number : suc old.last ≡ d = sym h.0 in (
+              p.0,
+              p.1,
+              (
+                old.last + 0,
+                r ∙ ap (λ k. record { taken = old.last + 0; fault = Some (walks.Record k) }) same_number,
+              ),
+            ),
+        (
+          omega (arith, h.0),
+          omega (arith, h.0, inside),
+          let e : old.last ≡ d - 1 = omega (arith, h.0) in subst (Fit G) e fit,
+        ),
       )
       turn_stop (fault.TooLarge d X) h = absurd h
       turn_stop fault.Write h = absurd h
@@ -121,7 +134,8 @@ module _ (G : PGroup) (header : List ℕ) (named : Option (List ℕ)) (first old
       (subst (λ K. GainsFront named (record_of K (suc d)) old new) group
       (subst (λ k. GainsFront named (record_of H k) old new) number g))
 
-  module _ (H : PGroup) (e : ℕ) (group : H ≡ G) (number : e ≡ suc d) (before mid after : List ℕ → ℕ) (fit : Fit G d) where
+  module _ (H : PGroup) (e : ℕ) (group : H ≡ G) (number : e ≡ suc d) (before mid after : List ℕ → ℕ)
+      (fit : Fit G d) where
     pub stage_left : (f : StagesFault) → IsStageStop H e named mid after f
         → LeavesStage named (record_of H e) old new f → LeavesStages named (file_with header G n) first new f
     stage_left fault.Read s l = absurd s

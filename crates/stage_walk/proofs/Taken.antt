@@ -1,5 +1,5 @@
 -- The stages that are taken from a file, by its header and its records.
-use Rattle.std.proofs.Common.{◌≡◌, ℕ, Bool, true, false, List, ap, subst}
+use Rattle.std.proofs.Common.{◌≡◌, ℕ, Bool, true, false, List, subst}
 use Rattle.std.specs.declared.option.Option.{Option}
 use Rattle.coho_io.specs.Causes.{NoneFell}
 use Rattle.coho_io.specs.Content.{Content}
@@ -33,9 +33,11 @@ module _ (G : PGroup) (P : Presentation) (n : ℕ) (path : List ℕ) (known : Op
         → AfterWalk (asked_from G P n path) known (λ count. last ≡ count)
     taken_all last t =
         after_records G P n path known honest header last goes
-        (subst (λ K. TakesRecords K n path known last) group (subst (λ k. TakesRecords H n path k last) same t))
+        (subst (λ K. TakesRecords K n path known last) group
+        (subst (λ k. TakesRecords H n path k last) same t))
 
-    module _ (before mid after : List ℕ → ℕ) (e : StagesFault) (h : IsRecordsStop H n path now mid after e) where
+    module _ (before mid after : List ℕ → ℕ) (e : StagesFault)
+        (h : IsRecordsStop H n path now mid after e) where
       here : IsRecordsStop G n path known mid after e
       here = subst (λ K. IsRecordsStop K n path known mid after e) group
           (subst (λ k. IsRecordsStop H n path k mid after e) same h)

@@ -1,14 +1,16 @@
 -- One record of a file, read and taken up, and the walk over all of them.
-use Rattle.std.proofs.Common.{◌≡◌, ℕ, zero, suc, ◌+◌, ◌-◌, ◌*◌, ◌^◌, ◌<◌, ◌≤◌, ◌&&◌, Bool, true, false, List, length}
-use Rattle.std.proofs.Common.{[], take, drop, Some, None, ◌⊎◌, inl, inr, refl, sym, ◌∙◌, ap, subst, arith, cond, ltb, leb}
+use Rattle.std.proofs.Common.{◌≡◌, ℕ, suc, ◌+◌, ◌-◌, ◌*◌, ◌^◌, ◌<◌, ◌≤◌, true, false, List}
+use Rattle.std.proofs.Common.{length, [], take, drop, Some, None, ◌⊎◌, inl, inr, refl, sym, ◌∙◌, ap, subst}
+use Rattle.std.proofs.Common.{arith, ltb, leb}
 use Rattle.std.specs.declared.option.Option.{Option}
-use Rattle.std.proofs.lemmas.Bool.{cases_Bool, cond-true, cond-false, ltb-true, ltb-false, leb-true, and_parts}
+use Rattle.std.proofs.lemmas.Bool.{cases_Bool, cond-true, cond-false, ltb-true, leb-true}
+use Rattle.std.proofs.lemmas.Bool.{and_parts}
 use Rattle.std.proofs.lemmas.List.{length-take, take_all, drop-drop}
 use Rattle.coho_io.specs.Content.{Content, file}
 use Rattle.p_groups.specs.PGroups.{PGroup, order_of}
 use Rattle.resolution_stages.specs.Checks.{StageParts}
 use Rattle.resolution_stages.specs.Chain.{parts_of}
-use Rattle.min_res.specs.Stages.{stage_rows, rank_of}
+use Rattle.min_res.specs.Stages.{stage_rows}
 use Rattle.min_res.specs.RecordChecks.{IsFirstFailure, MayFollow, Passes}
 use Rattle.min_res.specs.declared.check.Check.{Check}
 use Rattle.min_res.proofs.NextParts.{all-passes, passes}
@@ -16,8 +18,8 @@ use Rattle.stage_records.specs.declared.shape.Shape.{Shape}
 use Rattle.stage_records.specs.declared.field.Field.{Field}
 use Rattle.stage_records.specs.Claims.{FrontClaims}
 use Rattle.stage_records.specs.Readings.{AreBytes, Cut, Whole, Malformed, read_record}
-use Rattle.stage_records.specs.Walks.{length_at, is_in_range, Ends, Takes, Refuses, Next, next, Walked, ended, one_more}
-use Rattle.stage_records.specs.Walks.{refused, walk_records}
+use Rattle.stage_records.specs.Walks.{length_at, is_in_range, Ends, Takes, Refuses, Next, next, Walked, ended}
+use Rattle.stage_records.specs.Walks.{one_more, walk_records}
 use Rattle.stage_records.specs.Walks as walks
 use Rattle.stage_records.proofs.Buffers.{front-claims}
 use Rattle.stage_records.proofs.Cuts.{walk-ends, walk-takes, walk-refuses}
@@ -26,7 +28,7 @@ use Rattle.stage_records.proofs.Tests.{IsWhole, whole-tests}
 use Rattle.stage_file.specs.Headers.{ranged}
 use Rattle.stage_file.specs.Honest.{records_of, IsShapeAt, IsVerdict}
 use Rattle.stage_file.proofs.Honest.{honest, small-parts}
-use Rattle.stage_walk.specs.Dimensions.{dimension, Fit}
+use Rattle.stage_walk.specs.Dimensions.{dimension}
 use Rattle.stage_walk.specs.Pieces.{IsPart, IsRecordPart, front_size, range_at}
 use Rattle.stage_walk.specs.Turns.{OfBytes, GoesAt}
 
@@ -36,7 +38,8 @@ pub range_some : (bytes : List ℕ) (L : ℕ) → range_at bytes ≡ Some L
     → (is_in_range (length_at bytes) ≡ true) × (L ≡ length_at bytes) × (36 ≤ L) × (L ≤ 16781348)
 range_some bytes L e =
     elim (cases_Bool (ltb (length bytes) 4)) [
-      | inl t ↦ let z : None ≡ Some L = sym (cond-true (ltb (length bytes) 4) None (ranged (length_at bytes)) t) ∙ e in absurd (cc)
+      | inl t ↦ let z : None ≡ Some L = sym
+          (cond-true (ltb (length bytes) 4) None (ranged (length_at bytes)) t) ∙ e in absurd (cc)
       | inr f ↦ in-range (cases_Bool (is_in_range (length_at bytes)))
           (sym (cond-false (ltb (length bytes) 4) None (ranged (length_at bytes)) f) ∙ e)
     ]
@@ -44,10 +47,12 @@ range_some bytes L e =
     in-range : (is_in_range (length_at bytes) ≡ true) ⊎ (is_in_range (length_at bytes) ≡ false)
         → ranged (length_at bytes) ≡ Some L
         → (is_in_range (length_at bytes) ≡ true) × (L ≡ length_at bytes) × (36 ≤ L) × (L ≤ 16781348)
-    in-range (inr r) h = let z : None ≡ Some L = sym (cond-false (is_in_range (length_at bytes)) (Some (length_at bytes)) None r) ∙ h in
+    in-range (inr r) h = let z : None ≡ Some L = sym
+        (cond-false (is_in_range (length_at bytes)) (Some (length_at bytes)) None r) ∙ h in
         absurd (cc)
     in-range (inl r) h =
-        let z : Some (length_at bytes) ≡ Some L = sym (cond-true (is_in_range (length_at bytes)) (Some (length_at bytes)) None r) ∙ h in
+        let z : Some (length_at bytes) ≡ Some L = sym
+        (cond-true (is_in_range (length_at bytes)) (Some (length_at bytes)) None r) ∙ h in
         let same : L ≡ length_at bytes = cc in
         let both = and_parts (leb 36 (length_at bytes)) (leb (length_at bytes) 16781348) r in (
           r,
@@ -113,13 +118,15 @@ length_none (Some all) at bytes h e =
 
 -- what comes of a record by its bytes alone comes of it in the file
 
-pub of_part : (o : Option (List ℕ)) (at : ℕ) (bytes : List ℕ) (Holds : List ℕ → Type 0) → IsRecordPart o at bytes
+pub of_part : (o : Option (List ℕ)) (at : ℕ) (bytes : List ℕ) (Holds : List ℕ → Type 0)
+    → IsRecordPart o at bytes
     → ((all : List ℕ) → bytes ≡ take (front_size (drop at all)) (drop at all) → Holds all)
     → (all : List ℕ) × (o ≡ Some all) × Holds all
 of_part None at bytes Holds h f = absurd h
 of_part (Some all) at bytes Holds h f = (all, refl, f all h)
 
-passing : (G : PGroup) (d : ℕ) (Q : StageParts) → MayFollow G d Q → Q ≡ parts_of (stage_rows G) d → Passes G d Q
+passing : (G : PGroup) (d : ℕ) (Q : StageParts) → MayFollow G d Q → Q ≡ parts_of (stage_rows G) d
+    → Passes G d Q
 passing G d Q F e = passes G d Q F e
 
 module _ (G : PGroup) (d : ℕ) (shape : Shape) (bytes : List ℕ) (low : suc d ≤ 24) (H : IsShapeAt G d shape)
@@ -238,7 +245,8 @@ module _ (G : PGroup) (n : ℕ) (bytes : List ℕ) where
       ≡ one_more (walk_records (records_of G) (n - suc k) (suc (suc k)) (drop (at + len) bytes)) =
       ap (λ m. walk_records (records_of G) m (suc k) (drop at bytes)) e
       ∙ walk-takes (records_of G) (n - suc k) (suc k) (drop at bytes) (drop len (drop at bytes)) t
-      ∙ ap (λ x. one_more (walk_records (records_of G) (n - suc k) (suc (suc k)) x)) (drop-drop len at bytes) in
+      ∙ ap (λ x. one_more (walk_records (records_of G) (n - suc k) (suc (suc k)) x))
+      (drop-drop len at bytes) in
       h ∙ ap (plus k) w ∙ more (walk_records (records_of G) (n - suc k) (suc (suc k)) (drop (at + len) bytes))
     where
       more : (w : Walked) → plus k (one_more w) ≡ plus (suc k) w
@@ -269,5 +277,6 @@ module _ (G : PGroup) (n : ℕ) (bytes : List ℕ) where
   walk-all k at l h =
       let e : n - k ≡ 0 = omega (arith, l) in
       let z : k + 0 ≡ k = omega arith in
-      h ∙ ap (plus k) (ap (λ m. walk_records (records_of G) m (suc k) (drop at bytes)) e ∙ walk-zero (records_of G) (suc k) (drop at bytes))
+      h ∙ ap (plus k) (ap (λ m. walk_records (records_of G) m (suc k) (drop at bytes)) e
+      ∙ walk-zero (records_of G) (suc k) (drop at bytes))
       ∙ ap (λ m. record { taken = m; fault = None }) z

@@ -1,6 +1,6 @@
 -- The walk over a file, and the stages with both files, from their parts.
-use Rattle.std.proofs.Common.{◌≡◌, ◌⊎◌, ℕ, suc, ◌+◌, ◌-◌, ◌<◌, ◌≤◌, min, List, take, drop, Some, None, inl, inr, refl}
-use Rattle.std.proofs.Common.{sym, ◌∙◌, ap, subst, arith}
+use Rattle.std.proofs.Common.{◌≡◌, ℕ, ◌+◌, ◌-◌, ◌≤◌, List, take, drop, Some, None, inl}
+use Rattle.std.proofs.Common.{inr, refl, sym, ◌∙◌, ap, subst, arith}
 use Rattle.std.specs.Prelude.{⊤}
 use Rattle.std.specs.declared.option.Option.{Option}
 use Rattle.std.specs.Option.{option_map}
@@ -15,9 +15,10 @@ use Rattle.stage_records.specs.Walks as walks
 use Rattle.stage_file.specs.Honest.{records_of, walk_of}
 use Rattle.stage_walk.specs.declared.fault.StagesFault.{StagesFault}
 use Rattle.stage_walk.specs.declared.fault.StagesFault.TheVariants as fault
-use Rattle.stage_walk.specs.Asked.{Asked, AfterWalk, AreKnown, Refuses, Takes, WalkRefuses, asked_from, walk_from}
+use Rattle.stage_walk.specs.Asked.{Asked, AfterWalk, AreKnown, WalkRefuses, asked_from}
+use Rattle.stage_walk.specs.Asked.{walk_from}
 use Rattle.stage_walk.specs.Dimensions.{IsFirstAbove}
-use Rattle.stage_walk.specs.Faults.{IsNumbered, IsStagesFault, IsWalkStop, RoseAt}
+use Rattle.stage_walk.specs.Faults.{IsNumbered, IsStagesFault, IsWalkStop}
 use Rattle.stage_walk.specs.Growing.{Holds, HoldsFront, IsStagesStop, IsWriteStop, LeavesStages, file_with}
 use Rattle.stage_walk.specs.Saved.{Leaves, SavesAll, SavesFront, saved}
 use Rattle.stage_walk.specs.Turns.{EndsAtHeader, GoesOn, IsHeaderStop, IsRecordsStop, OfBytes, RefusesHeader}
@@ -159,7 +160,8 @@ module _ (G : PGroup) (text : List ℕ) (n : ℕ) where
     refuses_saving f w files k = let t = w files k in (t.0, same_walk from save files ∙ t.1)
 
     pub stop_saving : (before now : List ℕ → ℕ) (e : StagesFault)
-        → IsWalkStop (with_paths from None) known before now e → IsWalkStop (with_paths from save) known before now e
+        → IsWalkStop (with_paths from None) known before now e
+        → IsWalkStop (with_paths from save) known before now e
     stop_saving before now fault.Read h = h
     stop_saving before now fault.Header h = refuses_saving walks.Header h
     stop_saving before now fault.Presentation h = refuses_saving walks.Presentation h
@@ -172,7 +174,8 @@ module _ (G : PGroup) (text : List ℕ) (n : ℕ) where
 
 module _ (A : Asked) (old new : Option Content) (same : new ≡ old) where
   -- a walk that stops leaves the files
-  pub walk_leaves : (before now : List ℕ → ℕ) (e : StagesFault) → IsWalkStop A old before now e → Leaves A old new e
+  pub walk_leaves : (before now : List ℕ → ℕ) (e : StagesFault) → IsWalkStop A old before now e
+      → Leaves A old new e
   walk_leaves before now fault.Read h = same
   walk_leaves before now fault.Header h = same
   walk_leaves before now fault.Presentation h = same
@@ -192,7 +195,8 @@ walk_fault A known reads reads_now writes writes_now (fault.TooLarge d X) h = ab
 walk_fault A known reads reads_now writes writes_now fault.Write h = absurd h
 walk_fault A known reads reads_now writes writes_now fault.Memory h = tt
 
-module _ (A : Asked) (H : PGroup) (group : H ≡ A.group) (header : List ℕ) (honest : header ≡ header_bytes A.text)
+module _ (A : Asked) (H : PGroup) (group : H ≡ A.group) (header : List ℕ)
+    (honest : header ≡ header_bytes A.text)
     (old mid new : Option Content) (same : mid ≡ old) where
   file_is : file_with header H A.degree ≡ file_with (header_bytes A.text) A.group A.degree
   file_is = ap (λ G. file_with header G A.degree) group ∙ ap (λ h. file_with h A.group A.degree) honest
@@ -207,8 +211,12 @@ module _ (A : Asked) (H : PGroup) (group : H ≡ A.group) (header : List ℕ) (h
       let t = w told (inl k) in
       elim (h told (same ∙ k)) [
         | inl s ↦ inl s
-        | inr p ↦ inr (p.0, t.0, t.1,
-            p.1 ∙ ap (λ bytes. Some (saved A.save (take p.0 bytes) told)) file_is)
+        | inr p ↦ inr (
+          p.0,
+          t.0,
+          t.1,
+          p.1 ∙ ap (λ bytes. Some (saved A.save (take p.0 bytes) told)) file_is,
+        )
       ]
 
   module _ (count : ℕ) (w : AfterWalk A old (λ c. count ≡ c)) where
@@ -241,7 +249,8 @@ module _ (A : Asked) (H : PGroup) (group : H ≡ A.group) (header : List ℕ) (h
     stop_fault reads reads_now writes writes_mid writes_now fault.Memory l h = tt
 
 -- what a header that is not written leaves
-pub begin_left : (named : Option (List ℕ)) (bytes : List ℕ) (old new : Option Content) (before now : List ℕ → ℕ)
+pub begin_left : (named : Option (List ℕ)) (bytes : List ℕ) (old new : Option Content)
+    (before now : List ℕ → ℕ)
     (e : StagesFault) → IsWriteStop named before now e → HoldsFront named bytes old new
     → LeavesStages named bytes old new e
 begin_left named bytes old new before now fault.Read h f = absurd h

@@ -1,7 +1,7 @@
 -- Why there are no stages to the last degree.
 use Rattle.std.specs.Prelude.{◌≡◌, ℕ, ◌-◌, ◌≤◌, List, ⊤}
 use Rattle.std.specs.declared.option.Option.{Option}
-use Rattle.std.specs.declared.option.Option.TheVariants.{None, Some}
+use Rattle.std.specs.declared.option.Option.TheVariants.{Some}
 use Rattle.coho_io.specs.Causes.{Rose}
 use Rattle.coho_io.specs.Content.{Content}
 use Rattle.p_groups.specs.PGroups.{PGroup}

@@ -1,8 +1,7 @@
 -- The file that stages are saved to, as it grows.
 use Rattle.std.specs.Prelude.{◌≡◌, ◌⊎◌, ℕ, ◌<◌, List, ◌++◌, take, ⊤}
 use Rattle.std.specs.declared.option.Option.{Option}
-use Rattle.std.specs.declared.option.Option.TheVariants.{None, Some}
-use Rattle.coho_io.specs.Causes.{Rose}
+use Rattle.std.specs.declared.option.Option.TheVariants.{Some}
 use Rattle.coho_io.specs.Content.{Content, or_empty}
 use Rattle.limits.specs.declared.TheConstants.{GREATEST_DIMENSION}
 use Rattle.p_groups.specs.PGroups.{PGroup}

@@ -1,5 +1,5 @@
 -- What comes of the header and of one record of a file.
-use Rattle.std.specs.Prelude.{◌≡◌, ℕ, suc, ◌≤◌, ◌^◌, Bool, true, false, not, List, length, drop, nat_lt, ⊤}
+use Rattle.std.specs.Prelude.{◌≡◌, ℕ, suc, ◌≤◌, ◌^◌, Bool, true, false, not, List, drop, ⊤}
 use Rattle.std.specs.declared.option.Option.{Option}
 use Rattle.std.specs.declared.option.Option.TheVariants.{None, Some}
 use Rattle.coho_io.specs.Causes.{Rose}
@@ -7,7 +7,8 @@ use Rattle.coho_io.specs.Content.{Content, file}
 use Rattle.limits.specs.declared.TheConstants.{GREATEST_DIMENSION}
 use Rattle.p_groups.specs.PGroups.{PGroup}
 use Rattle.min_res.specs.Values.{ResolutionValue}
-use Rattle.stage_records.specs.Walks.{agrees, walk, walk_records, Ends, Takes, Refuses, Next, next, Walked, WalkFault}
+use Rattle.stage_records.specs.Walks.{walk, walk_records, Ends, Takes, Refuses, Next, next}
+use Rattle.stage_records.specs.Walks.{WalkFault}
 use Rattle.stage_records.specs.Walks as walks
 use Rattle.stage_file.specs.Honest.{records_of}
 use Rattle.stage_walk.specs.declared.fault.StagesFault.{StagesFault}
@@ -87,7 +88,8 @@ module _ (G : PGroup) (n : ℕ) (path : List ℕ) (known : Option Content) where
   -- record d is refused
   abbrev pub RefusesRecord : ℕ → Type 0
   RefusesRecord d = OfBytes known path (λ bytes. (c : ℕ)
-      × (walk_records (records_of G) n 1 (drop 40 bytes) ≡ record { taken = c; fault = Some (walks.Record d) }))
+      × (walk_records (records_of G) n 1 (drop 40 bytes)
+      ≡ record { taken = c; fault = Some (walks.Record d) }))
 
   -- why the records are not all taken
   abbrev pub IsRecordsStop : (before now : List ℕ → ℕ) → StagesFault → Type 0

@@ -7,13 +7,11 @@ mod pieces;
 mod records;
 mod resolving;
 mod saving;
-
 mod walking;
 
 pub use fault::StagesFault;
 pub use resolving::stages;
 pub use walking::taken_stages;
-
 
 #[cfg(test)]
 mod tests;

@@ -52,8 +52,9 @@ fn first_stages<F: Files>(
 /// computed; a record that is not the honest one is refused, with its number. Where a file `save` is named,
 /// it is made anew, after all of `from` was read, and gains the header and one record after the other.
 ///
-/// `Read` and `Write` come where a call on that file failed. `TooLarge` comes exactly at the first degree to n
-/// in which the order of the group times the rank is above the limit; the file then has the records before it.
+/// `Read` and `Write` come where a call on that file failed. `TooLarge` comes exactly at the first degree
+/// to n in which the order of the group times the rank is above the limit; the file then has the records
+/// before it.
 pub fn stages<F: Files>(
     alloc: Global,
     c: &Consistent,

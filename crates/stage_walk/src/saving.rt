@@ -7,7 +7,8 @@ ghost use Rattle.limits.specs.declared.TheConstants.{GREATEST_DEGREE};
 ghost use Rattle.stage_walk.specs.Asked.{path_of};
 ghost use Rattle.stage_walk.specs.Dimensions.{Fit};
 ghost use Rattle.stage_walk.specs.Growing.{Gains, GainsFront, Holds, HoldsFront, IsStageStop, IsStagesStop};
-ghost use Rattle.stage_walk.specs.Growing.{IsTooLarge, IsWriteStop, LeavesStage, LeavesStages, file_with, record_of};
+ghost use Rattle.stage_walk.specs.Growing.{IsTooLarge, IsWriteStop, LeavesStage, LeavesStages, file_with};
+ghost use Rattle.stage_walk.specs.Growing.{record_of};
 
 use crate::StagesFault;
 use coho_io::{Fault, Files};
@@ -34,11 +35,7 @@ fn append<F: Files>(files: &mut F, path: &str, piece: &[u8]) -> Result<(), Stage
 }
 
 // Makes the file with its header, where one is named.
-fn begin<F: Files>(
-    files: &mut F,
-    save: Option<&str>,
-    header: &[u8; 40],
-) -> Result<(), StagesFault>
+fn begin<F: Files>(files: &mut F, save: Option<&str>, header: &[u8; 40]) -> Result<(), StagesFault>
     ensures held { OnOk result
         (Holds (path_of save.entry) header.now (F.content files.old) (F.content files.new)) }
     ensures front { OnErr result
@@ -138,8 +135,8 @@ fn save_stage<F: Files>(
     append_record(alloc, resolution, d, files, save)
 }
 
-/// The stages to degree n: those of the resolution, and from there on computed ones. Where a file is named, it
-/// is made with this header and the records of all of them.
+/// The stages to degree n: those of the resolution, and from there on computed ones. Where a file is named,
+/// it is made with this header and the records of all of them.
 pub(crate) fn save_stages<F: Files>(
     alloc: Global,
     resolution: &mut Resolution,
@@ -153,14 +150,15 @@ pub(crate) fn save_stages<F: Files>(
     requires fit { Fit resolution.old.group resolution.old.last }
     ensures group { resolution.new.group ≡ resolution.old.group }
     ensures last { OnOk result (resolution.new.last ≡ n) }
-    ensures computed { OnOk result (resolution.new.computed + resolution.old.last ≡ resolution.old.computed + n) }
+    ensures computed { OnOk result
+        (resolution.new.computed + resolution.old.last ≡ resolution.old.computed + n) }
     ensures fit { OnOk result (Fit resolution.old.group n) }
     ensures saved { OnOk result (Holds (path_of save.entry) (file_with header.now resolution.old.group n)
         (F.content files.old) (F.content files.new)) }
     ensures refused { IfErr result (IsStagesStop resolution.old.group n (path_of save.entry)
         (F.write_faults files.old) (F.write_faults files.new)) }
-    ensures left { IfErr result (LeavesStages (path_of save.entry) (file_with header.now resolution.old.group n)
-        (F.content files.old) (F.content files.new)) }
+    ensures left { IfErr result (LeavesStages (path_of save.entry)
+        (file_with header.now resolution.old.group n) (F.content files.old) (F.content files.new)) }
     ensures later { NoneFell (F.read_faults files.old) (F.read_faults files.new) }
     ensures later_writes { NoneFell (F.write_faults files.old) (F.write_faults files.new) }
 {

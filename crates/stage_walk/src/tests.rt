@@ -64,7 +64,15 @@ fn taken(rt: &impl Abort, alloc: Global, bytes: &[u8]) -> Result<Result<u32, Sta
 fn takes_whole_records(rt: HostRuntime) -> Result<(), Fail> {
     let alloc = rt.alloc();
     let whole = whole_file(&rt, alloc)?;
-    for (len, left) in [(0, 3), (39, 3), (40, 3), (86, 2), (131, 2), (177, 1), (178, 0)] {
+    for (len, left) in [
+        (0, 3),
+        (39, 3),
+        (40, 3),
+        (86, 2),
+        (131, 2),
+        (177, 1),
+        (178, 0),
+    ] {
         assert!(rt; len <= whole.len());
         assert_eq!(rt; taken(&rt, alloc, &whole[..len])?, Ok(left), "{len} bytes");
     }
@@ -96,7 +104,10 @@ fn refuses_an_altered_record_with_its_digest(rt: HostRuntime) -> Result<(), Fail
     bytes[142] ^= 1;
     let digest = Sha256::digest(&bytes[136..146]);
     bytes[146..].copy_from_slice(&digest);
-    assert_eq!(rt; taken(&rt, alloc, &bytes)?, Err(StagesFault::Record { number: 3 }));
+    assert_eq!(rt;
+        taken(&rt, alloc, &bytes)?,
+        Err(StagesFault::Record { number: 3 })
+    );
     Ok(())
 }
 

@@ -1,4 +1,4 @@
-use Rattle.std.proofs.Common.{◌≡◌, ◌+◌, ◌*◌, ◌^◌, ◌<◌, ◌≤◌, suc, length, drop, refl, arith, sym, ap, subst}
+use Rattle.std.proofs.Common.{◌≡◌, ◌*◌, ◌^◌, ◌<◌, ◌≤◌, suc, length, drop, refl, arith, sym, ap, subst}
 use Rattle.coho_io.specs.Content.{file}
 use Rattle.min_res.specs.RecordChecks.{IsNotAdopted}
 use Rattle.min_res.specs.declared.adopt_fault.AdoptFault.TheVariants as fault
@@ -16,25 +16,29 @@ returns-in-Cut-clause-turn g c =
     let low : suc c.args.resolution.now.last ≤ 24 = omega (arith, c.requires.before) in
     record {
       same = refl;
-      ends = ends_turn c.args.resolution.now.group c.args.resolution.now.last c.shape_after.result c.deref.result.now low
-    c.shape_after.ensures (c.next_of.ensures.verdict c.args.resolution.now.group
-    c.args.resolution.now.last low c.shape_after.ensures) c.next_of.ensures.bytes
-    (g.F.Files.content c.args.files.now) c.args.path.now c.args.at
-    (λ told t. subst (IsRecordPart (file told c.args.path.now) c.args.at) (sym c.deref.ensures.value)
-    (c.in_ok-bytes.ensures.part told t))
+      ends = ends_turn c.args.resolution.now.group c.args.resolution.now.last c.shape_after.result
+          c.deref.result.now low
+          c.shape_after.ensures (c.next_of.ensures.verdict c.args.resolution.now.group
+          c.args.resolution.now.last low c.shape_after.ensures) c.next_of.ensures.bytes
+          (g.F.Files.content c.args.files.now) c.args.path.now c.args.at
+          (λ told t. subst (IsRecordPart (file told c.args.path.now) c.args.at) (sym c.deref.ensures.value)
+          (c.in_ok-bytes.ensures.part told t))
           (sym c.in-Cut.ensures.reading);
     }
 
 pub returns-in-Malformed-clause-refused : goal.returns-in-Malformed-clause-refused
 returns-in-Malformed-clause-refused g c =
-    let low : suc c.args.resolution.now.last ≤ 24 = omega (arith, c.requires.before) in
-    (omega (arith, c.last-number.ensures), refuses_turn c.args.resolution.now.group c.args.resolution.now.last c.shape_after.result c.deref.result.now low
-    c.shape_after.ensures (c.next_of.ensures.verdict c.args.resolution.now.group
-    c.args.resolution.now.last low c.shape_after.ensures) c.next_of.ensures.bytes
-    (g.F.Files.content c.args.files.now) c.args.path.now c.args.at
-    (λ told t. subst (IsRecordPart (file told c.args.path.now) c.args.at) (sym c.deref.ensures.value)
-    (c.in_ok-bytes.ensures.part told t))
-    c.in-Malformed.field-0 (sym c.in-Malformed.ensures.reading))
+    let low : suc c.args.resolution.now.last ≤ 24 = omega (arith, c.requires.before) in (
+      omega (arith, c.last-number.ensures),
+      refuses_turn c.args.resolution.now.group c.args.resolution.now.last
+          c.shape_after.result c.deref.result.now low
+          c.shape_after.ensures (c.next_of.ensures.verdict c.args.resolution.now.group
+          c.args.resolution.now.last low c.shape_after.ensures) c.next_of.ensures.bytes
+          (g.F.Files.content c.args.files.now) c.args.path.now c.args.at
+          (λ told t. subst (IsRecordPart (file told c.args.path.now) c.args.at) (sym c.deref.ensures.value)
+          (c.in_ok-bytes.ensures.part told t))
+          c.in-Malformed.field-0 (sym c.in-Malformed.ensures.reading),
+    )
 
 pub adopt-requires-clause-follows : goal.adopt-requires-clause-follows
 adopt-requires-clause-follows g c =
@@ -59,34 +63,41 @@ returns-in-Ok-clause-turn g c =
     = omega (arith, ap length c.deref.ensures.value, c.len.ensures) in
     record {
       grown = c.in-Ok.ensures.grown;
-      within = within c.args.resolution.now.group c.args.resolution.now.last c.shape_after.result c.deref.result.now low
-    c.shape_after.ensures (c.next_of.ensures.verdict c.args.resolution.now.group
-    c.args.resolution.now.last low c.shape_after.ensures) c.next_of.ensures.bytes
+      within = within c.args.resolution.now.group c.args.resolution.now.last c.shape_after.result
+          c.deref.result.now low
+          c.shape_after.ensures (c.next_of.ensures.verdict c.args.resolution.now.group
+          c.args.resolution.now.last low c.shape_after.ensures) c.next_of.ensures.bytes
           (parts_of_ref c.in-Whole.parts) (sym c.in-Whole.ensures.reading) c.in-Ok.ensures.next;
       short = omega (arith, c.in_ok-bytes.ensures.short, c.len.ensures);
       takes = subst (λ n. OfBytes (g.F.Files.content c.args.files.now) c.args.path.now
-    (GoesAt c.args.resolution.now.group c.args.resolution.now.last c.args.at
-    (λ rest way. way ≡ Takes (drop n rest)))) l (takes_turn c.args.resolution.now.group c.args.resolution.now.last c.shape_after.result c.deref.result.now low
-    c.shape_after.ensures (c.next_of.ensures.verdict c.args.resolution.now.group
-    c.args.resolution.now.last low c.shape_after.ensures) c.next_of.ensures.bytes
-    (g.F.Files.content c.args.files.now) c.args.path.now c.args.at
-    (λ told t. subst (IsRecordPart (file told c.args.path.now) c.args.at) (sym c.deref.ensures.value)
-    (c.in_ok-bytes.ensures.part told t))
-    (parts_of_ref c.in-Whole.parts) (sym c.in-Whole.ensures.reading) c.in-Ok.ensures.next);
+          (GoesAt c.args.resolution.now.group c.args.resolution.now.last c.args.at
+          (λ rest way. way ≡ Takes (drop n rest)))) l
+          (takes_turn c.args.resolution.now.group c.args.resolution.now.last c.shape_after.result
+          c.deref.result.now low
+          c.shape_after.ensures (c.next_of.ensures.verdict c.args.resolution.now.group
+          c.args.resolution.now.last low c.shape_after.ensures) c.next_of.ensures.bytes
+          (g.F.Files.content c.args.files.now) c.args.path.now c.args.at
+          (λ told t. subst (IsRecordPart (file told c.args.path.now) c.args.at) (sym c.deref.ensures.value)
+          (c.in_ok-bytes.ensures.part told t))
+          (parts_of_ref c.in-Whole.parts) (sym c.in-Whole.ensures.reading) c.in-Ok.ensures.next);
     }
 
 pub returns-in-Err-False-clause-refused : goal.returns-in-Err-False-clause-refused
 returns-in-Err-False-clause-refused g c =
     let low : suc c.args.resolution.now.last ≤ 24 = omega (arith, c.requires.before) in
-    let N : IsNotAdopted c.args.resolution.now.group c.args.resolution.now.last (parts_of_ref c.in-Whole.parts)
+    let N : IsNotAdopted c.args.resolution.now.group c.args.resolution.now.last
+    (parts_of_ref c.in-Whole.parts)
     (fault.False c.in-Err-False.field-0-0 c.in-Err-False.field-0-1) = subst
     (IsNotAdopted c.args.resolution.now.group c.args.resolution.now.last (parts_of_ref c.in-Whole.parts))
-    c.in-Err-False.field-0-is c.in-Err-False.ensures.refused in
-    (omega (arith, c.last-number.ensures), fails_turn c.args.resolution.now.group c.args.resolution.now.last c.shape_after.result c.deref.result.now low
-    c.shape_after.ensures (c.next_of.ensures.verdict c.args.resolution.now.group
-    c.args.resolution.now.last low c.shape_after.ensures) c.next_of.ensures.bytes
-    (g.F.Files.content c.args.files.now) c.args.path.now c.args.at
-    (λ told t. subst (IsRecordPart (file told c.args.path.now) c.args.at) (sym c.deref.ensures.value)
-    (c.in_ok-bytes.ensures.part told t))
-    (parts_of_ref c.in-Whole.parts) N.0 c.in-Err-False.field-0-1
-    (sym c.in-Whole.ensures.reading) N.2)
+    c.in-Err-False.field-0-is c.in-Err-False.ensures.refused in (
+      omega (arith, c.last-number.ensures),
+      fails_turn c.args.resolution.now.group c.args.resolution.now.last
+          c.shape_after.result c.deref.result.now low
+          c.shape_after.ensures (c.next_of.ensures.verdict c.args.resolution.now.group
+          c.args.resolution.now.last low c.shape_after.ensures) c.next_of.ensures.bytes
+          (g.F.Files.content c.args.files.now) c.args.path.now c.args.at
+          (λ told t. subst (IsRecordPart (file told c.args.path.now) c.args.at) (sym c.deref.ensures.value)
+          (c.in_ok-bytes.ensures.part told t))
+          (parts_of_ref c.in-Whole.parts) N.0 c.in-Err-False.field-0-1
+          (sym c.in-Whole.ensures.reading) N.2,
+    )

@@ -1,12 +1,12 @@
-use Rattle.std.proofs.Common.{◌≡◌, sym, ◌∙◌, ap, subst}
+use Rattle.std.proofs.Common.{◌≡◌, ◌∙◌, ap, subst}
 use Rattle.std.proofs.lemmas.Result.{err_from_is_err_and}
 use Rattle.power_commutator.specs.Presentations.{Presentation}
 use Rattle.pc_text.specs.Canonical.{canonical}
 use Rattle.stage_records.specs.Records.{header_bytes}
 use Rattle.stage_walk.specs.Asked.{asked, path_of}
 use Rattle.stage_walk.specs.Dimensions.{Fit}
-use Rattle.stage_walk.proofs.Whole.{after_saving, all_saved, rest_computed, stop_fault, stop_leaves, stop_numbered}
-use Rattle.stage_walk.proofs.Whole.{stop_saving, walk_fault, walk_leaves}
+use Rattle.stage_walk.proofs.Whole.{after_saving, all_saved, rest_computed, stop_fault, stop_leaves}
+use Rattle.stage_walk.proofs.Whole.{stop_numbered, stop_saving, walk_fault, walk_leaves}
 use Rattle.stage_walk.proofs.resolving.stages.Goals as goal
 
 pub returns-in_err-resolution-clause-left : goal.returns-in_err-resolution-clause-left
@@ -42,8 +42,10 @@ returns-in_err-save_stages-clause-left g c =
     rw (p.1, p.2) (stop_leaves (asked c.args.a c.args.c.now c.args.n c.args.from c.args.save)
     c.in_ok-resolution.resolution.group c.in_ok-resolution.ensures.group c.in_ok-honest.honest
     (c.in_ok-honest.ensures
-    ∙ ap (λ (P : Presentation). header_bytes (canonical P)) c.presentation.ensures.value) (g.F.Files.content c.args.files.now) (g.F.Files.content c.first_stages.new.files)
-    (g.F.Files.content c.save_stages.new.files) c.first_stages.ensures.content c.in_ok-resolution.resolution.last
+    ∙ ap (λ (P : Presentation). header_bytes (canonical P)) c.presentation.ensures.value)
+    (g.F.Files.content c.args.files.now) (g.F.Files.content c.first_stages.new.files)
+    (g.F.Files.content c.save_stages.new.files) c.first_stages.ensures.content
+    c.in_ok-resolution.resolution.last
     (after_saving c.args.a (canonical c.args.c.now) c.args.n (path_of c.args.from) (path_of c.args.save)
     (g.F.Files.content c.args.files.now) (λ count. c.in_ok-resolution.resolution.last ≡ count)
     c.in_ok-resolution.ensures.taken) (g.F.Files.write_faults c.first_stages.new.files)
@@ -57,8 +59,10 @@ returns-in_err-save_stages-clause-refused g c =
     rw (p.1, p.2) (stop_fault (asked c.args.a c.args.c.now c.args.n c.args.from c.args.save)
     c.in_ok-resolution.resolution.group c.in_ok-resolution.ensures.group c.in_ok-honest.honest
     (c.in_ok-honest.ensures
-    ∙ ap (λ (P : Presentation). header_bytes (canonical P)) c.presentation.ensures.value) (g.F.Files.content c.args.files.now) (g.F.Files.content c.first_stages.new.files)
-    (g.F.Files.content c.save_stages.new.files) c.first_stages.ensures.content c.in_ok-resolution.resolution.last
+    ∙ ap (λ (P : Presentation). header_bytes (canonical P)) c.presentation.ensures.value)
+    (g.F.Files.content c.args.files.now) (g.F.Files.content c.first_stages.new.files)
+    (g.F.Files.content c.save_stages.new.files) c.first_stages.ensures.content
+    c.in_ok-resolution.resolution.last
     (after_saving c.args.a (canonical c.args.c.now) c.args.n (path_of c.args.from) (path_of c.args.save)
     (g.F.Files.content c.args.files.now) (λ count. c.in_ok-resolution.resolution.last ≡ count)
     c.in_ok-resolution.ensures.taken) (g.F.Files.read_faults c.args.files.now)
@@ -82,7 +86,8 @@ returns-clause-fit g c =
 
 pub returns-clause-computed : goal.returns-clause-computed
 returns-clause-computed g c = rest_computed (asked c.args.a c.args.c.now c.args.n c.args.from c.args.save)
-    (g.F.Files.content c.args.files.now) c.in_ok-resolution.resolution.last c.in_ok-resolution.resolution.computed
+    (g.F.Files.content c.args.files.now) c.in_ok-resolution.resolution.last
+    c.in_ok-resolution.resolution.computed
     c.save_stages.new.resolution.computed c.args.n
     (after_saving c.args.a (canonical c.args.c.now) c.args.n (path_of c.args.from) (path_of c.args.save)
     (g.F.Files.content c.args.files.now) (λ count. c.in_ok-resolution.resolution.last ≡ count)
@@ -93,5 +98,7 @@ pub returns-clause-saved : goal.returns-clause-saved
 returns-clause-saved g c = all_saved (asked c.args.a c.args.c.now c.args.n c.args.from c.args.save)
     c.in_ok-resolution.resolution.group c.in_ok-resolution.ensures.group c.in_ok-honest.honest
     (c.in_ok-honest.ensures
-    ∙ ap (λ (P : Presentation). header_bytes (canonical P)) c.presentation.ensures.value) (g.F.Files.content c.args.files.now) (g.F.Files.content c.first_stages.new.files)
-    (g.F.Files.content c.save_stages.new.files) c.first_stages.ensures.content c.in_ok-save_stages.ensures.saved
+    ∙ ap (λ (P : Presentation). header_bytes (canonical P)) c.presentation.ensures.value)
+    (g.F.Files.content c.args.files.now) (g.F.Files.content c.first_stages.new.files)
+    (g.F.Files.content c.save_stages.new.files) c.first_stages.ensures.content
+    c.in_ok-save_stages.ensures.saved

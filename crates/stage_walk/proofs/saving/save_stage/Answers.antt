@@ -1,4 +1,4 @@
-use Rattle.std.proofs.Common.{◌≡◌, sym, ◌∙◌, ap, subst}
+use Rattle.std.proofs.Common.{◌≡◌, ◌∙◌, ap, subst}
 use Rattle.std.specs.Prelude.{IfErr, OnOk}
 use Rattle.min_res.specs.Values.{ResolutionValue}
 use Rattle.stage_walk.specs.Asked.{path_of}
@@ -27,7 +27,8 @@ returns-clause-left g c =
     ] in
     subst (λ G. IfErr c.append_record.result (LeavesStage (path_of c.args.save) (record_of G c.args.d)
     (g.F.Files.content c.args.files.now) (g.F.Files.content c.append_record.new.files))) same
-    (append_left c.append_record.result (path_of c.args.save) (record_of c.if-last-d.resolution.group c.args.d)
+    (append_left c.append_record.result (path_of c.args.save)
+    (record_of c.if-last-d.resolution.group c.args.d)
     (g.F.Files.content c.args.files.now) (g.F.Files.content c.append_record.new.files)
     (g.F.Files.write_faults c.args.files.now) (g.F.Files.write_faults c.append_record.new.files)
     c.append_record.ensures.cause c.append_record.ensures.front)

@@ -65,13 +65,13 @@ loop-i-preserved g c =
       fit = subst (λ G. Fit G c.save_stage.new.resolution.last) c.loop-i.invariant.group
           c.in_ok-save_stage.ensures.fit;
       held = subst (λ k. Holds (path_of c.args.save)
-    (file_with c.args.header.now c.args.resolution.now.group k) (g.F.Files.content c.args.files.now)
-    (g.F.Files.content c.save_stage.new.files)) (sym number)
+          (file_with c.args.header.now c.args.resolution.now.group k) (g.F.Files.content c.args.files.now)
+          (g.F.Files.content c.save_stage.new.files)) (sym number)
           (stage_saved c.args.resolution.now.group c.args.header.now (path_of c.args.save)
-    (g.F.Files.content c.args.files.now) (g.F.Files.content c.loop-i.files)
-    (g.F.Files.content c.save_stage.new.files) c.loop-i.i c.args.n inside c.loop-i.invariant.held
-    c.loop-i.resolution.group (c.loop-i.i + 1) c.loop-i.invariant.group number fit
-    c.in_ok-save_stage.ensures.gained);
+          (g.F.Files.content c.args.files.now) (g.F.Files.content c.loop-i.files)
+          (g.F.Files.content c.save_stage.new.files) c.loop-i.i c.args.n inside c.loop-i.invariant.held
+          c.loop-i.resolution.group (c.loop-i.i + 1) c.loop-i.invariant.group number fit
+          c.in_ok-save_stage.ensures.gained);
       later = none_later (g.F.Files.read_faults c.args.files.now) (g.F.Files.read_faults c.loop-i.files)
           (g.F.Files.read_faults c.save_stage.new.files) c.loop-i.invariant.later c.save_stage.ensures.later;
       later_writes = none_later (g.F.Files.write_faults c.args.files.now)

@@ -1,4 +1,4 @@
-use Rattle.std.proofs.Common.{◌≡◌, ◌+◌, ◌*◌, ◌<◌, ◌≤◌, Some, None, sym, ◌∙◌, ap, subst, arith}
+use Rattle.std.proofs.Common.{sym, ◌∙◌, ap, subst, arith}
 use Rattle.std.proofs.lemmas.Result.{err_from_is_err_and}
 use Rattle.min_res.specs.Values.{ResolutionValue}
 use Rattle.stage_walk.specs.Dimensions.{Fit}
@@ -20,8 +20,10 @@ pub returns-in_err-len-clause-refused : goal.returns-in_err-len-clause-refused
 returns-in_err-len-clause-refused g c =
     let p = err_from_is_err_and c.from_residual.result c.from_residual.ensures.1 in
     rw (p.1, p.2) (turn_stop c.args.resolution.now.group c.args.path.now
-    (g.F.Files.content c.args.files.now) (g.F.Files.content c.loop-alloc.files) c.loop-alloc.invariant.same c.args.n
-    c.loop-alloc.resolution c.take_record.new.resolution c.loop-alloc.at c.loop-alloc.invariant.group (omega arith)
+    (g.F.Files.content c.args.files.now) (g.F.Files.content c.loop-alloc.files) c.loop-alloc.invariant.same
+    c.args.n
+    c.loop-alloc.resolution c.take_record.new.resolution c.loop-alloc.at c.loop-alloc.invariant.group
+    (omega arith)
     c.loop-alloc.invariant.walked (g.F.Files.read_faults c.args.files.now)
     (g.F.Files.read_faults c.loop-alloc.files) (g.F.Files.read_faults c.take_record.new.files)
     c.loop-alloc.invariant.later c.loop-alloc.invariant.fit c.requires.there
@@ -34,8 +36,10 @@ returns-in_default-clause-taken g c =
     subst (IsTurn c.loop-alloc.resolution c.take_record.new.resolution c.args.path.now c.loop-alloc.at
     (g.F.Files.content c.loop-alloc.files)) c.in_default.is c.in_ok-len.ensures.turn in
     walked_end c.args.resolution.now.group c.args.path.now
-    (g.F.Files.content c.args.files.now) (g.F.Files.content c.loop-alloc.files) c.loop-alloc.invariant.same c.args.n
-    c.loop-alloc.resolution c.take_record.new.resolution c.loop-alloc.at c.loop-alloc.invariant.group (omega arith)
+    (g.F.Files.content c.args.files.now) (g.F.Files.content c.loop-alloc.files) c.loop-alloc.invariant.same
+    c.args.n
+    c.loop-alloc.resolution c.take_record.new.resolution c.loop-alloc.at c.loop-alloc.invariant.group
+    (omega arith)
     c.loop-alloc.invariant.walked E c.requires.there
 
 pub loop-alloc-preserved : goal.loop-alloc-preserved

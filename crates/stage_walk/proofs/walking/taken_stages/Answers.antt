@@ -57,16 +57,20 @@ returns-clause-taken g c =
     ∙ ap (λ (P : Presentation). header_bytes (canonical P)) c.presentation.ensures.value in
     elim c.if-branch.branch [
       | then-branch+in_ok-take_records w ↦
-          subst (λ (r : ResolutionValue). AfterWalk (asked_from c.args.a c.args.c.now c.args.n c.args.path.now)
+          subst (λ (r : ResolutionValue). AfterWalk
+          (asked_from c.args.a c.args.c.now c.args.n c.args.path.now)
           (g.F.Files.content c.args.files.now) (λ count. r.last ≡ count)) (sym w.resolution-is)
           (taken_all c.args.a c.args.c.now c.args.n c.args.path.now (g.F.Files.content c.args.files.now)
-          c.in_ok-honest.honest h c.in_ok-has_header.field-0 c.in_ok-has_header.ensures.answer w.if-branch.true
+          c.in_ok-honest.honest h c.in_ok-has_header.field-0 c.in_ok-has_header.ensures.answer
+          w.if-branch.true
           (g.F.Files.content c.has_header.new.files) c.in_ok-has_header.ensures.content
-          c.in_ok-resolution.resolution.group (ap (λ (r : ResolutionValue). r.group) c.in_ok-resolution.ensures)
+          c.in_ok-resolution.resolution.group
+          (ap (λ (r : ResolutionValue). r.group) c.in_ok-resolution.ensures)
           w.take_records.new.resolution.last w.in_ok-take_records.ensures.taken)
       | else-branch w ↦
           taken_none c.args.a c.args.c.now c.args.n c.args.path.now (g.F.Files.content c.args.files.now)
-          c.in_ok-honest.honest h c.in_ok-has_header.field-0 c.in_ok-has_header.ensures.answer w.if-branch.false
+          c.in_ok-honest.honest h c.in_ok-has_header.field-0 c.in_ok-has_header.ensures.answer
+          w.if-branch.false
           c.if-branch.resolution.last
           (ap (λ (r : ResolutionValue). r.last) (w.resolution-is ∙ c.in_ok-resolution.ensures))
     ]
