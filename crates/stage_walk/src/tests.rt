@@ -96,19 +96,29 @@ fn refuses_altered_bytes(rt: HostRuntime) -> Result<(), Fail> {
     Ok(())
 }
 
-/// An entry of the kernel of record 3 is another, and the digest is that of the altered bytes.
-#[test]
-fn refuses_an_altered_record_with_its_digest(rt: HostRuntime) -> Result<(), Fail> {
-    let alloc = rt.alloc();
-    let mut bytes = whole_file(&rt, alloc)?;
+/// The file with another entry in the kernel of record 3, and the digest of its altered bytes.
+fn with_another_entry(whole: [u8; WHOLE]) -> [u8; WHOLE] {
+    let mut bytes = whole;
     bytes[142] ^= 1;
     let digest = Sha256::digest(&bytes[136..146]);
     bytes[146..].copy_from_slice(&digest);
+    bytes
+}
+
+#[test]
+fn refuses_an_altered_record_with_its_digest(rt: HostRuntime) -> Result<(), Fail> {
+    let alloc = rt.alloc();
+    let bytes = with_another_entry(whole_file(&rt, alloc)?);
     assert_eq!(rt;
         taken(&rt, alloc, &bytes)?,
         Err(StagesFault::Record { number: 3 })
     );
     Ok(())
+}
+
+/// Whether it has the header and five bytes of record 1.
+fn is_front(bytes: &[u8], whole: &[u8; WHOLE]) -> bool {
+    bytes == &whole[..45]
 }
 
 /// The third call is the append of record 1: it takes five bytes.
@@ -122,7 +132,10 @@ fn keeps_what_was_written(rt: HostRuntime) -> Result<(), Fail> {
         computed(&rt, alloc, &mut files, None, Some("b"))?,
         Err(StagesFault::Write)
     );
-    assert_eq!(rt; files.get("b"), Some(&whole[..45]));
+    match files.get("b") {
+        Some(bytes) => assert!(rt; is_front(bytes, &whole)),
+        None => panic!(rt; "no file"),
+    }
     let missing = computed(&rt, alloc, &mut files, Some("a"), None)?;
     assert_eq!(rt; missing, Err(StagesFault::Read));
     Ok(())
