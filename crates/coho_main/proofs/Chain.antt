@@ -19,6 +19,7 @@ module _ {T U A B : Type 0} (seen : T → A) (view : U → B) (first : Step A) (
   after_ok old mid new x (Err (stop.Refused why)) h k = inl (seen x, mid, h, k)
   after_ok old mid new x (Err (stop.Read path)) h k = tt
   after_ok old mid new x (Err stop.Write) h k = tt
+  after_ok old mid new x (Err (stop.Save path)) h k = tt
   after_ok old mid new x (Err stop.Memory) h k = tt
 
   -- the first call stopped
@@ -27,6 +28,7 @@ module _ {T U A B : Type 0} (seen : T → A) (view : U → B) (first : Step A) (
   at_stop old new (stop.Refused why) h = inr (refusal_of why, h, refl)
   at_stop old new (stop.Read path) h = tt
   at_stop old new stop.Write h = tt
+  at_stop old new (stop.Save path) h = tt
   at_stop old new stop.Memory h = tt
 
   -- the same of calls that read and write nothing
@@ -36,12 +38,14 @@ module _ {T U A B : Type 0} (seen : T → A) (view : U → B) (first : Step A) (
   settled_after_ok x (Err (stop.Refused why)) h k = λ files. inl (seen x, files, h files, k files)
   settled_after_ok x (Err (stop.Read path)) h k = absurd k
   settled_after_ok x (Err stop.Write) h k = absurd k
+  settled_after_ok x (Err (stop.Save path)) h k = absurd k
   settled_after_ok x (Err stop.Memory) h k = tt
 
   pub settled_at_stop : (s : Stop) → Settles seen first (Err s) → Settles view (first >>= next) (Err s)
   settled_at_stop (stop.Refused why) h = λ files. inr (refusal_of why, h files, refl)
   settled_at_stop (stop.Read path) h = absurd h
   settled_at_stop stop.Write h = absurd h
+  settled_at_stop (stop.Save path) h = absurd h
   settled_at_stop stop.Memory h = tt
 
 module _ {T A : Type 0} (view : T → A) (step : Step A) where
@@ -51,6 +55,7 @@ module _ {T A : Type 0} (view : T → A) (step : Step A) where
   settled_meets files (Err (stop.Refused why)) h = h files
   settled_meets files (Err (stop.Read path)) h = tt
   settled_meets files (Err stop.Write) h = tt
+  settled_meets files (Err (stop.Save path)) h = tt
   settled_meets files (Err stop.Memory) h = tt
 
   settled_stop : (Reads : List ℕ → Type 0) (before now : List ℕ → ℕ) (s : Stop) → Settles view step (Err s)
@@ -58,6 +63,7 @@ module _ {T A : Type 0} (view : T → A) (step : Step A) where
   settled_stop Reads before now (stop.Refused why) h = tt
   settled_stop Reads before now (stop.Read path) h = absurd h
   settled_stop Reads before now stop.Write h = absurd h
+  settled_stop Reads before now (stop.Save path) h = absurd h
   settled_stop Reads before now stop.Memory h = tt
 
   -- a call that reads and writes nothing stopped at no fault
@@ -76,6 +82,7 @@ module _ {T A : Type 0} (view : T → A) (step : Step A) where
   refused_settles Q (stop.Refused why) h f = f (refusal_of why) h
   refused_settles Q (stop.Read path) h f = absurd h
   refused_settles Q stop.Write h f = absurd h
+  refused_settles Q (stop.Save path) h f = absurd h
   refused_settles Q stop.Memory h f = tt
 
 -- a path of the first kind is one of the second
@@ -85,6 +92,7 @@ pub cause_weaker : (Reads Others : List ℕ → Type 0) (f : (path : List ℕ) �
 cause_weaker Reads Others f before now (stop.Refused why) h = tt
 cause_weaker Reads Others f before now (stop.Read path) h = (f path.now h.0, h.1)
 cause_weaker Reads Others f before now stop.Write h = absurd h
+cause_weaker Reads Others f before now (stop.Save path) h = absurd h
 cause_weaker Reads Others f before now stop.Memory h = tt
 
 pub path_cause : (path : List ℕ) (before now : List ℕ → ℕ) (s : Stop) → IsReadStop path before now s
@@ -92,6 +100,7 @@ pub path_cause : (path : List ℕ) (before now : List ℕ → ℕ) (s : Stop) �
 path_cause path before now (stop.Refused why) h = absurd h
 path_cause path before now (stop.Read p) h = (h.0, subst (λ q. Rose (before q) (now q)) (sym h.0) h.1)
 path_cause path before now stop.Write h = absurd h
+path_cause path before now (stop.Save other) h = absurd h
 path_cause path before now stop.Memory h = tt
 
 -- what calls one after another read

@@ -25,11 +25,12 @@ use Rattle.coho_main.specs.Steps.{OrRefuse}
 use Rattle.coho_main.specs.Stops.{IsWordsStop, Settles, parse_stop}
 use Rattle.coho_main.specs.Refusals.{words_refused}
 use Rattle.coho_main.specs.Outcome.{Ask}
-use Rattle.coho_main.specs.Words.{Command, Group, Resolve, Ring, Value, Sample, asked, command, elements_of}
+use Rattle.coho_main.specs.Words.{Command, Group, Resolve, Check, Value, Sample, asked, command, elements_of}
 use Rattle.coho_main.specs.Words.{file_and_degree, file_and_place, is_path, numbers, place, one_operand}
+use Rattle.coho_main.specs.Words.{plain_command}
 use Rattle.coho_main.specs.Words.{sample_number, texts, two_operands, with_degree}
 
-abbrev Text : Type 0
+abbrev pub Text : Type 0
 Text = List ℕ
 
 both : (a b : Bool) → (a && b) ≡ true → (a ≡ true) × (b ≡ true)
@@ -46,7 +47,7 @@ is_name name known e = (bytes_eq-Decides name known).0 e
 -- ---- words of which none is empty or begins with a dash
 
 group_at : (rest : List Text) → list_all is_path rest ≡ true
-    → command (codes "group" ∷ rest) ≡ option_map Group (one_operand (codes "group" ∷ rest))
+    → plain_command (codes "group" ∷ rest) ≡ option_map Group (one_operand (codes "group" ∷ rest))
 group_at [] h = refl
 group_at (a ∷ []) h = rw (both (is_path a) _ h).0 refl
 group_at (a ∷ b ∷ []) h = refl
@@ -62,18 +63,23 @@ same_degree make a None = refl
 same_degree make a (Some n) = refl
 
 resolve_at : (rest : List Text) → list_all is_path rest ≡ true
-    → command (codes "resolve" ∷ rest) ≡ of_degree Resolve (file_and_degree (codes "resolve" ∷ rest))
+    → plain_command (codes "resolve" ∷ rest) ≡ of_degree Resolve (file_and_degree (codes "resolve" ∷ rest))
 resolve_at [] h = refl
 resolve_at (a ∷ []) h = refl
 resolve_at (a ∷ b ∷ []) h = rw (both (is_path a) _ h).0 (same_degree Resolve a (numeral 1 GREATEST_DEGREE b))
 resolve_at (a ∷ b ∷ c ∷ rest) h = refl
 
-ring_at : (rest : List Text) → list_all is_path rest ≡ true
-    → command (codes "ring" ∷ rest) ≡ of_degree Ring (file_and_degree (codes "ring" ∷ rest))
-ring_at [] h = refl
-ring_at (a ∷ []) h = refl
-ring_at (a ∷ b ∷ []) h = rw (both (is_path a) _ h).0 (same_degree Ring a (numeral 1 GREATEST_DEGREE b))
-ring_at (a ∷ b ∷ c ∷ rest) h = refl
+-- what `check` asks for
+abbrev pub of_check : Option (Text × Text) → Option Command
+of_check o = option_map (λ p. Check p.0 p.1) o
+
+check_at : (rest : List Text) → list_all is_path rest ≡ true
+    → plain_command (codes "check" ∷ rest) ≡ of_check (two_operands (codes "check" ∷ rest))
+check_at [] h = refl
+check_at (a ∷ []) h = refl
+check_at (a ∷ b ∷ []) h =
+    let p = both (is_path a) _ h in rw (p.0, (both (is_path b) true p.1).0) refl
+check_at (a ∷ b ∷ c ∷ rest) h = refl
 
 -- what `value` asks for
 abbrev pub placed : Text → ℕ × List ℕ → Command
@@ -88,14 +94,14 @@ same_place a None = refl
 same_place a (Some p) = refl
 
 value_at : (rest : List Text) → list_all is_path rest ≡ true
-    → command (codes "value" ∷ rest) ≡ of_place (file_and_place (codes "value" ∷ rest))
+    → plain_command (codes "value" ∷ rest) ≡ of_place (file_and_place (codes "value" ∷ rest))
 value_at [] h = refl
 value_at (a ∷ []) h = refl
 value_at (a ∷ b ∷ []) h = refl
 value_at (a ∷ b ∷ c ∷ rest) h = rw (both (is_path a) _ h).0 (same_place a (place b c rest))
 
 sample_at : (rest : List Text) → list_all is_path rest ≡ true
-    → command (codes "sample" ∷ rest) ≡ option_map Sample (sample_number (codes "sample" ∷ rest))
+    → plain_command (codes "sample" ∷ rest) ≡ option_map Sample (sample_number (codes "sample" ∷ rest))
 sample_at [] h = refl
 sample_at (a ∷ []) h = refl
 sample_at (a ∷ b ∷ []) h = refl
@@ -103,54 +109,54 @@ sample_at (a ∷ b ∷ c ∷ rest) h = refl
 
 pub group_is : (name : Text) (rest : List Text) → list_all is_path (name ∷ rest) ≡ true
     → bytes_eq name (codes "group") ≡ true
-    → command (name ∷ rest) ≡ option_map Group (one_operand (name ∷ rest))
+    → plain_command (name ∷ rest) ≡ option_map Group (one_operand (name ∷ rest))
 group_is name rest h e =
     subst (λ n. list_all is_path (n ∷ rest) ≡ true
-    → command (n ∷ rest) ≡ option_map Group (one_operand (n ∷ rest)))
+    → plain_command (n ∷ rest) ≡ option_map Group (one_operand (n ∷ rest)))
     (sym (is_name name (codes "group") e)) (group_at rest) h
 
 pub resolve_is : (name : Text) (rest : List Text) → list_all is_path (name ∷ rest) ≡ true
     → bytes_eq name (codes "resolve") ≡ true
-    → command (name ∷ rest) ≡ of_degree Resolve (file_and_degree (name ∷ rest))
+    → plain_command (name ∷ rest) ≡ of_degree Resolve (file_and_degree (name ∷ rest))
 resolve_is name rest h e =
     subst (λ n. list_all is_path (n ∷ rest) ≡ true
-    → command (n ∷ rest) ≡ of_degree Resolve (file_and_degree (n ∷ rest)))
+    → plain_command (n ∷ rest) ≡ of_degree Resolve (file_and_degree (n ∷ rest)))
     (sym (is_name name (codes "resolve") e)) (resolve_at rest) h
 
-pub ring_is : (name : Text) (rest : List Text) → list_all is_path (name ∷ rest) ≡ true
-    → bytes_eq name (codes "ring") ≡ true
-    → command (name ∷ rest) ≡ of_degree Ring (file_and_degree (name ∷ rest))
-ring_is name rest h e =
+pub check_is : (name : Text) (rest : List Text) → list_all is_path (name ∷ rest) ≡ true
+    → bytes_eq name (codes "check") ≡ true
+    → plain_command (name ∷ rest) ≡ of_check (two_operands (name ∷ rest))
+check_is name rest h e =
     subst (λ n. list_all is_path (n ∷ rest) ≡ true
-    → command (n ∷ rest) ≡ of_degree Ring (file_and_degree (n ∷ rest)))
-    (sym (is_name name (codes "ring") e)) (ring_at rest) h
+    → plain_command (n ∷ rest) ≡ of_check (two_operands (n ∷ rest)))
+    (sym (is_name name (codes "check") e)) (check_at rest) h
 
 pub value_is : (name : Text) (rest : List Text) → list_all is_path (name ∷ rest) ≡ true
     → bytes_eq name (codes "value") ≡ true
-    → command (name ∷ rest) ≡ of_place (file_and_place (name ∷ rest))
+    → plain_command (name ∷ rest) ≡ of_place (file_and_place (name ∷ rest))
 value_is name rest h e =
     subst (λ n. list_all is_path (n ∷ rest) ≡ true
-    → command (n ∷ rest) ≡ of_place (file_and_place (n ∷ rest)))
+    → plain_command (n ∷ rest) ≡ of_place (file_and_place (n ∷ rest)))
     (sym (is_name name (codes "value") e)) (value_at rest) h
 
 pub sample_is : (name : Text) (rest : List Text) → list_all is_path (name ∷ rest) ≡ true
     → bytes_eq name (codes "sample") ≡ true
-    → command (name ∷ rest) ≡ option_map Sample (sample_number (name ∷ rest))
+    → plain_command (name ∷ rest) ≡ option_map Sample (sample_number (name ∷ rest))
 sample_is name rest h e =
     subst (λ n. list_all is_path (n ∷ rest) ≡ true
-    → command (n ∷ rest) ≡ option_map Sample (sample_number (n ∷ rest)))
+    → plain_command (n ∷ rest) ≡ option_map Sample (sample_number (n ∷ rest)))
     (sym (is_name name (codes "sample") e)) (sample_at rest) h
 
 -- ---- words of no command
 
 pub other_is : (name : Text) (rest : List Text) → bytes_eq name (codes "group") ≡ false
-    → bytes_eq name (codes "resolve") ≡ false → bytes_eq name (codes "ring") ≡ false
+    → bytes_eq name (codes "resolve") ≡ false → bytes_eq name (codes "check") ≡ false
     → bytes_eq name (codes "value") ≡ false → bytes_eq name (codes "sample") ≡ false
-    → command (name ∷ rest) ≡ None
-other_is name [] g r s v p = refl
-other_is name (a ∷ []) g r s v p = rw (g, p) refl
-other_is name (a ∷ b ∷ []) g r s v p = rw (r, s) refl
-other_is name (a ∷ b ∷ c ∷ rest) g r s v p = rw v refl
+    → plain_command (name ∷ rest) ≡ None
+other_is name [] g r k v p = refl
+other_is name (a ∷ []) g r k v p = rw (g, p) refl
+other_is name (a ∷ b ∷ []) g r k v p = rw (r, k) refl
+other_is name (a ∷ b ∷ c ∷ rest) g r k v p = rw v refl
 
 dash_first : (low high : ℕ) (word : Text) → is_path word ≡ false → numeral low high word ≡ None
 dash_first low high [] h = refl
@@ -235,7 +241,7 @@ place_dashed b c rest h = go (split (is_path b) (list_all is_path (c ∷ rest)) 
     go (inr e) = none_after of_number (numeral 1 MOST_ELEMENTS b)
         (no_number (split (is_path c) (list_all is_path rest) e.1))
 
-pub dashed_is : (words : List Text) → list_all is_path words ≡ false → command words ≡ None
+pub dashed_is : (words : List Text) → list_all is_path words ≡ false → plain_command words ≡ None
 dashed_is [] h = refl
 dashed_is (name ∷ []) h = refl
 dashed_is (name ∷ a ∷ []) h =
@@ -244,17 +250,17 @@ dashed_is (name ∷ a ∷ []) h =
     unless (bytes_eq name (codes "group")) (is_path a) (Some (Group a)) _
     (λ e p. absurd (true≢false (after_file a [] (dashed (codes "group") refl e) p)))
     (unless_named (bytes_eq name (codes "sample")) (option_map Sample (numeral 0 GREATEST_SAMPLE a)) None
-    (λ e. ap (option_map Sample) (dash_first 0 GREATEST_SAMPLE a (ends a (dashed (codes "sample") refl e)))) refl)
+    (λ e. ap (option_map Sample) (dash_first 0 GREATEST_SAMPLE a (ends a (dashed
+        (codes "sample") refl e)))) refl)
 dashed_is (name ∷ a ∷ b ∷ []) h =
-    let no_degree = λ (known : Text) (k : is_path known ≡ true) (e : bytes_eq name known ≡ true)
-    (p : is_path a ≡ true). dash_first 1 GREATEST_DEGREE b
-    (ends b (after_file a (b ∷ []) (after_name name known (a ∷ b ∷ []) h k e) p)) in
+    let last = λ (known : Text) (k : is_path known ≡ true) (e : bytes_eq name known ≡ true)
+    (p : is_path a ≡ true). ends b (after_file a (b ∷ []) (after_name name known (a ∷ b ∷ []) h k e) p) in
     unless (bytes_eq name (codes "resolve")) (is_path a)
     (option_map (Resolve a) (numeral 1 GREATEST_DEGREE b)) _
-    (λ e p. ap (option_map (Resolve a)) (no_degree (codes "resolve") refl e p))
-    (unless (bytes_eq name (codes "ring")) (is_path a)
-    (option_map (Ring a) (numeral 1 GREATEST_DEGREE b)) None
-    (λ e p. ap (option_map (Ring a)) (no_degree (codes "ring") refl e p)) refl)
+    (λ e p. ap (option_map (Resolve a)) (dash_first 1 GREATEST_DEGREE b (last (codes "resolve") refl e p)))
+    (unless (bytes_eq name (codes "check")) (is_path a && is_path b) (Some (Check a b)) None
+    (λ e p. (let q = both (is_path a) (is_path b) p in
+    absurd (true≢false (sym q.1 ∙ last (codes "check") refl e q.0)))) refl)
 dashed_is (name ∷ a ∷ b ∷ c ∷ rest) h =
     unless (bytes_eq name (codes "value")) (is_path a) (option_map (placed a) (place b c rest)) None
     (λ e p. ap (option_map (placed a)) (place_dashed b c rest
@@ -280,16 +286,6 @@ pub refuses : (words : List Text) → command words ≡ None
     → Settles asked (Ask words) (Err (stop.Refused cause.Words))
 refuses words e = none_asked (command words) e
 
--- a parse that fails is refused by the words, or for want of memory
-pub unread : (words : List Text) (k : ErrorKind) → (k ≡ kind.OutOfMemory) ⊎ (command words ≡ None)
-    → Settles asked (Ask words) (Err (parse_stop k))
-unread words k (inl e) = rw e tt
-unread words k (inr e) = go k
-  where
-    go : (k : ErrorKind) → Settles asked (Ask words) (Err (parse_stop k))
-    go kind.OutOfMemory = tt
-    go _ = refuses words e
-
 pub unread_words : (P : Type 0) (k : ErrorKind) → (k ≡ kind.OutOfMemory) ⊎ P → IsWordsStop P (parse_stop k)
 unread_words P k (inl e) = rw e tt
 unread_words P k (inr p) = go k
@@ -305,6 +301,7 @@ stopped words P (stop.Refused why) h none =
     λ files. subst (λ q. Ask words files (Err q) files) (sym h.1) (refuses words (none h.0) files)
 stopped words P (stop.Read path) h none = absurd h
 stopped words P stop.Write h none = absurd h
+stopped words P (stop.Save path) h none = absurd h
 stopped words P stop.Memory h none = tt
 
 pub degree_found : (words : List Text) (path word : Text) (n : ℕ) → two_operands words ≡ Some (path, word)
@@ -334,64 +331,3 @@ pub operand_none : (words : List Text) (k : ErrorKind) → (k ≡ kind.OutOfMemo
     → (k ≡ kind.OutOfMemory) ⊎ (sample_number words ≡ None)
 operand_none words k (inl m) = inl m
 operand_none words k (inr none) = inr (ap (option_and_then (numeral 0 GREATEST_SAMPLE)) none)
-
--- ---- the same of the words as they are given
-
-pub named : (words : List (String Global)) (name : String Global) → 1 ≤ length words
-    → name ≡ slice_index_or words 0 name → texts words ≡ string_bytes name ∷ drop 1 (texts words)
-named [] name some is = absurd (omega arith)
-named (x ∷ xs) name some is = ap (λ (n : String Global). string_bytes n ∷ texts xs) (sym is)
-
-module _ (words rest : List Text) (plain : list_all is_path words ≡ true) (name : Text)
-    (first : words ≡ name ∷ rest) where
-  at_group : bytes_eq name (codes "group") ≡ true → command words ≡ option_map Group (one_operand words)
-  at_group e = subst (λ ws. command ws ≡ option_map Group (one_operand ws)) (sym first)
-      (group_is name rest (subst (λ ws. list_all is_path ws ≡ true) first plain) e)
-
-  pub group_found : bytes_eq name (codes "group") ≡ true → (path : Text) → one_operand words ≡ Some path
-      → command words ≡ Some (Group path)
-  group_found e path is = at_group e ∙ ap (option_map Group) is
-
-  pub group_none : (k : ErrorKind) → bytes_eq name (codes "group") ≡ true → (k ≡ kind.OutOfMemory)
-      ⊎ (one_operand words ≡ None) → (k ≡ kind.OutOfMemory) ⊎ (command words ≡ None)
-  group_none k e (inl m) = inl m
-  group_none k e (inr none) = inr (at_group e ∙ ap (option_map Group) none)
-
-  pub at_resolve : bytes_eq name (codes "resolve") ≡ true
-      → command words ≡ of_degree Resolve (file_and_degree words)
-  at_resolve e = subst (λ ws. command ws ≡ of_degree Resolve (file_and_degree ws)) (sym first)
-      (resolve_is name rest (subst (λ ws. list_all is_path ws ≡ true) first plain) e)
-
-  pub at_ring : bytes_eq name (codes "ring") ≡ true → command words ≡ of_degree Ring (file_and_degree words)
-  at_ring e = subst (λ ws. command ws ≡ of_degree Ring (file_and_degree ws)) (sym first)
-      (ring_is name rest (subst (λ ws. list_all is_path ws ≡ true) first plain) e)
-
-  pub at_value : bytes_eq name (codes "value") ≡ true → command words ≡ of_place (file_and_place words)
-  at_value e = subst (λ ws. command ws ≡ of_place (file_and_place ws)) (sym first)
-      (value_is name rest (subst (λ ws. list_all is_path ws ≡ true) first plain) e)
-
-  pub at_sample : bytes_eq name (codes "sample") ≡ true
-      → command words ≡ option_map Sample (sample_number words)
-  at_sample e = subst (λ ws. command ws ≡ option_map Sample (sample_number ws)) (sym first)
-      (sample_is name rest (subst (λ ws. list_all is_path ws ≡ true) first plain) e)
-
-same_name : (words rest : List Text) (a b : Text) → words ≡ a ∷ rest → words ≡ b ∷ rest → a ≡ b
-same_name words rest a b h k = cc
-
--- words whose name, as it is read for each command, is that of none
-pub unnamed : (words : List Text) (a b c d e : Text) → words ≡ a ∷ drop 1 words → words ≡ b ∷ drop 1 words
-    → words ≡ c ∷ drop 1 words → words ≡ d ∷ drop 1 words → words ≡ e ∷ drop 1 words
-    → bytes_eq a (codes "group") ≡ false → bytes_eq b (codes "resolve") ≡ false
-    → bytes_eq c (codes "ring") ≡ false → bytes_eq d (codes "value") ≡ false
-    → bytes_eq e (codes "sample") ≡ false → command words ≡ None
-unnamed words a b c d e h i j k l g r s v p =
-    let rest = drop 1 words in
-    ap command l ∙ other_is e rest
-    (subst (λ n. bytes_eq n (codes "group") ≡ false) (same_name words rest a e h l) g)
-    (subst (λ n. bytes_eq n (codes "resolve") ≡ false) (same_name words rest b e i l) r)
-    (subst (λ n. bytes_eq n (codes "ring") ≡ false) (same_name words rest c e j l) s)
-    (subst (λ n. bytes_eq n (codes "value") ≡ false) (same_name words rest d e k l) v) p
-
-pub no_words : (words : List (String Global)) → length words < 1 → command (texts words) ≡ None
-no_words [] h = refl
-no_words (x ∷ xs) h = absurd (omega arith)

@@ -77,4 +77,5 @@ module _ (P : Presentation) (d : ℕ) (r : ResolutionValue) (R : IsResolutionTo 
   class_refused (stop.Refused why) h = record { group = r.group; is_table = R.is_table; holds = h }
   class_refused (stop.Read path) h = h
   class_refused stop.Write h = h
+  class_refused (stop.Save path) h = h
   class_refused stop.Memory h = h

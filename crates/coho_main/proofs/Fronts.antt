@@ -70,4 +70,5 @@ pub fault_meets : {T A : Type 0} (view : T
 fault_meets view step old new path before now (stop.Refused why) h = absurd h
 fault_meets view step old new path before now (stop.Read p) h = tt
 fault_meets view step old new path before now stop.Write h = tt
+fault_meets view step old new path before now (stop.Save other) h = tt
 fault_meets view step old new path before now stop.Memory h = tt

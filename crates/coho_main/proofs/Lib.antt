@@ -4,6 +4,15 @@ pub mod Chain
 pub mod Seen
 pub mod Loads
 pub mod Replies
+pub mod StageSteps
+pub mod Working
+pub mod Twice
+pub mod Answering
+pub mod SavedFiles
+pub mod SomeFiles
+pub mod FoundStages
+pub mod FaultStops
+pub mod CountedRecords
 pub mod OneTable
 pub mod Proper
 pub mod Sizes
@@ -14,6 +23,7 @@ pub mod ParsedWords
 pub mod ParsedPlaces
 pub mod Places
 pub mod Commands
+pub mod GivenWords
 pub mod Run
 pub mod TableExists
 pub mod ProductWords
@@ -25,3 +35,4 @@ pub mod RingAnswers
 pub mod OneValue
 pub mod Evaluated
 pub mod ClassAnswers
+pub mod FileLaws

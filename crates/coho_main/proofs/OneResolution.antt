@@ -2,7 +2,8 @@
 use Rattle.std.proofs.Common.{◌≡◌, ◌∙◌, ◌⊎◌, inl, inr, ℕ, suc, ◌<◌, List, ap, refl, sym, arith}
 use Rattle.p_groups.specs.PGroups.{PGroup}
 use Rattle.coho_main.specs.Refusals.{stage_refused}
-use Rattle.coho_main.specs.Stages.{Summary, stages_below, dimension, Fit, IsFirstAbove, AreStagesTo}
+use Rattle.coho_main.specs.Stages.{Summary, stages_below, AreStagesTo}
+use Rattle.stage_walk.specs.Dimensions.{dimension, Fit, IsFirstAbove}
 use Rattle.coho_main.specs.Stages.{IsStageRefusal}
 use Rattle.coho_main.specs.Steps.{Refusal}
 use Rattle.coho_main.proofs.Proper.{IsDecided}

@@ -10,7 +10,7 @@ use Rattle.std.specs.declared.option.Option.TheVariants.{None, Some}
 use Rattle.std.specs.declared.result.Result.{Result}
 use Rattle.std.specs.declared.result.Result.TheVariants.{Ok, Err}
 use Rattle.std.specs.Option.{option_map}
-use Rattle.limits.specs.declared.TheConstants.{LONGEST_TEXT}
+use Rattle.limits.specs.declared.TheConstants.{GREATEST_DEGREE, LONGEST_TEXT}
 use Rattle.coho_io.specs.Content.{Content, file}
 use Rattle.group_algebra.specs.Coordinates.{sizes}
 use Rattle.p_groups.specs.PGroups.{PGroup}
@@ -24,7 +24,9 @@ use Rattle.coho_main.specs.declared.status.Status.TheVariants as status
 use Rattle.coho_main.specs.Groups.{IsTableOf}
 use Rattle.coho_main.specs.Outcome.{Ask, ReadFront, ReadText, FitLength, OrFault, FitOrder, UnlessFalse}
 use Rattle.coho_main.specs.Outcome.{Accept}
-use Rattle.coho_main.specs.Outcome.{Load, Layers, Stages, FitStages, Report, FitElements, UnlessElement}
+use Rattle.coho_main.specs.Outcome.{AnswerCheck, TellCount, TellReport}
+use Rattle.coho_main.specs.Outcome.{Load, Layers, Stages, Report, FitElements, UnlessElement}
+use Rattle.coho_main.specs.StageFiles.{FindStages, FitStages, WalkFile}
 use Rattle.coho_main.specs.Outcome.{FitClass}
 use Rattle.coho_main.specs.Outcome.{Evaluate, Given, order, line, Answer, AnswerGroup, AnswerResolve}
 use Rattle.coho_main.specs.Outcome.{AnswerRing}
@@ -33,14 +35,17 @@ use Rattle.coho_main.specs.Outcome.{Ending, ending, Outcome}
 use Rattle.coho_main.specs.Refusals.{read_refused, words_refused}
 use Rattle.coho_main.specs.Steps.{Refusal, ◌>>=◌, OrRefuse, OnGroup}
 use Rattle.coho_main.specs.Samples.{sample, sample_lines}
-use Rattle.coho_main.specs.Words.{AskForValue, Command, Group, Resolve, Ring, Value, Sample, command}
+use Rattle.coho_main.specs.Words.{AskForValue, Command, Group, Resolve, Ring, Check, Value, Sample}
+use Rattle.coho_main.specs.Words.{StageFiles}
+use Rattle.coho_main.specs.Words.{command}
 use Rattle.coho_main.proofs.Loads.{after_length, after_order, after_text}
 use Rattle.coho_main.proofs.OneResolution.{fit_decided, stages_decided}
 use Rattle.coho_main.proofs.OneValue.{class_decided, value_decided}
 use Rattle.coho_main.proofs.Proper.{Ends, IsDecided, IsFunctional, IsProper, gives, loose, on_group}
 use Rattle.coho_main.proofs.Proper.{or_refuse}
 use Rattle.coho_main.proofs.Proper.{refuse_if, refuses, then, then_ends, then_one, weaker}
-use Rattle.coho_main.proofs.Replies.{after_class, after_elements, after_fit, after_sample_fit, after_stages}
+use Rattle.coho_main.proofs.StageSteps.{find_stages, walk_file}
+use Rattle.coho_main.proofs.Replies.{after_class, after_elements, after_sample_fit, after_stages}
 use Rattle.coho_main.proofs.Replies.{group_answer, report_answer, sample_answer, stage_answer, value_answer}
 use Rattle.coho_main.proofs.Ringing.{report_decided}
 use Rattle.coho_main.proofs.SampleGroups.{sample_given}
@@ -73,22 +78,22 @@ read_front path = record {
         (option_map (take (LONGEST_TEXT + 1)) (file old path)))
     at old = or_refuse _ _ (λ e. cc)
 
-load : (path : List ℕ) → IsProper ⊥ (Load path)
+pub load : (path : List ℕ) → IsProper ⊥ (Load path)
 load path = then (ReadFront path) after_text (read_front path)
     (λ text old mid h. then (ReadText text) Accept (read_text text) (λ P old mid h. accept P))
 
 -- ---- a presentation that was loaded is consistent, and has a group
 
-record IsLoaded (P : Presentation) : Type 0 where
-  given : IsGiven P
-  consistent : first_fault P ≡ None
+pub record IsLoaded (P : Presentation) : Type 0 where
+  pub given : IsGiven P
+  pub consistent : first_fault P ≡ None
 
 read_is : (r : Result Presentation Fault) (P : Presentation) (old new : Content) → OrFault r old (Ok P) new
     → r ≡ Ok P
 read_is (Ok Q) P old new h = let e : Q ≡ P = let d = h.0 in cc in ap (λ P. Ok P) e
 read_is (Err fault) P old new h = absurd (let no = h.0 in cc)
 
-text_is : (text : List ℕ) (P : Presentation) (old new : Content) → ReadText text old (Ok P) new
+pub text_is : (text : List ℕ) (P : Presentation) (old new : Content) → ReadText text old (Ok P) new
     → read text ≡ Ok P
 text_is text P old new (inl h) = read_is (read text) P h.1 new h.3
 text_is text P old new (inr h) = absurd (let no = h.2 in cc)
@@ -110,7 +115,7 @@ after_is text Q old new (inl h) =
     accepted h.0 Q h.1 new (read_given text h.0 (text_is text h.0 old h.1 h.2)) h.3
 after_is text Q old new (inr h) = absurd (let no = h.2 in cc)
 
-loaded : (path : List ℕ) (Q : Presentation) (old new : Content) → Load path old (Ok Q) new → IsLoaded Q
+pub loaded : (path : List ℕ) (Q : Presentation) (old new : Content) → Load path old (Ok Q) new → IsLoaded Q
 loaded path Q old new (inl h) = after_is h.0 Q h.1 new h.3
 loaded path Q old new (inr h) = absurd (let no = h.2 in cc)
 
@@ -118,19 +123,21 @@ loaded path Q old new (inr h) = absurd (let no = h.2 in cc)
 given : (asked : Command) → IsProper ⊥ (Given asked)
 given (Group path) = load path
 given (Resolve path n) = load path
-given (Ring path n) = load path
+given (Ring path n files) = load path
+given (Check path stages) = load path
 given (Value path k es) = load path
 given (Sample k) = accept (sample k)
 
-given_loaded : (asked : Command) (P : Presentation) (old new : Content) → Given asked old (Ok P) new
+pub given_loaded : (asked : Command) (P : Presentation) (old new : Content) → Given asked old (Ok P) new
     → IsLoaded P
 given_loaded (Group path) = loaded path
 given_loaded (Resolve path n) = loaded path
-given_loaded (Ring path n) = loaded path
+given_loaded (Ring path n files) = loaded path
+given_loaded (Check path stages) = loaded path
 given_loaded (Value path k es) = loaded path
 given_loaded (Sample k) = λ P old new. accepted (sample k) P old new (sample_given k)
 
-table_of : (P : Presentation) → IsLoaded P → (G : PGroup) × IsTableOf P G
+pub table_of : (P : Presentation) → IsLoaded P → (G : PGroup) × IsTableOf P G
 table_of P is = let four = prime_listed P.prime is.given.prime in
     table_exists P four (above_one P.prime four) is.given.valid is.consistent
 
@@ -167,11 +174,19 @@ module _ (P : Presentation) (is : IsLoaded P) where
   answer_resolve n = then (Stages P n) stage_answer (on _ _ (stages_decided n))
       (λ stages old mid h. gives (stage_lines stages))
 
-  answer_ring : (n : ℕ) → IsProper ⊥ (AnswerRing P n)
-  answer_ring n =
-      then (FitStages P n) (after_fit P n) (on _ _ (fit_decided n)) (λ _ old mid h.
-      then (Report P n) report_answer (on _ _ (report_decided n))
-      (λ report old mid h. gives (report_lines report)))
+  tell_report : (n : ℕ) → IsProper ⊥ (TellReport P n)
+  tell_report n = then (Report P n) report_answer (on _ _ (report_decided n))
+      (λ report old mid h. gives (report_lines report))
+
+  answer_ring : (n : ℕ) (files : StageFiles) → IsProper ⊥ (AnswerRing P n files)
+  answer_ring n files = let t = table_of P is in
+      then (FindStages P n files) (λ _. TellReport P n) (find_stages P t.0 t.1 n files)
+      (λ _ old mid h. tell_report n)
+
+  answer_check : (stages : List ℕ) → IsProper ⊥ (AnswerCheck P stages)
+  answer_check stages = let t = table_of P is in
+      then (WalkFile P GREATEST_DEGREE stages) TellCount (walk_file P t.0 t.1 GREATEST_DEGREE stages)
+      (λ count old mid h. gives (line (codes "records ") count ∷ []))
 
   answer_value : (k : ℕ) (es : List ℕ) → IsProper ⊤ (AnswerValue P k es)
   answer_value k es =
@@ -193,7 +208,8 @@ module _ (P : Presentation) (is : IsLoaded P) where
   answer : (asked : Command) → IsProper (MayRefuseElements asked) (Answer asked P)
   answer (Group path) = answer_group
   answer (Resolve path n) = answer_resolve n
-  answer (Ring path n) = answer_ring n
+  answer (Ring path n files) = answer_ring n files
+  answer (Check path stages) = answer_check stages
   answer (Value path k es) = answer_value k es
   answer (Sample k) = answer_sample k
 
@@ -246,7 +262,8 @@ value_asked : (words : List (List ℕ)) (c : Command) → command words ≡ Some
     → AskForValue words
 value_asked words (Group path) e h = absurd h
 value_asked words (Resolve path n) e h = absurd h
-value_asked words (Ring path n) e h = absurd h
+value_asked words (Ring path n files) e h = absurd h
+value_asked words (Check path stages) e h = absurd h
 value_asked words (Value path k es) e h = (path, k, es, e)
 value_asked words (Sample k) e h = absurd h
 

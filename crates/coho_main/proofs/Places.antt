@@ -51,4 +51,5 @@ place_refused words file degree class elements (stop.Refused why) is h =
     (place_none words file degree class elements is h.0, h.1)
 place_refused words file degree class elements (stop.Read path) is h = h
 place_refused words file degree class elements stop.Write is h = h
+place_refused words file degree class elements (stop.Save path) is h = h
 place_refused words file degree class elements stop.Memory is h = h

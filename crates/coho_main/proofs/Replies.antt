@@ -2,7 +2,6 @@
 use Rattle.std.proofs.Common.{◌≡◌, List, [], ◌∷◌, codes, length, ℕ, Vec, Global, refl, ap, sym, subst}
 use Rattle.std.proofs.Common.{inl}
 use Rattle.std.proofs.Common.{inr}
-use Rattle.std.specs.List.{Contains}
 use Rattle.std.specs.declared.option.Option.{Option}
 use Rattle.std.specs.declared.option.Option.TheVariants.{None, Some}
 use Rattle.std.specs.declared.result.Result.{Result}
@@ -15,19 +14,21 @@ use Rattle.power_commutator.specs.Presentations.{Presentation}
 use Rattle.coho_main.specs.declared.stop.Stop.{Stop}
 use Rattle.coho_main.specs.declared.words.Command.{Command as Named}
 use Rattle.coho_main.specs.Groups.{ForGroupOf}
-use Rattle.coho_main.specs.Outcome.{Ask, Load, Given, Report, FitStages, FitElements, FitClass, Evaluate}
+use Rattle.coho_main.specs.Outcome.{Ask, Load, Given, Report, FitElements, FitClass, Evaluate, TellReport}
+use Rattle.coho_main.specs.StageFiles.{FitStages}
 use Rattle.coho_main.specs.Outcome.{Answer}
-use Rattle.coho_main.specs.Outcome.{AnswerGroup, AnswerResolve, AnswerRing, AnswerValue, AnswerSample}
+use Rattle.coho_main.specs.Outcome.{AnswerGroup, AnswerResolve, AnswerValue, AnswerSample}
 use Rattle.coho_main.specs.Outcome.{Reply, Comes, group_lines, line, stage_lines}
 use Rattle.coho_main.specs.Evaluating.{HasClass, IsClassRefusal, IsValue}
 use Rattle.coho_main.specs.Ringing.{IsReportTo, IsReportRefusal}
 use Rattle.coho_main.specs.Run.{OfFiles}
-use Rattle.coho_main.specs.Stages.{Summary, AreStagesTo, Fit, IsStageRefusal}
+use Rattle.coho_main.specs.Stages.{Summary, AreStagesTo, IsStageRefusal}
+use Rattle.stage_walk.specs.Dimensions.{Fit}
 use Rattle.coho_main.specs.Steps.{Refusal, Step, ◌>>=◌, Gives}
 use Rattle.coho_main.specs.Stops.{IsRefused, Meets, Settles}
 use Rattle.coho_main.specs.Samples.{sample_lines}
-use Rattle.coho_main.specs.Words.{Command, Group, Resolve, Ring, Value, Sample, IsRead, asked, command}
-use Rattle.coho_main.specs.Words.{contents, path_of, read_paths}
+use Rattle.coho_main.specs.Words.{Command, Group, Resolve, Ring, Check, Value, Sample, asked, contents}
+use Rattle.coho_main.specs.Words.{path_of}
 use Rattle.coho_main.proofs.Chain.{after_ok, at_stop, refused_settles, settled_after_ok, settled_at_stop}
 use Rattle.coho_main.proofs.Chain.{settled_meets}
 use Rattle.coho_main.proofs.Seen.{some_files}
@@ -38,7 +39,7 @@ Lines = Vec (Vec ℕ Global) Global
 abbrev pub lines_of : Lines → List (List ℕ)
 lines_of lines = contents lines.items
 
-abbrev itself : Presentation → Presentation
+abbrev pub itself : Presentation → Presentation
 itself P = P
 
 abbrev pub group_answer : Presentation → List ℕ → Step (List (List ℕ))
@@ -49,9 +50,6 @@ stage_answer stages = Gives (stage_lines stages)
 
 abbrev pub report_answer : ReportValue → Step (List (List ℕ))
 report_answer report = Gives (report_lines report)
-
-abbrev pub after_fit : Presentation → ℕ → Unit {0} → Step (List (List ℕ))
-after_fit P n _ = Report P n >>= report_answer
 
 abbrev pub value_answer : ℕ → Step (List (List ℕ))
 value_answer v = Gives (line (codes "value ") v ∷ [])
@@ -94,26 +92,16 @@ module _ (P : Presentation) (n : ℕ) where
   resolve_refused s h = refused_settles lines_of (AnswerResolve P n) StageRefusal s h
       (λ r q files. inr (r, (q, refl), refl))
 
-  pub ring_refused : (s : Stop) → IsRefused StageRefusal s → Settles lines_of (AnswerRing P n) (Err s)
-  ring_refused s h = refused_settles lines_of (AnswerRing P n) StageRefusal s h
+  pub ring_too_many : (s : Stop) → IsRefused (λ refusal. ForGroupOf P (λ G. IsReportRefusal G n refusal)) s
+      → Settles lines_of (TellReport P n) (Err s)
+  ring_too_many s h =
+      refused_settles lines_of (TellReport P n)
+      (λ refusal. ForGroupOf P (λ G. IsReportRefusal G n refusal)) s h
       (λ r q files. inr (r, (q, refl), refl))
 
-  module _ (fit : ForGroupOf P (λ G. Fit G n)) where
-    pub ring_too_many : (s : Stop) → IsRefused (λ refusal. ForGroupOf P (λ G. IsReportRefusal G n refusal)) s
-        → Settles lines_of (AnswerRing P n) (Err s)
-    ring_too_many s h =
-        refused_settles lines_of (AnswerRing P n)
-        (λ refusal. ForGroupOf P (λ G. IsReportRefusal G n refusal)) s h
-        (λ r q files. inl (tt, files, (fit, refl), inr (r, (q, refl), refl)))
-
-    pub ring_then : (report : ReportValue) (lines : Lines) → ForGroupOf P (λ G. IsReportTo G n report)
-        → contents lines.items ≡ report_lines report → Settles lines_of (AnswerRing P n) (Ok lines)
-    ring_then report lines is e = λ files. inl (
-      tt,
-      files,
-      (fit, refl),
-      inl (report, files, (is, refl), (ap (λ ls. Ok ls) e, refl)),
-    )
+  pub ring_then : (report : ReportValue) (lines : Lines) → ForGroupOf P (λ G. IsReportTo G n report)
+      → contents lines.items ≡ report_lines report → Settles lines_of (TellReport P n) (Ok lines)
+  ring_then report lines is e = λ files. inl (report, files, (is, refl), (ap (λ ls. Ok ls) e, refl))
 
 module _ (P : Presentation) (k : ℕ) (es : List ℕ) where
   abbrev unit : Unit {0} → Unit {0}
@@ -210,16 +198,6 @@ module _ (known : Option Content) where
       → MeetsOf lines_of (Reply named) known (Err s)
   given_stop named s h = (h.0, h.1, at_stop itself lines_of (Given named) (Answer named) h.0 h.0 s h.2)
 
-  pub given_then : (named : Command) (P : Presentation) (r : Result Lines Stop)
-      → MeetsOf itself (Given named) known (Ok P) → Settles lines_of (Answer named P) r
-      → MeetsOf lines_of (Reply named) known r
-  given_then named P r h a = (
-    h.0,
-    h.1,
-    after_ok itself lines_of (Given named) (Answer named) h.0 h.0 h.0 P r h.2
-        (settled_meets lines_of (Answer named P) h.0 r a),
-  )
-
   -- the file of a command was read
   pub given_load : (named : Command) (path : List ℕ) (r : Result Presentation Stop)
       → path_of named ≡ Some path
@@ -227,7 +205,10 @@ module _ (known : Option Content) where
   given_load (Group p) path r e h = subst (λ p. MeetsOf itself (Load p) known r) (sym (same_path p path e)) h
   given_load (Resolve p n) path r e h = subst (λ p. MeetsOf itself (Load p) known r)
       (sym (same_path p path e)) h
-  given_load (Ring p n) path r e h = subst (λ p. MeetsOf itself (Load p) known r) (sym (same_path p path e)) h
+  given_load (Ring p n files) path r e h = subst (λ p. MeetsOf itself (Load p) known r)
+      (sym (same_path p path e)) h
+  given_load (Check p stages) path r e h = subst (λ p. MeetsOf itself (Load p) known r)
+      (sym (same_path p path e)) h
   given_load (Value p k es) path r e h = subst (λ p. MeetsOf itself (Load p) known r)
       (sym (same_path p path e)) h
   given_load (Sample k) path r e h = absurd (let no : ◌≡◌ {A = Option (List ℕ)} None (Some path) = e in cc)
@@ -237,8 +218,3 @@ module _ (known : Option Content) where
       → MeetsOf view step known r
   settled_given view step r h =
       let some = some_files known in (some.0, some.1, settled_meets view step some.0 r h)
-
--- what the command reads, the words read
-pub is_read : (words : List (List ℕ)) (named : Command) → command words ≡ Some named → (p : List ℕ)
-    → Contains (read_paths named) p → IsRead words p
-is_read words named is p reads = (named, is, reads)

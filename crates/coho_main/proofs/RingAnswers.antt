@@ -16,14 +16,15 @@ use Rattle.coho_main.specs.declared.cause.Cause.{Cause}
 use Rattle.coho_main.specs.declared.cause.Cause.TheVariants as cause
 use Rattle.coho_main.specs.declared.stop.Stop.{Stop}
 use Rattle.coho_main.specs.declared.stop.Stop.TheVariants as stop
-use Rattle.coho_main.specs.Outcome.{Load, AnswerRing, Reply, Comes}
+use Rattle.coho_main.specs.Outcome.{Load, AnswerRing, Reply, Comes, TellReport}
 use Rattle.coho_main.specs.Refusals.{words_refused}
 use Rattle.coho_main.specs.RingAnswers.{TellsRing, TellsRingOf}
 use Rattle.coho_main.specs.Run.{OfFiles}
+use Rattle.coho_main.specs.Saving.{FromTo}
 use Rattle.coho_main.specs.Steps.{Refusal, OrRefuse}
-use Rattle.coho_main.specs.Stops.{refusal_of, told}
-use Rattle.coho_main.specs.Words.{Ring, command}
-use Rattle.coho_main.proofs.Replies.{Lines, lines_of, MeetsOf, after_fit}
+use Rattle.coho_main.specs.Stops.{Meets, refusal_of, told}
+use Rattle.coho_main.specs.Words.{Ring, StageFiles, command}
+use Rattle.coho_main.proofs.Replies.{Lines, lines_of}
 use Rattle.coho_main.proofs.Run.{Reported}
 
 abbrev Answers : Type 0
@@ -35,10 +36,11 @@ pub some_is : {A : Type 0} (o : Option A) (x y : A) (old new : Content)
 some_is None x y old new h e = absurd (let no = e in cc)
 some_is (Some z) x y old new h e = ((let first = h.0 in let second = e in cc), h.1)
 
-module _ (path : List ℕ) (n : ℕ) (files : Content) (lines : Answers) (old new : Option (List ℕ))
+module _ (path : List ℕ) (n : ℕ) (stages : StageFiles) (files : Content) (lines : Answers) (old new : Option
+    (List ℕ))
     (wrote : Appends old new (concat lines)) where
   of_report : (P : Presentation) (left mid end : Content) → Load path files (Ok P) left
-      → after_fit P n tt mid (Ok lines) end → TellsRing path n files old new
+      → TellReport P n mid (Ok lines) end → TellsRing path n files old new
   of_report P left mid end load (inr h) = absurd (let no = h.2 in cc)
   of_report P left mid end load (inl h) =
       let same : ◌≡◌ {A = Result Answers Refusal} (Ok lines) (Ok (report_lines h.0)) = h.3.0 in
@@ -55,31 +57,33 @@ module _ (path : List ℕ) (n : ℕ) (files : Content) (lines : Answers) (old ne
       }
 
   of_fit : (P : Presentation) (left end : Content) → Load path files (Ok P) left
-      → AnswerRing P n left (Ok lines) end → TellsRing path n files old new
+      → AnswerRing P n stages left (Ok lines) end → TellsRing path n files old new
   of_fit P left end load (inr h) = absurd (let no = h.2 in cc)
   of_fit P left end load (inl h) = of_report P left h.1 end load h.3
 
-  of_reply : (end : Content) → Reply (Ring path n) files (Ok lines) end → TellsRing path n files old new
+  of_reply : (end : Content) → Reply (Ring path n stages) files (Ok lines) end
+      → TellsRing path n files old new
   of_reply end (inr h) = absurd (let no = h.2 in cc)
   of_reply end (inl h) = of_fit h.0 h.1 end h.2 h.3
 
   pub of_words : (words : List (List ℕ)) (end : Content) → Comes words files (Ok lines) end
-      → command words ≡ Some (Ring path n) → TellsRing path n files old new
+      → command words ≡ Some (Ring path n stages) → TellsRing path n files old new
   of_words words end (inr h) e = absurd (let no = h.2 in cc)
   of_words words end (inl h) e =
-      let is = some_is (command words) (Ring path n) h.0 files h.1 h.2 e in
+      let is = some_is (command words) (Ring path n stages) h.0 files h.1 h.2 e in
       of_reply end
-      (subst (λ mid. Reply (Ring path n) mid (Ok lines) end) is.1
+      (subst (λ mid. Reply (Ring path n stages) mid (Ok lines) end) is.1
       (subst (λ asked. Reply asked h.1 (Ok lines) end) is.0 h.3))
 
 -- an answer that was written
-pub tells_ring : (words : List (List ℕ)) (known : Option Content) (lines : Lines) (old new : Option (List ℕ))
-    → MeetsOf lines_of (Comes words) known (Ok lines) → Appends old new (concat (lines_of lines))
-    → OfFiles known (TellsRingOf words old new)
-tells_ring words known lines old new h wrote = (
+pub tells_ring : (words : List (List ℕ)) (known now : Option Content) (lines : Lines) (old new : Option
+    (List ℕ))
+    → FromTo known now (λ files after. Meets lines_of (Comes words) files after (Ok lines))
+    → Appends old new (concat (lines_of lines)) → OfFiles known (TellsRingOf words old new)
+tells_ring words known now lines old new h wrote = (
   h.0,
-  h.1,
-  λ path n e. of_words path n h.0 (lines_of lines) old new wrote words h.0 h.2 e,
+  h.2,
+  λ path n stages e. of_words path n stages h.0 (lines_of lines) old new wrote words h.1 h.4 e,
 )
 
 -- no stop has the status of an answer
@@ -89,6 +93,7 @@ cause_not_answered cause.Length e = cc
 cause_not_answered (cause.Text kind line column) e = cc
 cause_not_answered cause.Order e = cc
 cause_not_answered (cause.Inconsistent name) e = cc
+cause_not_answered (cause.StageFile part) e = cc
 cause_not_answered (cause.Stage d X) e = cc
 cause_not_answered (cause.SubgroupStage i d X) e = cc
 cause_not_answered (cause.Monomials d X) e = cc
@@ -99,6 +104,7 @@ not_answered : (s : Stop) → (told s).status ≢ status.Answered
 not_answered (stop.Refused why) e = cause_not_answered why e
 not_answered (stop.Read path) e = cc
 not_answered stop.Write e = cc
+not_answered (stop.Save path) e = cc
 not_answered stop.Memory e = cc
 
 -- a run that stopped is not answered

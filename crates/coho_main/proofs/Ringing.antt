@@ -20,7 +20,7 @@ use Rattle.coho_main.specs.Groups.{ForGroupOf}
 use Rattle.coho_main.specs.Refusals.{monomials_refused, subgroup_refused}
 use Rattle.coho_main.specs.Resolving.{IsResolutionTo}
 use Rattle.coho_main.specs.Ringing.{IsReportTo, IsReportRefusal, stop_of}
-use Rattle.coho_main.specs.Stages.{Fit}
+use Rattle.stage_walk.specs.Dimensions.{Fit}
 use Rattle.coho_main.specs.Steps.{Refusal}
 use Rattle.coho_main.specs.Stops.{IsRefused}
 use Rattle.coho_main.proofs.Proper.{IsDecided}

@@ -20,8 +20,10 @@ use Rattle.min_res.specs.Defined.{IsStageAt}
 use Rattle.min_res.specs.Stages.{rank_of, stage_rows}
 use Rattle.min_res.specs.Refusals.{IsRefusal}
 use Rattle.coho_main.specs.Outcome.{after_space, stage_line, stage_lines}
-use Rattle.coho_main.specs.Stages.{Summary, summary, HasRows, rows_at, stage_at, stages_below, dimension, Fit}
-use Rattle.coho_main.specs.Stages.{IsFirstAbove, AreStagesTo, IsStageRefusal}
+use Rattle.coho_main.specs.Stages.{Summary, summary, HasRows, rows_at, stage_at, stages_below}
+use Rattle.stage_walk.specs.Dimensions.{dimension, Fit}
+use Rattle.coho_main.specs.Stages.{AreStagesTo, IsStageRefusal}
+use Rattle.stage_walk.specs.Dimensions.{IsFirstAbove}
 use Rattle.coho_main.specs.Words.{contents}
 use Rattle.power_commutator.specs.Presentations.{Presentation}
 use Rattle.coho_main.specs.Stops.{IsRefused}

@@ -1,7 +1,7 @@
 -- The stages through a degree fit, or there is a first one that does not.
 use Rattle.std.proofs.Common.{◌≡◌, ◌⊎◌, inl, inr, ℕ, zero, suc, ◌<◌, ◌≤◌, refl, subst, arith}
 use Rattle.std.proofs.lemmas.Bool.{cases_lt}
-use Rattle.coho_main.specs.Stages.{dimension, Fit, IsFirstAbove}
+use Rattle.stage_walk.specs.Dimensions.{dimension, Fit, IsFirstAbove}
 use Rattle.p_groups.specs.PGroups.{PGroup}
 use Rattle.limits.specs.declared.TheConstants.{GREATEST_DIMENSION}
 

@@ -7,7 +7,7 @@ use Rattle.power_commutator.specs.Presentations.{Presentation}
 use Rattle.coho_main.specs.Evaluating.{AreCocycleClasses}
 use Rattle.coho_main.specs.Groups.{ForGroupOf}
 use Rattle.coho_main.specs.Outcome.{Load}
-use Rattle.coho_main.specs.Words.{Resolve, Ring, command}
+use Rattle.coho_main.specs.Words.{Resolve, Ring, StageFiles, command}
 
 -- for the group of the presentation in the file, the classes of each degree through n are the cocycles of its
 -- bar complex up to coboundaries
@@ -20,6 +20,6 @@ pub record HasCocycleClasses (path : List ℕ) (n : ℕ) (files : Content) : Typ
 -- the same where the words ask for a resolution or for a ring
 abbrev pub HasCocycleClassesOf : List (List ℕ) → Content → Type 0
 HasCocycleClassesOf words files =
-    (path : List ℕ) (n : ℕ)
-    → (command words ≡ Some (Resolve path n)) ⊎ (command words ≡ Some (Ring path n))
+    (path : List ℕ) (n : ℕ) (stages : StageFiles)
+    → (command words ≡ Some (Resolve path n)) ⊎ (command words ≡ Some (Ring path n stages))
     → HasCocycleClasses path n files

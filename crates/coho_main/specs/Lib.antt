@@ -5,13 +5,17 @@ pub mod Refusals
 pub mod Groups
 pub mod Ringing
 pub mod Evaluating
+pub mod StageFiles
 pub mod Outcome
 pub mod Stops
 pub mod Reading
 pub mod Run
+pub mod Saving
+pub mod HonestFiles
 pub mod Statuses
 pub mod Stages
 pub mod Resolving
+pub mod Stopping
 pub mod RingAnswers
 pub mod ClassAnswers
 pub mod Products

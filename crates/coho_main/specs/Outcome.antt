@@ -7,7 +7,7 @@ use Rattle.std.specs.declared.result.Result.{Result}
 use Rattle.std.specs.declared.result.Result.TheVariants.{Ok, Err}
 use Rattle.std.specs.List.{concat, find}
 use Rattle.std.specs.Option.{option_map}
-use Rattle.limits.specs.declared.TheConstants.{GREATEST_ORDER, LONGEST_TEXT}
+use Rattle.limits.specs.declared.TheConstants.{GREATEST_DEGREE, GREATEST_ORDER, LONGEST_TEXT}
 use Rattle.coho_io.specs.Content.{Content, file}
 use Rattle.power_commutator.specs.declared.TestName.{TestName}
 use Rattle.power_commutator.specs.Presentations.{Presentation, first_fault}
@@ -19,9 +19,10 @@ use Rattle.coho_main.specs.Steps.{Refusal, Step, ◌>>=◌, Gives, Refuses, OrRe
 use Rattle.coho_main.specs.Refusals.{words_refused, read_refused, length_refused, text_refused, order_refused}
 use Rattle.coho_main.specs.Refusals.{test_refused, element_refused}
 use Rattle.coho_main.specs.Samples.{sample, sample_lines}
-use Rattle.coho_main.specs.Words.{Command, Group, Resolve, Ring, Value, Sample, command}
+use Rattle.coho_main.specs.Words.{Command, Group, Resolve, Ring, Check, Value, Sample, StageFiles, command}
 use Rattle.group_algebra.specs.Coordinates.{sizes}
-use Rattle.coho_main.specs.Stages.{Summary, Fit, AreStagesTo, IsStageRefusal}
+use Rattle.coho_main.specs.Stages.{Summary, AreStagesTo, IsStageRefusal}
+use Rattle.coho_main.specs.StageFiles.{FindStages, FitStages, WalkFile}
 use Rattle.coho_main.specs.Evaluating.{HasClass, IsClassRefusal, IsValue}
 use Rattle.coho_main.specs.Ringing.{IsReportTo, IsReportRefusal}
 use Rattle.coho_report.specs.Values.{ReportValue}
@@ -93,10 +94,6 @@ Layers P = OnGroup P (λ G dimensions. dimensions ≡ sizes G) (λ G refusal. �
 abbrev pub Stages : Presentation → ℕ → Step (List Summary)
 Stages P n = OnGroup P (λ G stages. AreStagesTo G n stages) (λ G refusal. IsStageRefusal G n refusal)
 
--- no stage to degree n is above the limit, or the first one
-abbrev pub FitStages : Presentation → ℕ → Step (Unit {0})
-FitStages P n = OnGroup P (λ G _. Fit G n) (λ G refusal. IsStageRefusal G n refusal)
-
 -- the report on the cohomology ring through degree n, or the first degree that has too many monomials, or the
 -- first subgroup over which a stage is too large
 abbrev pub Report : Presentation → ℕ → Step ReportValue
@@ -167,11 +164,27 @@ AnswerResolve P n = do
   stages ← Stages P n
   Gives (stage_lines stages)
 
-abbrev pub AnswerRing : Presentation → ℕ → Step (List (List ℕ))
-AnswerRing P n = do
-  _ ← FitStages P n
+-- the lines of the report
+abbrev pub TellReport : Presentation → ℕ → Step (List (List ℕ))
+TellReport P n = do
   report ← Report P n
   Gives (report_lines report)
+
+-- the stages are found, and then the report is told
+abbrev pub AnswerRing : Presentation → ℕ → StageFiles → Step (List (List ℕ))
+AnswerRing P n files = do
+  _ ← FindStages P n files
+  TellReport P n
+
+-- the line with a number of records
+abbrev pub TellCount : ℕ → Step (List (List ℕ))
+TellCount count = Gives (line (codes "records ") count ∷ [])
+
+-- the number of records that are taken from the stage file
+abbrev pub AnswerCheck : Presentation → List ℕ → Step (List (List ℕ))
+AnswerCheck P stages = do
+  count ← WalkFile P GREATEST_DEGREE stages
+  TellCount count
 
 abbrev pub AnswerValue : Presentation → ℕ → List ℕ → Step (List (List ℕ))
 AnswerValue P k es = do
@@ -191,7 +204,8 @@ AnswerSample P k = do
 abbrev pub Answer : Command → Presentation → Step (List (List ℕ))
 Answer (Group path) P = AnswerGroup P
 Answer (Resolve path n) P = AnswerResolve P n
-Answer (Ring path n) P = AnswerRing P n
+Answer (Ring path n files) P = AnswerRing P n files
+Answer (Check path stages) P = AnswerCheck P stages
 Answer (Value path k es) P = AnswerValue P k es
 Answer (Sample k) P = AnswerSample P k
 
@@ -199,7 +213,8 @@ Answer (Sample k) P = AnswerSample P k
 abbrev pub Given : Command → Step Presentation
 Given (Group path) = Load path
 Given (Resolve path n) = Load path
-Given (Ring path n) = Load path
+Given (Ring path n files) = Load path
+Given (Check path stages) = Load path
 Given (Value path k es) = Load path
 Given (Sample k) = Accept (sample k)
 

@@ -6,6 +6,8 @@ use Rattle.power_commutator.specs.declared.TestName.{TestName}
 use Rattle.power_commutator.specs.declared.TestName.TheVariants as test
 use Rattle.pc_text.specs.Faults.{Fault}
 use Rattle.pc_text.specs.Kinds.{kind_name}
+use Rattle.stage_records.specs.Walks.{WalkFault}
+use Rattle.stage_records.specs.Walks as walks
 use Rattle.coho_main.specs.declared.status.Status.TheVariants as status
 use Rattle.coho_main.specs.Steps.{Refusal}
 
@@ -56,6 +58,19 @@ abbrev pub test_refused : TestName → Refusal
 test_refused name = record {
   status = status.Inconsistent;
   line = codes "coho: inconsistent: " ++ (test_words name ++ 10 ∷ []);
+}
+
+-- what is refused of a stage file
+abbrev pub fault_words : WalkFault → List ℕ
+fault_words walks.Header = codes "header"
+fault_words walks.Presentation = codes "presentation"
+fault_words (walks.Record d) = codes "record " ++ decimal d
+
+-- a stage file is not an honest one
+abbrev pub file_refused : WalkFault → Refusal
+file_refused fault = record {
+  status = status.Stage;
+  line = codes "coho: stage file refused: " ++ (fault_words fault ++ 10 ∷ []);
 }
 
 -- the stage of degree d has a free module of dimension X
@@ -110,6 +125,13 @@ class_refused d b = record {
 -- a write to out that failed
 abbrev pub write_refused : Refusal
 write_refused = record { status = status.Write; line = codes "coho: write failed" ++ 10 ∷ [] }
+
+-- a call on the file that is saved to that failed
+abbrev pub save_refused : List ℕ → Refusal
+save_refused path = record {
+  status = status.Write;
+  line = codes "coho: write failed: " ++ (path ++ 10 ∷ []);
+}
 
 abbrev pub memory_refused : Refusal
 memory_refused = record { status = status.Memory; line = codes "coho: out of memory" ++ 10 ∷ [] }

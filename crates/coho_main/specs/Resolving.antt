@@ -9,7 +9,8 @@ use Rattle.coho_main.specs.declared.cause.Cause.TheVariants as cause
 use Rattle.coho_main.specs.declared.stop.Stop.{Stop}
 use Rattle.coho_main.specs.declared.stop.Stop.TheVariants as stop
 use Rattle.coho_main.specs.Groups.{IsTableOf}
-use Rattle.coho_main.specs.Stages.{Summary, stage_at, stages_below, Fit, IsFirstAbove}
+use Rattle.coho_main.specs.Stages.{Summary, stage_at, stages_below}
+use Rattle.stage_walk.specs.Dimensions.{Fit, IsFirstAbove}
 use Rattle.coho_main.specs.Outcome.{stage_line, stage_lines}
 
 -- the fault names the first stage to degree n that does not fit, or memory was wanting

@@ -12,7 +12,7 @@ use Rattle.coho_report.specs.Lines.{report_text}
 use Rattle.coho_report.specs.Cohomology.{IsCohomologyReport}
 use Rattle.coho_main.specs.Groups.{IsTableOf}
 use Rattle.coho_main.specs.Outcome.{Load}
-use Rattle.coho_main.specs.Words.{Ring, command}
+use Rattle.coho_main.specs.Words.{Ring, StageFiles, command}
 
 -- for the group of the presentation in the file, out gained the text of a report whose generators, relations
 -- and tables are those of the cohomology ring of the bar complex through degree n
@@ -29,4 +29,5 @@ pub record TellsRing (path : List ℕ) (n : ℕ) (files : Content) (old new : Op
 -- the same where the words ask for a ring
 abbrev pub TellsRingOf : List (List ℕ) → Option (List ℕ) → Option (List ℕ) → Content → Type 0
 TellsRingOf words old new files =
-    (path : List ℕ) (n : ℕ) → command words ≡ Some (Ring path n) → TellsRing path n files old new
+    (path : List ℕ) (n : ℕ) (stages : StageFiles) → command words ≡ Some (Ring path n stages)
+        → TellsRing path n files old new

@@ -8,7 +8,7 @@ use Rattle.coho_io.specs.Bytes.{AppendsFront}
 use Rattle.coho_io.specs.Content.{Content, file}
 use Rattle.coho_main.specs.declared.status.Status.{Status}
 use Rattle.coho_main.specs.declared.status.Status.TheVariants as status
-use Rattle.coho_main.specs.Refusals.{read_refused, write_refused, memory_refused}
+use Rattle.coho_main.specs.Refusals.{read_refused, save_refused, write_refused, memory_refused}
 use Rattle.coho_main.specs.Words.{IsRead, IsSaved}
 use Rattle.coho_main.specs.Outcome.{Ending, Outcome}
 
@@ -73,27 +73,54 @@ abbrev pub Answers : List (List ℕ) → Content → Type 0
 Answers words files = (e : Ending) × Outcome words files e × (e.status ≡ status.Answered)
 
 -- the lines of which a run that wants memory may have written the first bytes: that of want of
--- memory, that of the outcome, that of a read that failed, and that of a write of an answer that failed
-abbrev pub MayTell : List (List ℕ) → (List ℕ → Type 0) → Type 0 → List ℕ → Content → Type 0
-MayTell words ReadFailed WriteFailed line files =
+-- memory, that of the outcome, that of a read that failed, that of a call on a file to save to that failed, and
+-- that of a write of an answer that failed
+abbrev pub MayTell : List (List ℕ) → (ReadFailed SaveFailed : List ℕ → Type 0) → Type 0 → List ℕ → Content
+    → Type 0
+MayTell words ReadFailed SaveFailed WriteFailed line files =
     (line ≡ memory_refused.line)
     ⊎ (((e : Ending) × Outcome words files e × (line ≡ e.line))
     ⊎ (((path : List ℕ) × ReadFailed path × (line ≡ (read_refused path).line))
-    ⊎ (WriteFailed × Answers words files × (line ≡ write_refused.line))))
+    ⊎ (((path : List ℕ) × SaveFailed path × (line ≡ (save_refused path).line))
+    ⊎ (WriteFailed × Answers words files × (line ≡ write_refused.line)))))
 
 -- the sink gained the first bytes of such a line
 abbrev pub ToldFront :
-    List (List ℕ) → (List ℕ → Type 0) → Type 0 → Option (List ℕ) → Option (List ℕ) → Content → Type 0
-ToldFront words ReadFailed WriteFailed old new files =
-    (line : List ℕ) × AppendsFront old new line × MayTell words ReadFailed WriteFailed line files
+    List (List ℕ) → (ReadFailed SaveFailed : List ℕ → Type 0) → Type 0 → Option (List ℕ) → Option (List ℕ)
+    → Content → Type 0
+ToldFront words ReadFailed SaveFailed WriteFailed old new files =
+    (line : List ℕ) × AppendsFront old new line × MayTell words ReadFailed SaveFailed WriteFailed line files
 
 -- what a run that wants memory has written, on out and on err
 pub record WantsMemory
-    (words : List (List ℕ)) (ReadFailed : List ℕ → Type 0) (WriteFailed : Type 0)
+    (words : List (List ℕ)) (ReadFailed SaveFailed : List ℕ → Type 0) (WriteFailed : Type 0)
     (out out_now err err_now : Option (List ℕ)) (files : Content) : Type 0 where
   pub on_out : WroteFront words out out_now files
-  pub on_err : ToldFront words ReadFailed WriteFailed err err_now files
+  pub on_err : ToldFront words ReadFailed SaveFailed WriteFailed err err_now files
 
 -- no count of a path that the words' command reads rose
 abbrev pub NoReadFault : List (List ℕ) → (List ℕ → ℕ) → (List ℕ → ℕ) → Type 0
 NoReadFault words before now = (path : List ℕ) → IsRead words path → Rose (before path) (now path) → ⊥
+
+-- the same of a path that the words save to
+abbrev pub NoSaveFault : List (List ℕ) → (List ℕ → ℕ) → (List ℕ → ℕ) → Type 0
+NoSaveFault words before now = (path : List ℕ) → IsSaved words path → Rose (before path) (now path) → ⊥
+
+-- a write to out failed: its count rose, its line was told, and out has the first bytes of the answer
+pub record FailsOnOut
+    (words : List (List ℕ)) (known : Option Content) (out out_now err err_now : Option (List ℕ))
+    (faults faults_now err_faults err_faults_now : ℕ) : Type 0 where
+  pub rose : Rose faults faults_now
+  pub line : Tells err err_now err_faults err_faults_now write_refused.line
+  pub front : OfFiles known (AnswersFront words out out_now)
+
+-- a call on a file that the words save to failed: its count rose, its line was told, and out has gained
+-- nothing
+pub record FailsOnSave
+    (words : List (List ℕ)) (out out_now err err_now : Option (List ℕ))
+    (writes writes_now : List ℕ → ℕ) (err_faults err_faults_now : ℕ) : Type 0 where
+  pub path : List ℕ
+  pub saved : IsSaved words path
+  pub rose : Rose (writes path) (writes_now path)
+  pub line : Tells err err_now err_faults err_faults_now (save_refused path).line
+  pub unwritten : out_now ≡ out

@@ -1,12 +1,12 @@
 -- The stages of the minimal resolution of a presentation's group.
-use Rattle.std.specs.Prelude.{◌≡◌, ℕ, zero, suc, ◌*◌, ◌<◌, ◌≤◌, List, [], ◌∷◌, ◌++◌, length, MatchOption}
+use Rattle.std.specs.Prelude.{◌≡◌, ℕ, zero, suc, ◌<◌, List, [], ◌∷◌, ◌++◌, length, MatchOption}
 use Rattle.std.specs.declared.option.Option.{Option}
 use Rattle.std.specs.declared.option.Option.TheVariants.{None, Some}
 use Rattle.std.specs.Option.{option_map}
-use Rattle.limits.specs.declared.TheConstants.{GREATEST_DIMENSION}
-use Rattle.p_groups.specs.PGroups.{PGroup, order_of}
+use Rattle.p_groups.specs.PGroups.{PGroup}
 use Rattle.min_res.specs.Values.{StageValue}
 use Rattle.min_res.specs.Stages.{stage_rows, rank_of}
+use Rattle.stage_walk.specs.Dimensions.{Fit, IsFirstAbove}
 use Rattle.coho_main.specs.Refusals.{stage_refused}
 use Rattle.coho_main.specs.Steps.{Refusal}
 
@@ -51,27 +51,11 @@ module _ (G : PGroup) where
   stages_below zero = []
   stages_below (suc c) = stages_below c ++ stage_at c ∷ []
 
-  -- the dimension of the free module of degree d
-  abbrev pub dimension : ℕ → ℕ
-  dimension d = order_of G * rank_of G d
-
-  -- no dimension in the degrees 1 to n is above the limit
-  abbrev pub Fit : ℕ → Type 0
-  Fit n = (d : ℕ) → 1 ≤ d → d ≤ n → dimension d ≤ GREATEST_DIMENSION
-
-  -- X is the first dimension in the degrees 1 to n that is above the limit, and d its degree
-  pub record IsFirstAbove (n d X : ℕ) : Type 0 where
-    pub from : 1 ≤ d
-    pub to : d ≤ n
-    pub is : X ≡ dimension d
-    pub above : GREATEST_DIMENSION < X
-    pub first : (c : ℕ) → 1 ≤ c → c < d → dimension c ≤ GREATEST_DIMENSION
-
   -- the refusal names the first stage to degree n that does not fit
   abbrev pub IsStageRefusal : ℕ → Refusal → Type 0
-  IsStageRefusal n refusal = (d : ℕ) × (X : ℕ) × IsFirstAbove n d X × (refusal ≡ stage_refused d X)
+  IsStageRefusal n refusal = (d : ℕ) × (X : ℕ) × IsFirstAbove G n d X × (refusal ≡ stage_refused d X)
 
   -- the stages of degree 0 to n, whose dimensions all fit
   pub record AreStagesTo (n : ℕ) (stages : List Summary) : Type 0 where
-    pub fit : Fit n
+    pub fit : Fit G n
     pub are : stages ≡ stages_below (suc n)

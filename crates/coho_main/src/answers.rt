@@ -119,3 +119,12 @@ pub fn sample_lines(alloc: Global, k: u32, report: &Report) -> Result<Vec<Vec<u8
     lines.append(&mut summary_lines(alloc, report)?)?;
     Ok(lines)
 }
+
+/// The line of the answer to `check`.
+pub fn record_lines(alloc: Global, count: u32) -> Result<Vec<Vec<u8>>, AllocError>
+    ensures { IfOk result (λ lines. contents lines.items ≡ line (codes "records ") count ∷ []) }
+{
+    let mut lines = Vec::new(alloc);
+    lines.push(format!(in alloc; "records {count}\n")?.into_bytes())?;
+    Ok(lines)
+}

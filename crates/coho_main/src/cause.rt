@@ -1,12 +1,23 @@
 ghost use Rattle.std.specs.Prelude.{◌≡◌, ◌++◌, ◌∷◌, [], codes, IfOk, string_bytes};
-ghost use Rattle.coho_main.specs.Refusals.{test_words};
-ghost use Rattle.coho_main.specs.Stops.{refusal_of};
+ghost use Rattle.coho_main.specs.Refusals.{fault_words, test_words};
+ghost use Rattle.coho_main.specs.Stops.{fault_at, refusal_of};
 
 use crate::Status;
 use limits::{GREATEST_DIMENSION, GREATEST_ORDER, LONGEST_TEXT, MOST_MONOMIALS};
 use pc_group::TestName;
 use pc_text::Kind;
 use std::alloc::{AllocError, Global};
+
+/// What of a stage file is refused.
+#[derive(Clone, Copy, Debug, PartialEq, Eq)]
+pub enum FilePart {
+    /// One of the first eight bytes.
+    Header,
+    /// The digest of another presentation.
+    Presentation,
+    /// The record of this number.
+    Record(u32),
+}
 
 /// Why a run is refused.
 #[derive(Clone, Copy, Debug, PartialEq, Eq)]
@@ -25,6 +36,8 @@ pub enum Cause {
     Order,
     /// The first false consistency test.
     Inconsistent(TestName),
+    /// A stage file is not an honest one.
+    StageFile(FilePart),
     /// The free module of the stage of this degree has a dimension above `GREATEST_DIMENSION`.
     Stage {
         degree: u32,
@@ -64,6 +77,7 @@ impl Cause {
             Cause::Text { .. } => Status::Text,
             Cause::Order => Status::Limit,
             Cause::Inconsistent(_) => Status::Inconsistent,
+            Cause::StageFile(_) => Status::Stage,
             Cause::Stage { .. } => Status::Limit,
             Cause::Monomials { .. } => Status::Limit,
             Cause::SubgroupStage { .. } => Status::Limit,
@@ -91,6 +105,10 @@ impl Cause {
             Cause::Inconsistent(test) => {
                 let test = test_words(alloc, test)?;
                 format!(in alloc; "coho: inconsistent: {test}\n")
+            }
+            Cause::StageFile(part) => {
+                let part = part_words(alloc, part)?;
+                format!(in alloc; "coho: stage file refused: {part}\n")
             }
             Cause::Stage { degree, dimension } => {
                 format!(in alloc;
@@ -120,6 +138,17 @@ impl Cause {
                 format!(in alloc; "coho: degree {degree} has only {count} classes\n")
             }
         }
+    }
+}
+
+// What of a stage file is refused.
+fn part_words(alloc: Global, part: FilePart) -> Result<String, AllocError>
+    ensures { IfOk result (λ text. string_bytes text ≡ fault_words (fault_at part)) }
+{
+    match part {
+        FilePart::Header => String::from_str(alloc, "header"),
+        FilePart::Presentation => String::from_str(alloc, "presentation"),
+        FilePart::Record(number) => format!(in alloc; "record {number}"),
     }
 }
 

@@ -1,4 +1,5 @@
 ghost use Rattle.std.specs.Prelude.{◌≡◌, ◌≤◌, length, OnOk};
+ghost use Rattle.coho_io.specs.Causes.{NoneFell};
 ghost use Rattle.coho_main.specs.Outcome.{FitLength, Present, ReadText, FitOrder, Test, Accept, Load, order};
 ghost use Rattle.coho_main.specs.Stops.{Meets, Settles, HasReadCause, OnlyReads};
 ghost use Rattle.coho_main.specs.Run.{OfFiles};
@@ -86,6 +87,7 @@ pub fn load<'a, F: Files>(
     ensures reads { OnlyReads (HasReadCause (λ p. p ≡ path.now))
         (F.content files.old) (F.content files.new)
         (F.read_faults files.old) (F.read_faults files.new) result }
+    ensures later_writes { NoneFell (F.write_faults files.old) (F.write_faults files.new) }
 {
     let text = read_front(alloc, files, path)?;
     let presentation = read_text(alloc, &text)?;

@@ -12,8 +12,8 @@ use clap::error::ErrorKind;
 use clap::{Arg, ArgMatches, Error};
 use std::alloc::Global;
 
-// The word is not empty, and begins with no dash.
-fn is_plain(word: &str) -> bool
+/// The word is not empty, and begins with no dash.
+pub fn is_plain(word: &str) -> bool
     ensures { result ≡ is_path word.now }
 {
     match word.as_bytes() {

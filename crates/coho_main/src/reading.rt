@@ -1,4 +1,5 @@
 ghost use Rattle.std.specs.Prelude.{◌≡◌, ◌≤◌, ◌+◌, ◌<◌, ◌++◌, length, take, drop, IfOk, Some};
+ghost use Rattle.coho_io.specs.Causes.{NoneFell};
 ghost use Rattle.coho_io.specs.Content.{Content, file};
 ghost use Rattle.coho_main.specs.Outcome.{ReadFront};
 ghost use Rattle.coho_main.specs.Stops.{Meets, IsReadStop, OnlyReads};
@@ -29,6 +30,7 @@ fn read_more<'a, F: Files>(
     ensures reads { OnlyReads (IsReadStop path.now)
         (F.content files.old) (F.content files.new)
         (F.read_faults files.old) (F.read_faults files.new) result }
+    ensures later_writes { NoneFell (F.write_faults files.old) (F.write_faults files.new) }
 {
     let mut piece = [0u8; PIECE];
     let room = PIECE.min(READ_LIMIT - text.len());
@@ -54,6 +56,7 @@ pub fn read_front<'a, F: Files>(
     ensures reads { OnlyReads (IsReadStop path.now)
         (F.content files.old) (F.content files.new)
         (F.read_faults files.old) (F.read_faults files.new) result }
+    ensures later_writes { NoneFell (F.write_faults files.old) (F.write_faults files.new) }
 {
     let mut text = Vec::new(alloc);
     while text.len() < READ_LIMIT {

@@ -1,26 +1,32 @@
 ghost use Rattle.std.specs.Prelude.{◌≡◌, ◌≢◌, ◌≤◌, ◌⊎◌, ℕ, List, None, Some};
 ghost use Rattle.std.specs.List.{Contains};
 ghost use Rattle.coho_io.specs.Content.{Content};
-ghost use Rattle.coho_io.specs.Causes.{Rose};
-ghost use Rattle.coho_main.specs.Words.{AskForValue, IsPlace, IsRead, IsWithin, asked, command, contents};
-ghost use Rattle.coho_main.specs.Words.{read_paths, texts};
-ghost use Rattle.coho_main.specs.Outcome.{Answer, AnswerGroup, AnswerResolve, AnswerRing, AnswerSample};
+ghost use Rattle.coho_io.specs.Causes.{NoneFell, Rose};
+ghost use Rattle.coho_main.specs.Words.{AskForValue, IsPlace, IsRead, IsSaved, IsWithin, asked, command};
+ghost use Rattle.coho_main.specs.Words.{contents, from_of, path_of, paths_of, save_of, stage_files, texts};
+ghost use Rattle.coho_main.specs.Outcome.{Answer, AnswerCheck, AnswerGroup, AnswerResolve, AnswerRing};
+ghost use Rattle.coho_main.specs.Outcome.{AnswerSample, TellCount, TellReport};
 ghost use Rattle.coho_main.specs.Outcome.{AnswerValue, Comes, Ending, Given, Outcome};
 ghost use Rattle.coho_main.specs.Refusals.{read_refused, write_refused};
 ghost use Rattle.coho_main.specs.RingAnswers.{TellsRingOf};
 ghost use Rattle.coho_main.specs.ClassAnswers.{HasCocycleClassesOf};
-ghost use Rattle.coho_main.specs.Stops.{Meets, Settles, HasReadCause, OnlyReads};
+ghost use Rattle.coho_main.specs.StageFiles.{IsFrontSaved};
+ghost use Rattle.coho_main.specs.Stops.{HasReadCause, Meets, OnlyReads, Settles};
+ghost use Rattle.coho_main.specs.Resolving.{IsResolutionTo};
+ghost use Rattle.power_commutator.specs.Presentations.{Presentation};
 ghost use Rattle.coho_main.specs.Run.{OfFiles, IsSettled, MayWrite, Tells, EndsAs, AnswersFront, WantsMemory};
-ghost use Rattle.coho_main.specs.Run.{NoReadFault, Stays};
+ghost use Rattle.coho_main.specs.Run.{FailsOnOut, FailsOnSave, NoReadFault, NoSaveFault, Stays};
+ghost use Rattle.coho_main.specs.Saving.{Answered, CommandLeaves, OfTold, WordsLeave, Works, reads_twice};
 
 use crate::{
-    Command, Status, Stop, accept, basis_value, fit_elements, group_lines, load,
-    radical_dimensions, read_words, report, resolution_of, sample_lines, sample_presentation,
-    stage_lines, value_lines, write_lines,
+    Cause, Command, FilePart, StageFiles, Status, Stop, accept, basis_value, count_records,
+    find_stages, fit_elements, group_lines, load, radical_dimensions, read_words, record_lines,
+    report, resolution_of, sample_lines, sample_presentation, stage_lines, value_lines, write_lines,
 };
 use coho_io::{Files, Sink};
 use coho_report::{compose, report_lines};
 use limits::{GREATEST_DEGREE, GREATEST_DIMENSION, MOST_MONOMIALS};
+use min_res::Resolution;
 use pc_group::Consistent;
 use std::alloc::Global;
 
@@ -48,15 +54,67 @@ fn answer_resolve<'a>(
     Ok(stage_lines(alloc, &resolution)?)
 }
 
-// The lines of the answer to `ring`.
-fn answer_ring<'a>(alloc: Global, consistent: &Consistent, n: u32) -> Result<Vec<Vec<u8>>, Stop<'a>>
+// The lines of the report on the ring.
+fn ring_lines<'a>(
+    alloc: Global,
+    resolution: &Resolution,
+    n: u32,
+) -> Result<Vec<Vec<u8>>, Stop<'a>>
     requires low { 1 ≤ n }
     requires high { n ≤ GREATEST_DEGREE }
-    ensures { Settles (λ lines. contents lines.items) (AnswerRing consistent.now n) result }
+    requires last { resolution.now.last ≡ n }
+    ensures { (P : Presentation) → IsResolutionTo P n resolution.now
+        → Settles (λ lines. contents lines.items) (TellReport P n) result }
 {
-    let resolution = resolution_of(alloc, consistent, n)?;
-    let report = compose(alloc, &resolution, n, MOST_MONOMIALS, GREATEST_DIMENSION)?;
+    let report = compose(alloc, resolution, n, MOST_MONOMIALS, GREATEST_DIMENSION)?;
     Ok(report_lines(alloc, &report)?)
+}
+
+// The lines of the answer to `ring`, with stage files.
+fn answer_ring<'a, F: Files>(
+    alloc: Global,
+    consistent: &Consistent,
+    n: u32,
+    named: StageFiles<'a>,
+    files: &mut F,
+) -> Result<Vec<Vec<u8>>, Stop<'a>>
+    requires low { 1 ≤ n }
+    requires high { n ≤ GREATEST_DEGREE }
+    ensures { Works (λ lines. contents lines.items) (AnswerRing consistent.now n (stage_files named.entry))
+        (stage_files named.entry).from (stage_files named.entry).save
+        (IsFrontSaved consistent.now n (stage_files named.entry).save)
+        (F.content files.old) (F.content files.new) (F.read_faults files.old) (F.read_faults files.new)
+        (F.write_faults files.old) (F.write_faults files.new) result }
+{
+    match find_stages(alloc, consistent, n, named, files) {
+        Ok(resolution) => ring_lines(alloc, &resolution, n),
+        Err(stop) => Err(stop),
+    }
+}
+
+// The line that tells how many records there are.
+fn check_lines<'a>(alloc: Global, count: u32) -> Result<Vec<Vec<u8>>, Stop<'a>>
+    ensures { Settles (λ lines. contents lines.items) (TellCount count) result }
+{
+    Ok(record_lines(alloc, count)?)
+}
+
+// The line of the answer to `check`.
+fn answer_check<'a, F: Files>(
+    alloc: Global,
+    consistent: &Consistent,
+    stages: &'a str,
+    files: &mut F,
+) -> Result<Vec<Vec<u8>>, Stop<'a>>
+    ensures { Works (λ lines. contents lines.items) (AnswerCheck consistent.now stages.now)
+        (Some stages.now) None (λ old left. left ≡ old)
+        (F.content files.old) (F.content files.new) (F.read_faults files.old) (F.read_faults files.new)
+        (F.write_faults files.old) (F.write_faults files.new) result }
+{
+    match count_records(alloc, consistent, stages, files) {
+        Ok(count) => check_lines(alloc, count),
+        Err(stop) => Err(stop),
+    }
 }
 
 // The line of the answer to `value`.
@@ -95,18 +153,24 @@ fn answer_sample<'a>(
 }
 
 // The lines of the answer to a command on its presentation.
-fn answer_on<'a>(
+fn answer_on<'a, F: Files>(
     alloc: Global,
     command: Command<'a>,
     consistent: &Consistent,
+    files: &mut F,
 ) -> Result<Vec<Vec<u8>>, Stop<'a>>
     requires { IsWithin (asked command) }
-    ensures { Settles (λ lines. contents lines.items) (Answer (asked command.entry) consistent.now) result }
+    ensures { Works (λ lines. contents lines.items) (Answer (asked command.entry) consistent.now)
+        (from_of (asked command.entry)) (save_of (asked command.entry))
+        (CommandLeaves (asked command.entry) consistent.now)
+        (F.content files.old) (F.content files.new) (F.read_faults files.old) (F.read_faults files.new)
+        (F.write_faults files.old) (F.write_faults files.new) result }
 {
     match command {
         Command::Group(_) => answer_group(alloc, consistent),
         Command::Resolve(_, n) => answer_resolve(alloc, consistent, n),
-        Command::Ring(_, n) => answer_ring(alloc, consistent, n),
+        Command::Ring(_, n, named) => answer_ring(alloc, consistent, n, named, files),
+        Command::Check(_, stages) => answer_check(alloc, consistent, stages, files),
         Command::Value(_, class, elements) => { answer_value(alloc, consistent, class, &elements) }
         Command::Sample(k) => answer_sample(alloc, consistent, k),
     }
@@ -121,16 +185,32 @@ fn given<'a, F: Files>(
     requires { IsWithin (asked command.now) }
     ensures step { OfFiles (F.content files.old)
         (λ seen. Meets (λ c. c) (Given (asked command.now)) seen seen result) }
-    ensures reads { OnlyReads (HasReadCause (λ path. Contains (read_paths (asked command.now)) path))
+    ensures reads { OnlyReads (HasReadCause (λ path. Contains (paths_of (path_of (asked command.now))) path))
         (F.content files.old) (F.content files.new)
         (F.read_faults files.old) (F.read_faults files.new) result }
+    ensures later_writes { NoneFell (F.write_faults files.old) (F.write_faults files.new) }
 {
     match *command {
         Command::Group(path)
         | Command::Resolve(path, _)
-        | Command::Ring(path, _)
+        | Command::Ring(path, _, _)
+        | Command::Check(path, _)
         | Command::Value(path, _, _) => load(alloc, files, path),
         Command::Sample(k) => accept(alloc, sample_presentation(alloc, k)?),
+    }
+}
+
+// The stage file that the command reads is the file of its presentation.
+fn reads_twice(command: &Command<'_>) -> bool
+    ensures { result ≡ reads_twice (asked command.now) }
+{
+    match *command {
+        Command::Ring(path, _, named) => match named.from {
+            Some(from) => path == from,
+            None => false,
+        },
+        Command::Check(path, stages) => path == stages,
+        _ => false,
     }
 }
 
@@ -140,15 +220,17 @@ fn answer<'a, F: Files>(
     words: &'a [String],
     files: &mut F,
 ) -> Result<Vec<Vec<u8>>, Stop<'a>>
-    ensures step { OfFiles (F.content files.old)
-        (λ seen. Meets (λ lines. contents lines.items) (Comes (texts words.now)) seen seen result) }
-    ensures reads { OnlyReads (HasReadCause (IsRead (texts words.now)))
-        (F.content files.old) (F.content files.new)
-        (F.read_faults files.old) (F.read_faults files.new) result }
+    ensures { Answered (texts words.now) (F.content files.old) (F.content files.new)
+        (F.read_faults files.old) (F.read_faults files.new)
+        (F.write_faults files.old) (F.write_faults files.new) result }
 {
     let command = read_words(alloc, words)?;
     let consistent = given(alloc, &command, files)?;
-    answer_on(alloc, command, &consistent)
+    // A text that was read is no stage file: its first byte is another.
+    if reads_twice(&command) {
+        return Err(Stop::Refused(Cause::StageFile(FilePart::Header)));
+    }
+    answer_on(alloc, command, &consistent, files)
 }
 
 /// Does all that the program does: answers the words over the files, writes the answer to `out`, or
@@ -193,25 +275,31 @@ pub fn run<F: Files, O: Sink, E: Sink>(
         × Tells (E.written err.old) (E.written err.new) (E.faults err.old) (E.faults err.new)
         (read_refused path).line }
 
-    // A write fault is that of out, and comes where the outcome is an answer.
+    // A write fault is that of out, and comes where the outcome is an answer, or that of the file that the words
+    // save to.
     ensures write { result ≡ Status.Write
-        → Rose (O.faults out.old) (O.faults out.new)
-        × Tells (E.written err.old) (E.written err.new) (E.faults err.old) (E.faults err.new)
-        write_refused.line }
-    ensures answered { result ≡ Status.Write → OfFiles (F.content files.old)
-        (AnswersFront (texts words.now) (O.written out.old) (O.written out.new)) }
+        → FailsOnOut (texts words.now) (F.content files.old) (O.written out.old) (O.written out.new)
+        (E.written err.old) (E.written err.new) (O.faults out.old) (O.faults out.new)
+        (E.faults err.old) (E.faults err.new)
+        ⊎ FailsOnSave (texts words.now) (O.written out.old) (O.written out.new)
+        (E.written err.old) (E.written err.new) (F.write_faults files.old) (F.write_faults files.new)
+        (E.faults err.old) (E.faults err.new) }
 
     // Want of memory.
     ensures memory { result ≡ Status.Memory → OfFiles (F.content files.old)
         (WantsMemory (texts words.now)
         (λ path. IsRead (texts words.now) path
         × Rose (F.read_faults files.old path) (F.read_faults files.new path))
+        (λ path. IsSaved (texts words.now) path
+        × Rose (F.write_faults files.old path) (F.write_faults files.new path))
         (Rose (O.faults out.old) (O.faults out.new))
         (O.written out.old) (O.written out.new)
         (E.written err.old) (E.written err.new)) }
 
     // What stays.
     ensures files { Stays (texts words.now) (F.content files.old) (F.content files.new) }
+    ensures kept { result ≡ Status.Read → F.content files.new ≡ F.content files.old }
+    ensures saved { OfTold (F.content files.old) (F.content files.new) (WordsLeave (texts words.now)) }
     ensures unwritten { (MayWrite result → ⊥) → O.written out.new ≡ O.written out.old }
 
     // Where no count rose, the status is that of the outcome, or memory was wanting.
@@ -219,6 +307,7 @@ pub fn run<F: Files, O: Sink, E: Sink>(
         → F.content files.old ≡ Some told
         → Outcome (texts words.now) told e
         → NoReadFault (texts words.now) (F.read_faults files.old) (F.read_faults files.new)
+        → NoSaveFault (texts words.now) (F.write_faults files.old) (F.write_faults files.new)
         → (e.status ≡ Status.Answered → Rose (O.faults out.old) (O.faults out.new) → ⊥)
         → (result ≡ e.status) ⊎ (result ≡ Status.Memory) }
 {

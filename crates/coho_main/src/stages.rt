@@ -1,6 +1,7 @@
 ghost use Rattle.std.specs.Prelude.{◌≡◌, ◌≤◌, IfOk, IfErr, OnOk};
 ghost use Rattle.coho_main.specs.Groups.{ForGroupOf};
-ghost use Rattle.coho_main.specs.Stages.{Fit, IsStageRefusal};
+ghost use Rattle.coho_main.specs.Stages.{IsStageRefusal};
+ghost use Rattle.stage_walk.specs.Dimensions.{Fit};
 ghost use Rattle.coho_main.specs.Resolving.{IsResolutionTo, IsStageFault};
 ghost use Rattle.coho_main.specs.Stops.{IsRefused};
 

@@ -21,6 +21,8 @@ pub enum Stop<'a> {
     Read(&'a str),
     /// Writing the answer failed.
     Write,
+    /// Writing the file at this path failed.
+    Save(&'a str),
     /// Want of memory.
     Memory,
 }
@@ -102,7 +104,7 @@ impl<'a> Stop<'a> {
         match self {
             Stop::Refused(cause) => cause.status(),
             Stop::Read(_) => Status::Read,
-            Stop::Write => Status::Write,
+            Stop::Write | Stop::Save(_) => Status::Write,
             Stop::Memory => Status::Memory,
         }
     }
@@ -115,6 +117,7 @@ impl<'a> Stop<'a> {
             Stop::Refused(cause) => cause.line(alloc),
             Stop::Read(path) => format!(in alloc; "coho: read failed: {path}\n"),
             Stop::Write => String::from_str(alloc, "coho: write failed\n"),
+            Stop::Save(path) => format!(in alloc; "coho: write failed: {path}\n"),
             Stop::Memory => String::from_str(alloc, "coho: out of memory\n"),
         }
     }

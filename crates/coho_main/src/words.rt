@@ -1,13 +1,13 @@
 ghost use Rattle.std.specs.Prelude.{◌≡◌, ◌≤◌, IfErr, IfOk, None, Some, true};
 ghost use Rattle.std.specs.List.{list_all};
 ghost use Rattle.coho_main.specs.Words.{IsPlace, IsWithin, asked, command, file_and_degree, file_and_place};
-ghost use Rattle.coho_main.specs.Words.{is_path, sample_number, texts};
+ghost use Rattle.coho_main.specs.Words.{is_path, plain_command, sample_number, texts};
 ghost use Rattle.coho_main.specs.Outcome.{Ask};
 ghost use Rattle.coho_main.specs.Stops.{IsWordsStop, Settles};
 
 use crate::{
-    Cause, GREATEST_SAMPLE, Stop, all_plain, one_operand, place_operands, read_degree, read_place,
-    read_sample, two_operands,
+    Cause, GREATEST_SAMPLE, StageFiles, Stop, all_plain, one_operand, place_operands, read_degree,
+    read_place, read_sample, ring_command, two_operands,
 };
 use limits::GREATEST_DEGREE;
 use std::alloc::Global;
@@ -20,8 +20,10 @@ pub enum Command<'a> {
     /// To find the minimal resolution of the group of the file at this path, to this degree.
     Resolve(&'a str, u32),
     /// To find generators and relations of the cohomology ring of the group of the file at this path, through
-    /// this degree.
-    Ring(&'a str, u32),
+    /// this degree, with stage files.
+    Ring(&'a str, u32, StageFiles<'a>),
+    /// To count the records of the stage file at the second path, for the group of the file at the first.
+    Check(&'a str, &'a str),
     /// To find the value of the cocycle of a basis class of the group of the file at this path, by its
     /// number, counted from 1, at elements, of which there are as many as the degree of the class.
     Value(&'a str, u16, Vec<u16>),
@@ -74,11 +76,11 @@ fn sample_number<'a>(alloc: Global, words: &'a [String]) -> Result<u32, Stop<'a>
     }
 }
 
-/// The command of the words.
-pub fn read_words<'a>(alloc: Global, words: &'a [String]) -> Result<Command<'a>, Stop<'a>>
-    ensures step { Settles asked (Ask (texts words.now)) result }
-    ensures command { IfOk result (λ found. command (texts words.now) ≡ Some (asked found)) }
-    ensures degree { IfOk result (λ found. IsWithin (asked found)) }
+// The command of words whose command has no options.
+fn plain_command<'a>(alloc: Global, words: &'a [String]) -> Result<Command<'a>, Stop<'a>>
+    ensures command { IfOk result (λ found. plain_command (texts words.now) ≡ Some (asked found)) }
+    ensures within { IfOk result (λ found. IsWithin (asked found)) }
+    ensures refused { IfErr result (IsWordsStop (plain_command (texts words.now) ≡ None)) }
 {
     if !all_plain(words) {
         return Err(Stop::Refused(Cause::Words));
@@ -89,9 +91,9 @@ pub fn read_words<'a>(alloc: Global, words: &'a [String]) -> Result<Command<'a>,
             let (path, degree) = file_and_degree(alloc, words)?;
             Ok(Command::Resolve(path, degree))
         }
-        [name, ..] if name.as_str() == "ring" => {
-            let (path, degree) = file_and_degree(alloc, words)?;
-            Ok(Command::Ring(path, degree))
+        [name, ..] if name.as_str() == "check" => {
+            let (path, stages) = two_operands(alloc, words)?;
+            Ok(Command::Check(path, stages))
         }
         [name, ..] if name.as_str() == "value" => {
             let (path, class, elements) = file_and_place(alloc, words)?;
@@ -101,5 +103,20 @@ pub fn read_words<'a>(alloc: Global, words: &'a [String]) -> Result<Command<'a>,
             Ok(Command::Sample(sample_number(alloc, words)?))
         }
         _ => Err(Stop::Refused(Cause::Words)),
+    }
+}
+
+/// The command of the words.
+pub fn read_words<'a>(alloc: Global, words: &'a [String]) -> Result<Command<'a>, Stop<'a>>
+    ensures step { Settles asked (Ask (texts words.now)) result }
+    ensures command { IfOk result (λ found. command (texts words.now) ≡ Some (asked found)) }
+    ensures degree { IfOk result (λ found. IsWithin (asked found)) }
+{
+    match words {
+        [name, rest @ ..] if name.as_str() == "ring" => match ring_command(rest) {
+            Some(command) => Ok(command),
+            None => Err(Stop::Refused(Cause::Words)),
+        },
+        _ => plain_command(alloc, words),
     }
 }

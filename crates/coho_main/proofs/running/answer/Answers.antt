@@ -1,73 +1,46 @@
-use Rattle.std.proofs.Common.{Err}
-use Rattle.std.specs.List.{Contains}
+use Rattle.std.proofs.Common.{sym, ◌∙◌}
 use Rattle.std.proofs.lemmas.Result.{err_from_is_err_and}
-use Rattle.power_commutator.specs.Presentations.{Presentation}
-use Rattle.coho_main.specs.Outcome.{Answer, Ask}
-use Rattle.coho_main.specs.Stops.{HasReadCause}
-use Rattle.coho_main.specs.Words.{IsRead, asked, read_paths, texts}
-use Rattle.coho_main.proofs.Chain.{cause_weaker, reads_nothing, reads_stop, reads_then, settled_cause}
-use Rattle.coho_main.proofs.Replies.{Lines, ask_stop, ask_then, given_stop, given_then, is_read, lines_of}
+use Rattle.coho_main.specs.Words.{texts}
+use Rattle.coho_main.proofs.Answering.{at_answer, at_given, at_twice, at_words}
 use Rattle.coho_main.proofs.running.answer.Goals as goal
 
-pub returns-in_err-command-clause-step : goal.returns-in_err-command-clause-step
-returns-in_err-command-clause-step g c =
+pub returns-in_err-command : goal.returns-in_err-command
+returns-in_err-command g c =
     let p = err_from_is_err_and c.from_residual.result c.from_residual.ensures.1 in
-    rw (p.1, p.2) (ask_stop (g.F.Files.content c.args.files.now)
-    (texts c.args.words.now) c.in_err-command.field-0.0 c.in_err-command.ensures.step)
+    rw (p.1, p.2) (at_words (texts c.args.words.now) (g.F.Files.content c.args.files.now)
+    (g.F.Files.read_faults c.args.files.now) (g.F.Files.write_faults c.args.files.now)
+    c.in_err-command.field-0.0 c.in_err-command.ensures.step)
 
-pub returns-in_err-command-clause-reads : goal.returns-in_err-command-clause-reads
-returns-in_err-command-clause-reads g c =
-    let words = texts c.args.words.now in
-    let before = g.F.Files.read_faults c.args.files.now in
-    let s = c.in_err-command.field-0.0 in
-    let p = err_from_is_err_and c.from_residual.result c.from_residual.ensures.1 in
-    rw (p.1, p.2) (reads_nothing {T = Lines} (HasReadCause (IsRead words))
-    (g.F.Files.content c.args.files.now) before (Err s)
-    (settled_cause asked (Ask words) (IsRead words) before before (Err s) c.in_err-command.ensures.step))
-
-pub returns-in_err-consistent-clause-step : goal.returns-in_err-consistent-clause-step
-returns-in_err-consistent-clause-step g c =
-    let known = g.F.Files.content c.args.files.now in
-    let named = c.in_ok-command.command in
-    let s = c.in_err-consistent.field-0.0 in
+pub returns-in_err-consistent : goal.returns-in_err-consistent
+returns-in_err-consistent g c =
     let p = err_from_is_err_and c.from_residual-in_err-consistent.result
     c.from_residual-in_err-consistent.ensures.1 in
-    rw (p.1, p.2) (ask_then known (texts c.args.words.now) named (Err s) c.in_ok-command.ensures.step
-    (given_stop known (asked named) s c.in_err-consistent.ensures.step))
+    rw (p.1, p.2) (at_given (texts c.args.words.now) (g.F.Files.content c.args.files.now)
+    (g.F.Files.read_faults c.args.files.now) (g.F.Files.write_faults c.args.files.now)
+    c.in_ok-command.command c.in_ok-command.ensures.command c.in_ok-command.ensures.step
+    (g.F.Files.content c.given.new.files) (g.F.Files.read_faults c.given.new.files)
+    (g.F.Files.write_faults c.given.new.files) c.in_err-consistent.ensures.reads.content
+    c.in_err-consistent.field-0.0 c.in_err-consistent.ensures.step c.in_err-consistent.ensures.reads.cause)
 
-pub returns-in_err-consistent-clause-reads : goal.returns-in_err-consistent-clause-reads
-returns-in_err-consistent-clause-reads g c =
-    let words = texts c.args.words.now in
-    let named = asked c.in_ok-command.command in
-    let before = g.F.Files.read_faults c.args.files.now in
-    let now = g.F.Files.read_faults c.given.new.files in
-    let s = c.in_err-consistent.field-0.0 in
-    let p = err_from_is_err_and c.from_residual-in_err-consistent.result
-    c.from_residual-in_err-consistent.ensures.1 in
-    rw (p.1, p.2)
-    (reads_stop {T = Presentation} {U = Lines} (HasReadCause (λ p. Contains (read_paths named) p))
-    (HasReadCause (IsRead words)) (g.F.Files.content c.args.files.now)
-    (g.F.Files.content c.given.new.files) before now s c.in_err-consistent.ensures.reads
-    (cause_weaker (λ p. Contains (read_paths named) p) (IsRead words)
-    (is_read words named c.in_ok-command.ensures.command) before now s))
+pub returns-then-reads_twice : goal.returns-then-reads_twice
+returns-then-reads_twice g c =
+    at_twice (texts c.args.words.now) (g.F.Files.content c.args.files.now)
+    (g.F.Files.read_faults c.args.files.now) (g.F.Files.write_faults c.args.files.now)
+    c.in_ok-command.command c.in_ok-command.ensures.command c.in_ok-command.ensures.step
+    (g.F.Files.content c.given.new.files) (g.F.Files.read_faults c.given.new.files)
+    (g.F.Files.write_faults c.given.new.files) c.in_ok-consistent.ensures.reads.content
+    c.in_ok-consistent.consistent c.in_ok-consistent.ensures.step (sym c.reads_twice.ensures
+        ∙ c.if-reads_twice.true)
 
-pub returns-clause-step : goal.returns-clause-step
-returns-clause-step g c =
-    let known = g.F.Files.content c.args.files.now in
-    let named = c.in_ok-command.command in
-    ask_then known (texts c.args.words.now) named c.answer_on.result c.in_ok-command.ensures.step
-    (given_then known (asked named) c.in_ok-consistent.consistent c.answer_on.result
-    c.in_ok-consistent.ensures.step c.answer_on.ensures)
-
-pub returns-clause-reads : goal.returns-clause-reads
-returns-clause-reads g c =
-    let words = texts c.args.words.now in
-    let named = asked c.in_ok-command.command in
-    let before = g.F.Files.read_faults c.args.files.now in
-    let now = g.F.Files.read_faults c.given.new.files in
-    reads_then {T = Presentation} {U = Lines} (HasReadCause (λ p. Contains (read_paths named) p))
-    (HasReadCause (IsRead words)) (g.F.Files.content c.args.files.now)
-    (g.F.Files.content c.given.new.files) before now c.in_ok-consistent.consistent c.answer_on.result
-    c.in_ok-consistent.ensures.reads
-    (settled_cause lines_of (Answer named c.in_ok-consistent.consistent)
-    (IsRead words) before now c.answer_on.result c.answer_on.ensures)
+pub returns : goal.returns
+returns g c =
+    at_answer (texts c.args.words.now) (g.F.Files.content c.args.files.now)
+    (g.F.Files.read_faults c.args.files.now) (g.F.Files.write_faults c.args.files.now)
+    c.in_ok-command.command c.in_ok-command.ensures.command c.in_ok-command.ensures.step
+    (g.F.Files.content c.given.new.files) (g.F.Files.read_faults c.given.new.files)
+    (g.F.Files.write_faults c.given.new.files) c.in_ok-consistent.ensures.reads.content
+    c.in_ok-consistent.consistent c.in_ok-consistent.ensures.step
+    (g.F.Files.content c.answer_on.new.files) (g.F.Files.read_faults c.answer_on.new.files)
+    (g.F.Files.write_faults c.answer_on.new.files) c.answer_on.result
+    (sym c.reads_twice.ensures ∙ c.if-reads_twice.false) c.in_ok-consistent.ensures.reads.later
+    c.in_ok-consistent.ensures.later_writes c.answer_on.ensures

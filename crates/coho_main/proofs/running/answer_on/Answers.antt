@@ -1,34 +1,43 @@
-use Rattle.std.proofs.Common.{sym, subst}
-use Rattle.coho_main.specs.Outcome.{Answer, AnswerValue}
+use Rattle.std.proofs.Common.{◌≡◌, None, refl, subst}
+use Rattle.coho_main.specs.Outcome.{AnswerGroup, AnswerResolve, AnswerSample, AnswerValue}
 use Rattle.coho_main.specs.Stops.{Settles}
-use Rattle.coho_main.specs.Words.{asked}
 use Rattle.coho_main.proofs.Replies.{lines_of}
+use Rattle.coho_main.proofs.Working.{settled_works}
 use Rattle.coho_main.proofs.running.answer_on.Goals as goal
 
 pub returns-in-Group : goal.returns-in-Group
-returns-in-Group c = subst (λ named. Settles lines_of
-    (Answer (asked named) c.args.consistent.now) c.answer_group.result)
-    (sym c.in-Group.is) c.answer_group.ensures
+returns-in-Group g c = rw c.in-Group.is (settled_works lines_of (AnswerGroup c.args.consistent.now) None None
+    (λ old left. left ≡ old)
+    (g.F.Files.content c.args.files.now) (g.F.Files.read_faults c.args.files.now)
+    (g.F.Files.write_faults c.args.files.now) (λ files. refl) c.answer_group.result
+    c.answer_group.ensures)
 
 pub returns-in-Resolve : goal.returns-in-Resolve
-returns-in-Resolve c = subst (λ named. Settles lines_of
-    (Answer (asked named) c.args.consistent.now) c.answer_resolve.result)
-    (sym c.in-Resolve.is) c.answer_resolve.ensures
+returns-in-Resolve g c = rw c.in-Resolve.is (settled_works lines_of
+    (AnswerResolve c.args.consistent.now c.in-Resolve.n) None None (λ old left. left ≡ old)
+    (g.F.Files.content c.args.files.now) (g.F.Files.read_faults c.args.files.now)
+    (g.F.Files.write_faults c.args.files.now) (λ files. refl) c.answer_resolve.result
+    c.answer_resolve.ensures)
 
 pub returns-in-Ring : goal.returns-in-Ring
-returns-in-Ring c = subst (λ named. Settles lines_of
-    (Answer (asked named) c.args.consistent.now) c.answer_ring.result)
-    (sym c.in-Ring.is) c.answer_ring.ensures
+returns-in-Ring g c = rw c.in-Ring.is c.answer_ring.ensures
+
+pub returns-in-Check : goal.returns-in-Check
+returns-in-Check g c = rw c.in-Check.is c.answer_check.ensures
 
 pub returns-in-Value : goal.returns-in-Value
-returns-in-Value c = subst (λ named. Settles lines_of
-    (Answer (asked named) c.args.consistent.now) c.answer_value.result)
-    (sym c.in-Value.is)
+returns-in-Value g c = rw c.in-Value.is (settled_works lines_of
+    (AnswerValue c.args.consistent.now c.in-Value.class c.in-Value.elements.items) None None
+        (λ old left. left ≡ old)
+    (g.F.Files.content c.args.files.now) (g.F.Files.read_faults c.args.files.now)
+    (g.F.Files.write_faults c.args.files.now) (λ files. refl) c.answer_value.result
     (subst (λ es. Settles lines_of (AnswerValue c.args.consistent.now c.in-Value.class es)
-    c.answer_value.result)
-    c.deref.ensures.value c.answer_value.ensures)
+        c.answer_value.result)
+    c.deref.ensures.value c.answer_value.ensures))
 
 pub returns-in-Sample : goal.returns-in-Sample
-returns-in-Sample c = subst (λ named. Settles lines_of
-    (Answer (asked named) c.args.consistent.now) c.answer_sample.result)
-    (sym c.in-Sample.is) c.answer_sample.ensures
+returns-in-Sample g c = rw c.in-Sample.is (settled_works lines_of
+    (AnswerSample c.args.consistent.now c.in-Sample.k) None None (λ old left. left ≡ old)
+    (g.F.Files.content c.args.files.now) (g.F.Files.read_faults c.args.files.now)
+    (g.F.Files.write_faults c.args.files.now) (λ files. refl) c.answer_sample.result
+    c.answer_sample.ensures)

@@ -1,37 +1,30 @@
-use Rattle.std.proofs.lemmas.Result.{err_from_is_err_and}
-use Rattle.coho_main.specs.Outcome.{AnswerRing}
-use Rattle.coho_main.proofs.Chain.{memory_settles}
-use Rattle.coho_main.proofs.Replies.{lines_of, ring_refused, ring_then, ring_too_many}
-use Rattle.coho_main.proofs.Ringing.{fit_of, report_of, report_stop}
+use Rattle.coho_main.specs.Outcome.{TellReport}
+use Rattle.coho_main.specs.StageFiles.{FindStages, IsFrontSaved}
+use Rattle.coho_main.specs.Words.{stage_files}
+use Rattle.coho_main.proofs.Replies.{lines_of}
+use Rattle.coho_main.proofs.Working.{works_stop, works_then}
 use Rattle.coho_main.proofs.running.answer_ring.Goals as goal
 
-pub returns-in_err-resolution : goal.returns-in_err-resolution
-returns-in_err-resolution c =
-    let p = err_from_is_err_and c.from_residual.result c.from_residual.ensures.1 in
-    rw (p.1, p.2) (ring_refused c.args.consistent.now c.args.n c.in_err-resolution.field-0.0
-    c.in_err-resolution.ensures.refused)
-
-pub returns-in_err-report : goal.returns-in_err-report
-returns-in_err-report c =
-    let p = err_from_is_err_and c.from_residual-in_err-report.result c.from_residual-in_err-report.ensures.1
-    in
+pub returns-in-Ok : goal.returns-in-Ok
+returns-in-Ok g c =
     let P = c.args.consistent.now in
-    let R = c.in_ok-resolution.ensures.found in
-    rw (p.1, p.2) (ring_too_many P c.args.n (fit_of P c.args.n c.in_ok-resolution.resolution R) _
-    (report_stop P c.args.n c.in_ok-resolution.resolution R c.in_err-report.field-0.0
-    c.in_err-report.ensures.refused))
+    let stages = stage_files c.args.named in
+    works_then (λ _. tt) lines_of (FindStages P c.args.n stages)
+        (λ _. TellReport P c.args.n) stages.from stages.save
+    (IsFrontSaved P c.args.n stages.save) (g.F.Files.content c.args.files.now)
+    (g.F.Files.content c.find_stages.new.files) (g.F.Files.read_faults c.args.files.now)
+    (g.F.Files.read_faults c.find_stages.new.files) (g.F.Files.write_faults c.args.files.now)
+    (g.F.Files.write_faults c.find_stages.new.files) c.in-Ok.resolution c.ring_lines.result
+        c.in-Ok.ensures.works
+    (c.ring_lines.ensures P c.in-Ok.ensures.found)
 
-pub returns-in_err-report_lines : goal.returns-in_err-report_lines
-returns-in_err-report_lines c =
-    let p = err_from_is_err_and c.from_residual-in_err-report_lines.result
-    c.from_residual-in_err-report_lines.ensures.1 in
-    rw p.1 (memory_settles lines_of (AnswerRing c.args.consistent.now c.args.n) p.0 p.2)
-
-pub returns : goal.returns
-returns c =
+pub returns-in-Err : goal.returns-in-Err
+returns-in-Err g c =
     let P = c.args.consistent.now in
-    let R = c.in_ok-resolution.ensures.found in
-    ring_then P c.args.n (fit_of P c.args.n c.in_ok-resolution.resolution R) c.in_ok-report.report
-    c.in_ok-report_lines.field-0
-    (report_of P c.args.n c.in_ok-resolution.resolution R c.in_ok-report.report c.in_ok-report.ensures.few
-    c.in_ok-report.ensures.small c.in_ok-report.ensures.report) c.in_ok-report_lines.ensures
+    let stages = stage_files c.args.named in
+    works_stop (λ _. tt) lines_of (FindStages P c.args.n stages)
+        (λ _. TellReport P c.args.n) stages.from stages.save
+    (IsFrontSaved P c.args.n stages.save) (g.F.Files.content c.args.files.now)
+    (g.F.Files.content c.find_stages.new.files) (g.F.Files.read_faults c.args.files.now)
+    (g.F.Files.read_faults c.find_stages.new.files) (g.F.Files.write_faults c.args.files.now)
+    (g.F.Files.write_faults c.find_stages.new.files) c.in-Err.stop c.in-Err.ensures.works

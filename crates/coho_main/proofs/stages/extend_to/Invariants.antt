@@ -1,5 +1,5 @@
 use Rattle.std.proofs.Common.{◌≡◌}
-use Rattle.coho_main.specs.Stages.{Fit}
+use Rattle.stage_walk.specs.Dimensions.{Fit}
 use Rattle.coho_main.proofs.stages.extend_to.Given as goal
 
 abbrev pub invariant-loop-i : goal.invariant-loop-i

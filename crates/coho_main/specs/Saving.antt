@@ -1,0 +1,88 @@
+-- What a command and a run leave of the files.
+use Rattle.std.specs.Prelude.{◌≡◌, ◌⊎◌, ℕ, Bool, false, List, Vec}
+use Rattle.std.specs.declared.alloc.Global.{Global}
+use Rattle.std.specs.declared.option.Option.{Option}
+use Rattle.std.specs.declared.option.Option.TheVariants.{None, Some}
+use Rattle.std.specs.declared.result.Result.{Result}
+use Rattle.std.specs.declared.result.Result.TheVariants.{Ok}
+use Rattle.std.specs.Result.{IfErr}
+use Rattle.std.specs.Str.{bytes_eq}
+use Rattle.coho_io.specs.Content.{Content, file}
+use Rattle.power_commutator.specs.Presentations.{Presentation}
+use Rattle.coho_main.specs.declared.stop.Stop.{Stop}
+use Rattle.coho_main.specs.Outcome.{Comes, Load}
+use Rattle.coho_main.specs.StageFiles.{IsFrontSaved}
+use Rattle.coho_main.specs.Run.{Agrees, Leaves}
+use Rattle.coho_main.specs.Steps.{Step}
+use Rattle.coho_main.specs.Stops.{HasCause, KeepsAtRead, Meets}
+use Rattle.coho_main.specs.Words.{Command, Ring, StageFiles, IsRead, IsSaved, command, contents, from_of}
+use Rattle.coho_main.specs.Words.{path_of}
+
+-- a command on P leaves the files, or has saved the first bytes of the honest file
+abbrev pub CommandLeaves : Command → Presentation → Content → Content → Type 0
+CommandLeaves (Ring path n stages) P old new = IsFrontSaved P n stages.save old new
+CommandLeaves _ P old new = new ≡ old
+
+-- the words ask for a ring, and the first bytes of the honest file were saved
+pub record SavesFront (words : List (List ℕ)) (old new : Content) : Type 0 where
+  pub path : List ℕ
+  pub n : ℕ
+  pub stages : StageFiles
+  pub asked : command words ≡ Some (Ring path n stages)
+  pub presentation : Presentation
+  pub loaded : Load path old (Ok presentation) old
+  pub saved : IsFrontSaved presentation n stages.save old new
+
+-- the words leave the files, or have saved the first bytes of the honest file
+abbrev pub WordsLeave : List (List ℕ) → Content → Content → Type 0
+WordsLeave words old new = (new ≡ old) ⊎ SavesFront words old new
+
+-- files that are told are told afterwards too, and so it holds of both
+abbrev pub OfTold : Option Content → Option Content → (Content → Content → Type 0) → Type 0
+OfTold known now P = (told : Content) → known ≡ Some told → (left : Content) × (now ≡ Some left) × P told left
+
+-- it holds of some files before and after, which are those that are told
+abbrev pub FromTo : Option Content → Option Content → (Content → Content → Type 0) → Type 0
+FromTo known now P = (files : Content) ×
+    (left : Content) × Agrees known files × Leaves known now left × P files left
+
+-- every file but the one that is named is the same
+abbrev pub AreSameBut : Option (List ℕ) → Content → Content → Type 0
+AreSameBut named one other = (path : List ℕ) → (named ≡ Some path → ⊥) → file other path ≡ file one path
+
+-- the same from any files that agree, where none are told after other bytes were put under the path that is
+-- named
+abbrev pub FromAny : Option (List ℕ) → Option Content → Option Content → (Content → Content → Type 0) → Type 0
+FromAny named known now P = (seen : Content) → Agrees known seen
+    → FromTo known now (λ files left. AreSameBut named seen files × P files left)
+
+-- A call that reads one stage file and saves another, each where it is named, ended as its step does; it
+-- stopped at
+-- no fault but one of these two; what it may have left holds of the files; and a read that failed left them.
+pub record Works {T A : Type 0}
+    (view : T → A) (step : Step A) (from save : Option (List ℕ)) (MayLeave : Content → Content → Type 0)
+    (known now : Option Content) (reads reads_now writes writes_now : List ℕ
+        → ℕ) (r : Result T Stop) : Type 0 where
+  pub ends : FromAny from known now (λ files left. Meets view step files left r)
+  pub cause : IfErr r (HasCause (λ path. from ≡ Some path) (λ path. save ≡ Some path)
+      reads reads_now writes writes_now)
+  pub left : OfTold known now MayLeave
+  pub kept : IfErr r (KeepsAtRead known now)
+
+-- the answer to words came so
+pub record Answered
+    (words : List (List ℕ)) (known now : Option Content) (reads reads_now writes writes_now : List ℕ → ℕ)
+    (r : Result (Vec (Vec ℕ Global) Global) Stop) : Type 0 where
+  pub ends : FromTo known now (λ files left. Meets (λ lines. contents lines.items) (Comes words) files left r)
+  pub cause : IfErr r (HasCause (IsRead words) (IsSaved words) reads reads_now writes writes_now)
+  pub left : OfTold known now (WordsLeave words)
+  pub kept : IfErr r (KeepsAtRead known now)
+
+-- both are named, and are the same
+abbrev pub same_path : Option (List ℕ) → Option (List ℕ) → Bool
+same_path (Some path) (Some other) = bytes_eq path other
+same_path _ _ = false
+
+-- the stage file that the command reads is the file of its presentation
+abbrev pub reads_twice : Command → Bool
+reads_twice c = same_path (path_of c) (from_of c)
