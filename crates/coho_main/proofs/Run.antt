@@ -75,6 +75,12 @@ module _ (answer : Status) (err err_now : Option (List ℕ)) (n m : ℕ) where
   write_status stop.Write before now r h = reported_status stop.Write r
   write_status stop.Memory before now r h = inr (reported_memory r)
 
+  -- it has the status of a fault
+  pub write_unsettled : {A : Type 0} (s : Stop) (before now : ℕ) → ReportedHere s → IsWriteStop before now s
+      → IsSettled answer → A
+  write_unsettled s before now r h settled = absurd (elim (write_status s before now r h)
+      [ inl is ↦ subst IsSettled is settled | inr is ↦ subst IsSettled is settled ])
+
   -- where its status is that of a write, the count rose
   pub write_told : (s : Stop) (before now : ℕ) → ReportedHere s → IsWriteStop before now s
       → answer ≡ status.Write → Rose before now × Tells err err_now n m write_refused.line
@@ -117,31 +123,19 @@ module _ (answer : Status) (err err_now : Option (List ℕ)) (n m : ℕ) where
     words_stop known left (stop.Save path) r k h none = absurd (no_command h.0.0 h.0.1 none)
     words_stop known left stop.Memory r k h none = inr (reported_memory r)
 
-    not_read : (why : Cause) → (refusal_of why).status ≢ status.Read
-    not_read cause.Words e = cc
-    not_read cause.Length e = cc
-    not_read (cause.Text kind line column) e = cc
-    not_read cause.Order e = cc
-    not_read (cause.Inconsistent name) e = cc
-    not_read (cause.StageFile part) e = cc
-    not_read (cause.Stage d X) e = cc
-    not_read (cause.Monomials d X) e = cc
-    not_read (cause.Element E n) e = cc
-    not_read (cause.Class d b) e = cc
-    not_read (cause.SubgroupStage i d X) e = cc
-
-    not_write : (why : Cause) → (refusal_of why).status ≢ status.Write
-    not_write cause.Words e = cc
-    not_write cause.Length e = cc
-    not_write (cause.Text kind line column) e = cc
-    not_write cause.Order e = cc
-    not_write (cause.Inconsistent name) e = cc
-    not_write (cause.StageFile part) e = cc
-    not_write (cause.Stage d X) e = cc
-    not_write (cause.Monomials d X) e = cc
-    not_write (cause.Element E n) e = cc
-    not_write (cause.Class d b) e = cc
-    not_write (cause.SubgroupStage i d X) e = cc
+    -- the status of a refusal is that of no fault
+    no_fault : (why : Cause) → IsSettled (refusal_of why).status
+    no_fault cause.Words = tt
+    no_fault cause.Length = tt
+    no_fault (cause.Text kind line column) = tt
+    no_fault cause.Order = tt
+    no_fault (cause.Inconsistent name) = tt
+    no_fault (cause.StageFile part) = tt
+    no_fault (cause.Stage d X) = tt
+    no_fault (cause.Monomials d X) = tt
+    no_fault (cause.Element E n) = tt
+    no_fault (cause.Class d b) = tt
+    no_fault (cause.SubgroupStage i d X) = tt
 
     at_read : (s : Stop) → ReportedHere s → answer ≡ status.Read → (told s).status ≡ status.Read
     at_read s r e = sym (r (λ is. let no : status.Read ≡ status.Memory = sym e ∙ is in cc)).0 ∙ e
@@ -155,7 +149,7 @@ module _ (answer : Status) (err err_now : Option (List ℕ)) (n m : ℕ) where
 
     -- where the status is that of a read, it is the fault of a path that the words name
     pub read_told : (s : Stop) → ReportedHere s → CauseHere s → answer ≡ status.Read → ReadTold
-    read_told (stop.Refused why) r h e = absurd (not_read why (at_read (stop.Refused why) r e))
+    read_told (stop.Refused why) r h e = absurd (subst IsSettled (at_read (stop.Refused why) r e) (no_fault why))
     read_told (stop.Read path) r h e = (
       path.now,
       h.0,
@@ -171,7 +165,7 @@ module _ (answer : Status) (err err_now : Option (List ℕ)) (n m : ℕ) where
     -- the files are as before then
     pub read_kept : (known left : Option Content) (s : Stop) → ReportedHere s → KeepsAtRead known left s
         → answer ≡ status.Read → left ≡ known
-    read_kept known left (stop.Refused why) r h e = absurd (not_read why (at_read (stop.Refused why) r e))
+    read_kept known left (stop.Refused why) r h e = absurd (subst IsSettled (at_read (stop.Refused why) r e) (no_fault why))
     read_kept known left (stop.Read path) r h e = h
     read_kept known left stop.Write r h e = absurd (let no : status.Write ≡ status.Read =
         at_read stop.Write r e in cc)
@@ -183,7 +177,7 @@ module _ (answer : Status) (err err_now : Option (List ℕ)) (n m : ℕ) where
     -- where it is that of a write before out was written, it is the fault of a path that the words save to
     pub save_told : (out : Option (List ℕ)) (s : Stop) → ReportedHere s → CauseHere s → answer ≡ status.Write
         → FailsOnSave words out out err err_now writes writes_now n m
-    save_told out (stop.Refused why) r h e = absurd (not_write why (at_write (stop.Refused why) r e))
+    save_told out (stop.Refused why) r h e = absurd (subst IsSettled (at_write (stop.Refused why) r e) (no_fault why))
     save_told out (stop.Read path) r h e =
         absurd (let no : status.Read ≡ status.Write = at_write (stop.Read path) r e in cc)
     save_told out stop.Write r h e = absurd h

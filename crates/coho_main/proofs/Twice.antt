@@ -181,7 +181,7 @@ module _ (path : List ℕ) (P : Presentation) (seen : Content) (h : Load path se
       let front = loaded_front path P seen seen h in
       let bytes = bytes_of (file seen path) front.0 front.1 in
       let reads = front.2 seen in
-      let text = first_step reads.1 in
+      let text = first_step front.0 seen reads.0 reads.1 in
       let read_is : read (take (LONGEST_TEXT + 1) bytes.0) ≡ Ok text.0
       = ap read bytes.2 ∙ text_is front.0 text.0 seen text.1 text.2 in
       let walked = walk-header (header_bytes (canonical P)) (records_of G) c bytes.0
@@ -197,10 +197,10 @@ module _ (path : List ℕ) (P : Presentation) (seen : Content) (h : Load path se
         refl,
       )
     where
-      first_step : {text : List ℕ} {old new : Content} → after_text text old (Ok P) new
+      first_step : (text : List ℕ) (old new : Content) → after_text text old (Ok P) new
           → (Q : Presentation) × (mid : Content) × ReadText text old (Ok Q) mid
-      first_step (inl k) = (k.0, k.1, k.2)
-      first_step (inr k) = absurd (let no = k.2 in cc)
+      first_step text old new (inl k) = (k.0, k.1, k.2)
+      first_step text old new (inr k) = absurd (let no = k.2 in cc)
 
 same_is : (path : List ℕ) (named : Option (List ℕ)) → same_path (Some path) named ≡ true → named ≡ Some path
 same_is path None e = absurd (true≢false (sym e))

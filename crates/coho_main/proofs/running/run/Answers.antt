@@ -7,7 +7,7 @@ use Rattle.coho_main.specs.Words.{contents, texts}
 use Rattle.coho_main.proofs.Run.{answers, complete_stop, fails_on_out, memory_of_stop, memory_of_write}
 use Rattle.coho_main.proofs.Run.{read_kept}
 use Rattle.coho_main.proofs.Run.{read_told, save_told, stopped, told_meets, usage_stop, words_stop, wrote_all}
-use Rattle.coho_main.proofs.Run.{write_complete, wrote_front}
+use Rattle.coho_main.proofs.Run.{write_complete, write_unsettled, wrote_front}
 use Rattle.coho_main.proofs.SavedFiles.{stays}
 use Rattle.coho_main.proofs.RingAnswers.{tells_ring, stop_not_answered}
 use Rattle.coho_main.proofs.ClassAnswers.{has_classes}
@@ -27,6 +27,13 @@ returns-in-Ok-write_lines-clause-complete g c = λ told e is k reads saves write
     (let m = told_meets (texts c.args.words.now) (g.F.Files.content c.args.files.now)
         (g.F.Files.content c.answer.new.files) (Ok c.in-Ok.lines) c.in-Ok.ensures.ends told is in
     answers (texts c.args.words.now) told m.0 (contents c.in-Ok.lines.items) m.1 e k))
+
+pub returns-in-Ok-clause-outcome : goal.returns-in-Ok-clause-outcome
+returns-in-Ok-clause-outcome g c = λ settled.
+    write_unsettled c.report.result (g.E.Sink.written c.args.err.now) (g.E.Sink.written c.report.new.err)
+    (g.E.Sink.faults c.args.err.now) (g.E.Sink.faults c.report.new.err) c.in-Err-write_lines.stop
+    (g.O.Sink.faults c.args.out.now) (g.O.Sink.faults c.write_lines.new.out) c.report.ensures.told
+    c.in-Err-write_lines.ensures.cause settled
 
 pub returns-in-Ok-clause-write : goal.returns-in-Ok-clause-write
 returns-in-Ok-clause-write g c = λ e. inl (fails_on_out (texts c.args.words.now)
