@@ -46,9 +46,12 @@ module _ (words : List (List ℕ)) (c : Command) (is : command words ≡ Some c)
   text_read path h = (c, is, Contains-append_left (paths_of (path_of c)) (paths_of (from_of c)) path h)
 
   stages_read : (path : List ℕ) → from_of c ≡ Some path → IsRead words path
-  stages_read path e =
-      (c, is, Contains-append_right (paths_of (path_of c)) (paths_of (from_of c)) path (of_path
-          (from_of c) path e))
+  stages_read path e = (
+    c,
+    is,
+    Contains-append_right (paths_of (path_of c)) (paths_of (from_of c)) path (of_path
+        (from_of c) path e),
+  )
 
   pub stages_saved : (path : List ℕ) → save_of c ≡ Some path → IsSaved words path
   stages_saved path e = (c, is, of_path (save_of c) path e)
@@ -141,7 +144,7 @@ module _ (words : List (List ℕ)) (known : Option Content) (reads writes : Coun
 
       module _ (now : Option Content) (reads_now writes_now : Counts) (r : Result Lines Stop)
           (once : reads_twice (asked c) ≡ false) (l : NoneFell reads reads_mid)
-              (m : NoneFell writes writes_mid)
+          (m : NoneFell writes writes_mid)
           (w : Works lines_of (Answer (asked c) P) (from_of (asked c)) (save_of (asked c))
           (CommandLeaves (asked c) P) mid now reads_mid reads_now writes_mid writes_now r) where
         agrees : Agrees mid given.0
@@ -166,13 +169,13 @@ module _ (words : List (List ℕ)) (known : Option Content) (reads writes : Coun
           where
             caused : (r : Result Lines Stop)
                 → IfErr r (HasCause (λ path. from_of (asked c) ≡ Some path) (λ path. save_of
-                    (asked c) ≡ Some path)
+                (asked c) ≡ Some path)
                 reads_mid reads_now writes_mid writes_now)
                 → IfErr r (HasCause (IsRead words) (IsSaved words) reads reads_now writes writes_now)
             caused (Ok x) h = tt
             caused (Err s) h =
                 cause_map (λ path. from_of (asked c) ≡ Some path) (IsRead words) (λ path. save_of
-                    (asked c) ≡ Some path)
+                (asked c) ≡ Some path)
                 (IsSaved words) (stages_read words (asked c) is) (stages_saved words (asked c) is)
                 reads reads_mid reads_now writes writes_mid writes_now l m s h
 

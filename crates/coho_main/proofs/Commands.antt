@@ -251,7 +251,7 @@ dashed_is (name ∷ a ∷ []) h =
     (λ e p. absurd (true≢false (after_file a [] (dashed (codes "group") refl e) p)))
     (unless_named (bytes_eq name (codes "sample")) (option_map Sample (numeral 0 GREATEST_SAMPLE a)) None
     (λ e. ap (option_map Sample) (dash_first 0 GREATEST_SAMPLE a (ends a (dashed
-        (codes "sample") refl e)))) refl)
+    (codes "sample") refl e)))) refl)
 dashed_is (name ∷ a ∷ b ∷ []) h =
     let last = λ (known : Text) (k : is_path known ≡ true) (e : bytes_eq name known ≡ true)
     (p : is_path a ≡ true). ends b (after_file a (b ∷ []) (after_name name known (a ∷ b ∷ []) h k e) p) in

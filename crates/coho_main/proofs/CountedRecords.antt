@@ -73,10 +73,10 @@ module _ (P : Presentation) (G : PGroup) (is : IsTableOf P G) (path : Bor (List 
   choose_count (Some told) count seen agrees few fit walk =
       let w = walk told (inl refl) in
       let b = bytes_of P G is (file told path.now) (walk_of G (canonical P) GREATEST_DEGREE)
-          (ends_so w.0 None) w.1 in
+      (ends_so w.0 None) w.1 in
       choose_told P G is GREATEST_DEGREE None told (Some path.now) seen (Counts_to count) agrees
       (subst (λ (c : ℕ). Counts_to c told) (sym w.2)
-          (walk_taken P G is GREATEST_DEGREE path.now b.0 told w.0 b.1 b.2))
+      (walk_taken P G is GREATEST_DEGREE path.now b.0 told w.0 b.1 b.2))
   choose_count None count seen agrees few fit walk =
       let t = taking G (canonical P) GREATEST_DEGREE count few fit in
       choose_put P G is GREATEST_DEGREE None path.now t.0 seen (Counts_to count)
@@ -95,13 +95,13 @@ module _ (P : Presentation) (G : PGroup) (is : IsTableOf P G) (path : Bor (List 
 
   refused : (what : walks.WalkFault) → WalkRefuses A known what
       → ((bytes : List ℕ) × ((c : ℕ) × (walk_of G (canonical P) GREATEST_DEGREE bytes ≡ ends_so c
-          (Some what))))
+      (Some what))))
       → FromAny (Some path.now) known now
       (λ files left. WalkFile P GREATEST_DEGREE path.now files (Err (file_refused what)) left)
   refused what walk some =
       over (Stops P G is GREATEST_DEGREE None what (Some path.now))
       (λ seen agrees. choose_stops P G is GREATEST_DEGREE None known
-          (Some path.now) seen what agrees walk some)
+      (Some path.now) seen what agrees walk some)
       (λ files left. WalkFile P GREATEST_DEGREE path.now files (Err (file_refused what)) left) (λ files h. h)
 
   any : (R : Content → Content → Type 0) → ((files left : Content) → R files left)

@@ -79,8 +79,15 @@ module _ (P : Presentation) (G : PGroup) (is : IsTableOf P G) (n : ℕ) (named :
   pub found : (r : ResolutionValue) → Fit G n → SavesAll A known now → AfterWalk A known (λ c. ⊤)
       → Found (Ok r)
   found r fit saves walk = record {
-    ends = goes P G is n save from known now (Ok tt) (λ files. (record { group = G; is_table = is; holds =
-        fit }, refl))
+    ends = goes P G is n save from known now (Ok tt) (λ files. (
+      record {
+        group = G;
+        is_table = is;
+        holds =
+            fit;
+      },
+      refl,
+    ))
         saves (λ seen agrees. choose_goes P G is n save known from seen agrees
         (λ files k. (let w = walk files k in (w.0, w.1))) some_taken);
     cause = tt;
@@ -106,7 +113,7 @@ module _ (P : Presentation) (G : PGroup) (is : IsTableOf P G) (n : ℕ) (named :
 
   pub failed : (e : StagesFault) (s : Stop) → IsStopAt named e s
       → IsStagesFault A known reads reads_now writes writes_now e → saving.Leaves A known now e
-          → IsNumbered G n e
+      → IsNumbered G n e
       → Failed s
   failed fault.Header s at h l m = subst Failed (sym at) (record {
     ends = refused walks.Header (stop.Refused (cause.StageFile part.Header)) (λ files left r. r) l h

@@ -93,7 +93,7 @@ module _ (path : List ℕ) (n : ℕ) (from : List ℕ) (save : Option (List ℕ)
             (sym f)
             (refl, refl),
         replied end new (subst (λ (mid : Content). Reply (Ring path n with_it) mid end new) is.1
-        (subst (λ (asked : Command). Reply asked h.1 end new) is.0 h.3)),
+            (subst (λ (asked : Command). Reply asked h.1 end new) is.0 h.3)),
       )
   come words fewer e f end new (inr h) =
       absurd (asked (command words) h.0 new h.1 e)

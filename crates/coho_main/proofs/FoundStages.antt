@@ -51,8 +51,7 @@ module _ (P : Presentation) (G : PGroup) (is : IsTableOf P G) where
       → TakeStages P n (Some path) files (Err (file_refused fault)) files
   walk_refused n path bytes files c fault there walked =
       subst (λ (o : Option (List ℕ)). OrMissing path o (Walk P n) files (Err (file_refused fault)) files)
-          (sym there)
-      (
+      (sym there) (
         record {
           group = G;
           is_table = is;
@@ -129,17 +128,19 @@ module _ (P : Presentation) (G : PGroup) (is : IsTableOf P G) where
     -- where the walk refuses nothing
     pub choose_goes : (known : Option Content) (from : Option (List ℕ)) (seen : Content) → Agrees known seen
         → ((files : Content) → walking.AreKnown (of_from from) known files
-            → (c : ℕ) × walking.Takes (of_from from) files c)
+        → (c : ℕ) × walking.Takes (of_from from) files c)
         → ((bytes : List ℕ) × ((c : ℕ) × (walk_of G (canonical P) n bytes ≡ ends_so c None)))
         → Chosen known from seen (Goes from)
     choose_goes (Some told) from seen agrees walk some =
         let w = walk told (inl refl) in choose_told told from seen (Goes from) agrees
-            (known_goes from told w.0 w.1)
+        (known_goes from told w.0 w.1)
     choose_goes None None seen agrees walk some = choose_seen seen None (Goes None) (0, (refl, refl))
     choose_goes None (Some path) seen agrees walk some =
-        choose_put path some.0 seen (Goes (Some path))
-        (some.1.0, walk_taken n path some.0 (with_file seen path some.0) some.1.0
-            (there_file seen path some.0) some.1.1)
+        choose_put path some.0 seen (Goes (Some path)) (
+          some.1.0,
+          walk_taken n path some.0 (with_file seen path some.0) some.1.0
+              (there_file seen path some.0) some.1.1,
+        )
 
     -- where it refuses this
     pub choose_stops : (known : Option Content) (from : Option (List ℕ)) (seen : Content) (fault : WalkFault)
@@ -148,13 +149,13 @@ module _ (P : Presentation) (G : PGroup) (is : IsTableOf P G) where
         → Chosen known from seen (Stops fault from)
     choose_stops (Some told) from seen fault agrees walk some =
         choose_told told from seen (Stops fault from) agrees (known_stops fault from told (walk told
-            (inl refl)))
+        (inl refl)))
     choose_stops None None seen fault agrees walk some =
         choose_seen seen None (Stops fault None) (known_stops fault None seen (walk seen (inr refl)))
     choose_stops None (Some path) seen fault agrees walk some =
         choose_put path some.0 seen (Stops fault (Some path))
         (walk_refused n path some.0 (with_file seen path some.0) some.1.0 fault
-            (there_file seen path some.0) some.1.1)
+        (there_file seen path some.0) some.1.1)
 
     -- ---- the stages are then saved, or those before the first that is too large
 
@@ -217,7 +218,7 @@ module _ (P : Presentation) (G : PGroup) (is : IsTableOf P G) where
             length (file_of G (canonical P) n),
             ap (λ (bytes : List ℕ). saved save bytes told)
                 (sym (take_all (length (file_of G (canonical P) n)) (file_of G (canonical P) n)
-                    (omega arith))),
+                (omega arith))),
           );
         }),
       )
@@ -245,7 +246,7 @@ module _ (P : Presentation) (G : PGroup) (is : IsTableOf P G) where
         where
           at : (o : Option Content) → known ≡ o → OfTold known now (IsFrontSaved P n save) → (seen : Content)
               → Agrees known seen → FromTo known now (λ files after. AreSameBut from seen files × Q files
-                  after)
+              after)
           at (Some told) e left seen agrees =
               let l = left told e in
               (seen, l.0, agrees, (λ other f. l.1), ((λ path other. refl), q seen l.0))

@@ -203,7 +203,7 @@ module _ (answer : Status) (err err_now : Option (List ℕ)) (n m : ℕ) where
     -- where the status is that of the words
     pub usage_stop : (known left : Option Content) (s : Stop) → ReportedHere s
         → FromTo known left (λ files after. Meets lines_of (Comes words) files after (Err s))
-            → answer ≡ status.Usage
+        → answer ≡ status.Usage
         → (command words ≡ None) ⊎ AskForValue words
     usage_stop known left s r k e =
         let isnt : answer ≢ status.Memory = λ is. let no : status.Usage ≡ status.Memory = sym e ∙ is in cc in

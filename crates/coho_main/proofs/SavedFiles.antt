@@ -21,7 +21,7 @@ pub other_file : (c : Content) (save path bytes : List ℕ) → (save ≡ path �
 other_file c save path bytes apart =
     ap (or_outside c.outside_is_empty) (get-insert nat_list_cmp_total c.files save bytes path
     ∙ ap (λ b. cond b (Some bytes) (get c.files path)) (is_eq-slice_cmp path save
-        ∙ differ (bytes_eq path save) refl))
+    ∙ differ (bytes_eq path save) refl))
   where
     differ : (b : Bool) → bytes_eq path save ≡ b → bytes_eq path save ≡ false
     differ false e = e
@@ -36,7 +36,7 @@ there_file c path bytes =
 
 saved_file : (words : List (List ℕ)) (told left : Content) (save : Option (List ℕ)) (bytes path : List ℕ)
     → ((p : List ℕ) → save ≡ Some p → IsSaved words p) → left ≡ saved save bytes told → (IsSaved words path
-        → ⊥)
+    → ⊥)
     → file left path ≡ file told path
 saved_file words told left None bytes path is e other = ap (λ (c : Content). file c path) e
 saved_file words told left (Some p) bytes path is e other = ap (λ (c : Content). file c path) e

@@ -80,9 +80,11 @@ module _ (G : PGroup) (text : List ℕ) where
 
   are_there : (c : ℕ) → Fit G c → AreThere c 1
   are_there c fit zero from to = absurd (omega (arith, from))
-  are_there c fit (suc d) from to =
-      (record_bytes (order_of G) (suc d) (parts_of (stage_rows G) d), there d (fit (suc d) from (omega
-          (arith, to))))
+  are_there c fit (suc d) from to = (
+    record_bytes (order_of G) (suc d) (parts_of (stage_rows G) d),
+    there d (fit (suc d) from (omega
+        (arith, to))),
+  )
 
   -- a walk takes the records that are there, and goes on with what follows
   over : (c m d : ℕ) (tail : List ℕ) (fault : Option WalkFault) → AreThere c d
@@ -108,7 +110,7 @@ module _ (G : PGroup) (text : List ℕ) where
       (subst (λ (e : ℕ). walk_records records m e tail ≡ ends_so 0 fault) moved h) in
       let more : suc (c + m) ≡ suc c + m = omega arith in
       subst (λ (n : ℕ). walk_records records n d (with_rest (records d) (records_from records c
-          (suc d)) ++ tail)
+      (suc d)) ++ tail)
       ≡ ends_so (suc c) fault) more
       (ap (walk_records records (suc (c + m)) d) bytes_are
       ∙ walk-takes records (c + m) d (r.0 ++ rest) rest taken ∙ ap (λ (w : Walked). one_more w) ih)
@@ -138,9 +140,11 @@ module _ (G : PGroup) (text : List ℕ) where
   pub taking : (n c : ℕ) → c ≤ n → Fit G c
       → (bytes : List ℕ) × (walk_of G text n bytes ≡ ends_so c None)
   taking n c l fit =
-      let is : c + (n - c) ≡ n = omega (arith, l) in
-      (with_tail c [], subst (λ (k : ℕ). walk_of G text k (with_tail c []) ≡ ends_so c None) is
-      (walk_over c (n - c) [] None fit (walk-nil records (1 + c) (n - c))))
+      let is : c + (n - c) ≡ n = omega (arith, l) in (
+        with_tail c [],
+        subst (λ (k : ℕ). walk_of G text k (with_tail c []) ≡ ends_so c None) is
+            (walk_over c (n - c) [] None fit (walk-nil records (1 + c) (n - c))),
+      )
 
   -- record d is refused
   no_record : (d : ℕ) → next (records d) zeros ≡ Refuses
@@ -155,16 +159,21 @@ module _ (G : PGroup) (text : List ℕ) where
       let same : suc c - 1 ≡ c = omega arith in
       let fits : Fit G c = subst (Fit G) same fit in
       let here : walk_records records (suc (n - suc c)) (suc c) zeros ≡ ends_so 0 (Some (walks.Record
-          (suc c)))
+      (suc c)))
       = walk-refuses records (n - suc c) (suc c) zeros (no_record (suc c)) in
       let next_is : suc c ≡ 1 + c = omega arith in
       let at : walk_records records (suc (n - suc c)) (1 + c) zeros ≡ ends_so 0 (Some (walks.Record (suc c)))
       = subst (λ (e : ℕ). walk_records records (suc (n - suc c)) e zeros ≡ ends_so 0 (Some (walks.Record
-          (suc c))))
-      next_is here in
-      (with_tail c zeros, (c, subst (λ (k : ℕ). walk_of G text k (with_tail c zeros)
-      ≡ ends_so c (Some (walks.Record (suc c)))) is
-      (walk_over c (suc (n - suc c)) zeros (Some (walks.Record (suc c))) fits at)))
+      (suc c))))
+      next_is here in (
+        with_tail c zeros,
+        (
+          c,
+          subst (λ (k : ℕ). walk_of G text k (with_tail c zeros)
+              ≡ ends_so c (Some (walks.Record (suc c)))) is
+              (walk_over c (suc (n - suc c)) zeros (Some (walks.Record (suc c))) fits at),
+        ),
+      )
 
   pub refusing_header : (n : ℕ)
       → (bytes : List ℕ) × ((c : ℕ) × (walk_of G text n bytes ≡ ends_so c (Some walks.Header)))

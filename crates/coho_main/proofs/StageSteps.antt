@@ -47,8 +47,11 @@ some_end w = go w.fault refl
   where
     go : (o : Fault) → w.fault ≡ o → ((k : ℕ) × Takes w k) ⊎ ((q : Refusal) × IsWalkRefusal w q)
     go None e = inl (w.taken, ap (λ (o : Fault). record { taken = w.taken; fault = o }) e)
-    go (Some fault) e = inr (file_refused fault, subst (λ (o : Fault). IsRefusalOf o (file_refused fault))
-        (sym e) refl)
+    go (Some fault) e = inr (
+      file_refused fault,
+      subst (λ (o : Fault). IsRefusalOf o (file_refused fault))
+          (sym e) refl,
+    )
 
 walk_decided : (text : List ℕ) (c : ℕ) (bytes : List ℕ)
     → IsDecided ⊥ (λ G (k : ℕ). Takes (walk_of G text c bytes) k)

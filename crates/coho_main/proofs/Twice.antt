@@ -70,7 +70,7 @@ blind_accept P = blind_then (FitOrder P) (after_order P) (blind_if _ _) (λ _. b
 blind_text : (text : List ℕ) → IsBlind (after_text text)
 blind_text text = blind_then (ReadText text) Accept
     (blind_then (FitLength text) (after_length text) (blind_if _ _) (λ _. blind_fault
-        (read text))) blind_accept
+    (read text))) blind_accept
 
 -- ---- a file that is read is read so in all files that have it
 
@@ -128,7 +128,7 @@ given_same (Sample k) P seen new files once same h = blind_accept (sample k) P s
 -- the file that was loaded is there, and a text that was read stands at its front
 pub loaded_front : (path : List ℕ) (P : Presentation) (seen new : Content) → Load path seen (Ok P) new
     → (text : List ℕ) × (front seen path ≡ Some text) × ((old : Content)
-        → (new : Content) × after_text text old (Ok P) new)
+    → (new : Content) × after_text text old (Ok P) new)
 loaded_front path P seen new (inl h) = (
   h.0,
   front_is path (front seen path) h.0 seen h.1 h.2,
@@ -187,8 +187,7 @@ module _ (path : List ℕ) (P : Presentation) (seen : Content) (h : Load path se
       let walked = walk-header (header_bytes (canonical P)) (records_of G) c bytes.0
       (other_header (canonical P) bytes.0 text.0 read_is) in
       subst (λ (o : Option (List ℕ)). OrMissing path o (Walk P c) seen (Err (file_refused walks.Header)) seen)
-      (sym bytes.1)
-      (
+      (sym bytes.1) (
         record {
           group = G;
           is_table = is;
@@ -216,7 +215,7 @@ twice (Ring path n stages) P seen e h =
     let t = table_of P (loaded path P seen seen h) in
     let walked = refuses_header path P seen h t.0 t.1 n in
     let taken = subst (λ (from : Option (List ℕ)). TakeStages P n from seen (Err
-        (file_refused walks.Header)) seen)
+    (file_refused walks.Header)) seen)
     (sym (same_is path stages.from e)) walked in
     inr (file_refused walks.Header, inr (file_refused walks.Header, taken, refl), refl)
 twice (Check path stages) P seen e h =

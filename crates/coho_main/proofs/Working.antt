@@ -83,14 +83,16 @@ cause_map Reads Others Saves More f g reads mid reads_now writes writes_mid writ
 cause_map Reads Others Saves More f g reads mid reads_now writes writes_mid writes_now l m stop.Write h =
     absurd h
 cause_map Reads Others Saves More f g reads mid reads_now writes writes_mid writes_now l m
-    (stop.Save path) h =
-    (g path.now h.0, rose_since (writes path.now) (writes_mid path.now) (writes_now path.now)
-        (m path.now) h.1)
+    (stop.Save path) h = (
+      g path.now h.0,
+      rose_since (writes path.now) (writes_mid path.now) (writes_now path.now)
+          (m path.now) h.1,
+    )
 cause_map Reads Others Saves More f g reads mid reads_now writes writes_mid writes_now l m stop.Memory h = tt
 
 from_any : (named : Option (List ℕ)) (known now : Option Content) (P Q : Content → Content → Type 0)
     → ((files left : Content) → P files left → Q files left) → FromAny named known now P
-        → FromAny named known now Q
+    → FromAny named known now Q
 from_any named known now P Q f h seen agrees =
     let r = h seen agrees in (r.0, r.1, r.2, r.3, (r.4.0, f r.0 r.1 r.4.1))
 
@@ -100,8 +102,13 @@ module _ {T A : Type 0} (view : T → A) (step : Step A) (from save : Option (Li
   pub settled_works : ((files : Content) → MayLeave files files) → (r : Result T Stop) → Settles view step r
       → Works view step from save MayLeave known known reads reads writes writes r
   settled_works leaves r h = record {
-    ends = λ seen agrees. (seen, seen, agrees, (λ told e. e ∙ ap (λ (c : Content). Some c) (agrees told e)),
-        ((λ path other. refl), settled_meets view step seen r h));
+    ends = λ seen agrees. (
+      seen,
+      seen,
+      agrees,
+      (λ told e. e ∙ ap (λ (c : Content). Some c) (agrees told e)),
+      ((λ path other. refl), settled_meets view step seen r h),
+    );
     cause = has_cause view step (λ path. from ≡ Some path)
         (λ path. save ≡ Some path) reads reads writes writes r h;
     left = λ told e. (told, e, leaves told);

@@ -30,4 +30,4 @@ pub record TellsRing (path : List ℕ) (n : ℕ) (files : Content) (old new : Op
 abbrev pub TellsRingOf : List (List ℕ) → Option (List ℕ) → Option (List ℕ) → Content → Type 0
 TellsRingOf words old new files =
     (path : List ℕ) (n : ℕ) (stages : StageFiles) → command words ≡ Some (Ring path n stages)
-        → TellsRing path n files old new
+    → TellsRing path n files old new

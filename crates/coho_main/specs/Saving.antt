@@ -62,7 +62,7 @@ FromAny named known now P = (seen : Content) → Agrees known seen
 pub record Works {T A : Type 0}
     (view : T → A) (step : Step A) (from save : Option (List ℕ)) (MayLeave : Content → Content → Type 0)
     (known now : Option Content) (reads reads_now writes writes_now : List ℕ
-        → ℕ) (r : Result T Stop) : Type 0 where
+    → ℕ) (r : Result T Stop) : Type 0 where
   pub ends : FromAny from known now (λ files left. Meets view step files left r)
   pub cause : IfErr r (HasCause (λ path. from ≡ Some path) (λ path. save ≡ Some path)
       reads reads_now writes writes_now)

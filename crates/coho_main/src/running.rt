@@ -21,7 +21,8 @@ ghost use Rattle.coho_main.specs.Saving.{Answered, CommandLeaves, OfTold, WordsL
 use crate::{
     Cause, Command, FilePart, StageFiles, Status, Stop, accept, basis_value, count_records,
     find_stages, fit_elements, group_lines, load, radical_dimensions, read_words, record_lines,
-    report, resolution_of, sample_lines, sample_presentation, stage_lines, value_lines, write_lines,
+    report, resolution_of, sample_lines, sample_presentation, stage_lines, value_lines,
+    write_lines,
 };
 use coho_io::{Files, Sink};
 use coho_report::{compose, report_lines};
@@ -55,11 +56,7 @@ fn answer_resolve<'a>(
 }
 
 // The lines of the report on the ring.
-fn ring_lines<'a>(
-    alloc: Global,
-    resolution: &Resolution,
-    n: u32,
-) -> Result<Vec<Vec<u8>>, Stop<'a>>
+fn ring_lines<'a>(alloc: Global, resolution: &Resolution, n: u32) -> Result<Vec<Vec<u8>>, Stop<'a>>
     requires low { 1 ≤ n }
     requires high { n ≤ GREATEST_DEGREE }
     requires last { resolution.now.last ≡ n }

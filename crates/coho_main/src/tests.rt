@@ -258,20 +258,51 @@ fn statuses_have_numbers(rt: HostRuntime) {
 
 #[test]
 fn saves_takes_and_checks_stages(rt: HostRuntime) -> Result<(), Fail> {
-    let report = "coho ring 1\nprime 2\norder 2\ndegree 3\nranks 1 1 1 1\ngenerators 1\nx_1_1\nrelations 0\n\
+    let report =
+        "coho ring 1\nprime 2\norder 2\ndegree 3\nranks 1 1 1 1\ngenerators 1\nx_1_1\nrelations 0\n\
         subgroups 1\nsubgroup 1 rank 1 basis 1\nx_1_1 -> x_1_1\nparameters 1\nx_1_1\nbound 1\nverdict complete\n";
     let usage = "coho: the words are not those of a command\n";
     let header = "coho: stage file refused: header\n";
     let mut files = MemFiles::new(rt.alloc());
     files.put("t", b"pgroup 1\nprime 2\ngens 1\n")?;
     for (texts, status, out, err) in [
-        (["ring", "--save", "b", "t", "3"].as_slice(), Status::Answered, report, ""),
-        (["ring", "t", "3", "--from", "b"].as_slice(), Status::Answered, report, ""),
-        (["check", "t", "b"].as_slice(), Status::Answered, "records 3\n", ""),
+        (
+            ["ring", "--save", "b", "t", "3"].as_slice(),
+            Status::Answered,
+            report,
+            "",
+        ),
+        (
+            ["ring", "t", "3", "--from", "b"].as_slice(),
+            Status::Answered,
+            report,
+            "",
+        ),
+        (
+            ["check", "t", "b"].as_slice(),
+            Status::Answered,
+            "records 3\n",
+            "",
+        ),
         (["check", "t", "t"].as_slice(), Status::Stage, "", header),
-        (["ring", "t", "3", "--from", "c"].as_slice(), Status::Read, "", "coho: read failed: c\n"),
-        (["ring", "t", "3", "--save", "t"].as_slice(), Status::Usage, "", usage),
-        (["ring", "t", "--save", "--from", "b", "3"].as_slice(), Status::Usage, "", usage),
+        (
+            ["ring", "t", "3", "--from", "c"].as_slice(),
+            Status::Read,
+            "",
+            "coho: read failed: c\n",
+        ),
+        (
+            ["ring", "t", "3", "--save", "t"].as_slice(),
+            Status::Usage,
+            "",
+            usage,
+        ),
+        (
+            ["ring", "t", "--save", "--from", "b", "3"].as_slice(),
+            Status::Usage,
+            "",
+            usage,
+        ),
     ] {
         let ended = run_words(rt.alloc(), &mut files, texts)?;
         assert_eq!(rt; ended.status, status, "{texts:?}");

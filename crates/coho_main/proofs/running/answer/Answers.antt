@@ -30,7 +30,7 @@ returns-then-reads_twice g c =
     (g.F.Files.content c.given.new.files) (g.F.Files.read_faults c.given.new.files)
     (g.F.Files.write_faults c.given.new.files) c.in_ok-consistent.ensures.reads.content
     c.in_ok-consistent.consistent c.in_ok-consistent.ensures.step (sym c.reads_twice.ensures
-        ∙ c.if-reads_twice.true)
+    ∙ c.if-reads_twice.true)
 
 pub returns : goal.returns
 returns g c =

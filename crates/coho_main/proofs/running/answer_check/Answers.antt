@@ -9,7 +9,7 @@ use Rattle.coho_main.proofs.running.answer_check.Goals as goal
 pub returns-in-Ok : goal.returns-in-Ok
 returns-in-Ok g c =
     works_then (λ count. count) lines_of (WalkFile c.args.consistent.now GREATEST_DEGREE c.args.stages.now)
-        TellCount
+    TellCount
     (Some c.args.stages.now) None (λ old left. left ≡ old) (g.F.Files.content c.args.files.now)
     (g.F.Files.content c.count_records.new.files) (g.F.Files.read_faults c.args.files.now)
     (g.F.Files.read_faults c.count_records.new.files) (g.F.Files.write_faults c.args.files.now)
@@ -19,7 +19,7 @@ returns-in-Ok g c =
 pub returns-in-Err : goal.returns-in-Err
 returns-in-Err g c =
     works_stop (λ count. count) lines_of (WalkFile c.args.consistent.now GREATEST_DEGREE c.args.stages.now)
-        TellCount
+    TellCount
     (Some c.args.stages.now) None (λ old left. left ≡ old) (g.F.Files.content c.args.files.now)
     (g.F.Files.content c.count_records.new.files) (g.F.Files.read_faults c.args.files.now)
     (g.F.Files.read_faults c.count_records.new.files) (g.F.Files.write_faults c.args.files.now)

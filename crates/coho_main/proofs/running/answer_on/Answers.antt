@@ -28,11 +28,11 @@ returns-in-Check g c = rw c.in-Check.is c.answer_check.ensures
 pub returns-in-Value : goal.returns-in-Value
 returns-in-Value g c = rw c.in-Value.is (settled_works lines_of
     (AnswerValue c.args.consistent.now c.in-Value.class c.in-Value.elements.items) None None
-        (λ old left. left ≡ old)
+    (λ old left. left ≡ old)
     (g.F.Files.content c.args.files.now) (g.F.Files.read_faults c.args.files.now)
     (g.F.Files.write_faults c.args.files.now) (λ files. refl) c.answer_value.result
     (subst (λ es. Settles lines_of (AnswerValue c.args.consistent.now c.in-Value.class es)
-        c.answer_value.result)
+    c.answer_value.result)
     c.deref.ensures.value c.answer_value.ensures))
 
 pub returns-in-Sample : goal.returns-in-Sample

@@ -10,12 +10,12 @@ returns-in-Ok g c =
     let P = c.args.consistent.now in
     let stages = stage_files c.args.named in
     works_then (λ _. tt) lines_of (FindStages P c.args.n stages)
-        (λ _. TellReport P c.args.n) stages.from stages.save
+    (λ _. TellReport P c.args.n) stages.from stages.save
     (IsFrontSaved P c.args.n stages.save) (g.F.Files.content c.args.files.now)
     (g.F.Files.content c.find_stages.new.files) (g.F.Files.read_faults c.args.files.now)
     (g.F.Files.read_faults c.find_stages.new.files) (g.F.Files.write_faults c.args.files.now)
     (g.F.Files.write_faults c.find_stages.new.files) c.in-Ok.resolution c.ring_lines.result
-        c.in-Ok.ensures.works
+    c.in-Ok.ensures.works
     (c.ring_lines.ensures P c.in-Ok.ensures.found)
 
 pub returns-in-Err : goal.returns-in-Err
@@ -23,7 +23,7 @@ returns-in-Err g c =
     let P = c.args.consistent.now in
     let stages = stage_files c.args.named in
     works_stop (λ _. tt) lines_of (FindStages P c.args.n stages)
-        (λ _. TellReport P c.args.n) stages.from stages.save
+    (λ _. TellReport P c.args.n) stages.from stages.save
     (IsFrontSaved P c.args.n stages.save) (g.F.Files.content c.args.files.now)
     (g.F.Files.content c.find_stages.new.files) (g.F.Files.read_faults c.args.files.now)
     (g.F.Files.read_faults c.find_stages.new.files) (g.F.Files.write_faults c.args.files.now)

@@ -10,7 +10,7 @@ returns-in_err-report c = λ P R.
     let p = err_from_is_err_and c.from_residual.result c.from_residual.ensures.1 in
     rw (p.1, p.2) (ring_too_many P c.args.n _
     (report_stop P c.args.n c.args.resolution.now R c.in_err-report.field-0.0
-        c.in_err-report.ensures.refused))
+    c.in_err-report.ensures.refused))
 
 pub returns-in_err-report_lines : goal.returns-in_err-report_lines
 returns-in_err-report_lines c = λ P R.

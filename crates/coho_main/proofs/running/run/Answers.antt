@@ -17,7 +17,7 @@ pub returns-in-Ok-write_lines-clause-outcome : goal.returns-in-Ok-write_lines-cl
 returns-in-Ok-write_lines-clause-outcome g c = λ _.
     wrote_all (texts c.args.words.now) (g.F.Files.content c.args.files.now)
     (g.F.Files.content c.answer.new.files) (g.O.Sink.written c.args.out.now)
-        (g.O.Sink.written c.write_lines.new.out) (g.E.Sink.written c.args.err.now)
+    (g.O.Sink.written c.write_lines.new.out) (g.E.Sink.written c.args.err.now)
     (g.E.Sink.written c.args.err.now) c.in-Ok.lines (g.E.Sink.faults c.args.err.now) c.in-Ok.ensures.ends
     (subst (λ ls. Appends (g.O.Sink.written c.args.out.now) (g.O.Sink.written c.write_lines.new.out)
     (concat (contents ls))) c.deref.ensures.value c.in-Ok-write_lines.ensures.ok)
@@ -25,7 +25,7 @@ returns-in-Ok-write_lines-clause-outcome g c = λ _.
 pub returns-in-Ok-write_lines-clause-complete : goal.returns-in-Ok-write_lines-clause-complete
 returns-in-Ok-write_lines-clause-complete g c = λ told e is k reads saves writes. inl (sym
     (let m = told_meets (texts c.args.words.now) (g.F.Files.content c.args.files.now)
-        (g.F.Files.content c.answer.new.files) (Ok c.in-Ok.lines) c.in-Ok.ensures.ends told is in
+    (g.F.Files.content c.answer.new.files) (Ok c.in-Ok.lines) c.in-Ok.ensures.ends told is in
     answers (texts c.args.words.now) told m.0 (contents c.in-Ok.lines.items) m.1 e k))
 
 pub returns-in-Ok-clause-outcome : goal.returns-in-Ok-clause-outcome
@@ -39,7 +39,7 @@ pub returns-in-Ok-clause-write : goal.returns-in-Ok-clause-write
 returns-in-Ok-clause-write g c = λ e. inl (fails_on_out (texts c.args.words.now)
     (g.F.Files.content c.args.files.now)
     (g.F.Files.content c.answer.new.files) (g.O.Sink.written c.args.out.now)
-        (g.O.Sink.written c.write_lines.new.out) (g.E.Sink.written c.args.err.now)
+    (g.O.Sink.written c.write_lines.new.out) (g.E.Sink.written c.args.err.now)
     (g.E.Sink.written c.report.new.err) c.in-Ok.lines c.in-Err-write_lines.stop c.report.result
     (g.O.Sink.faults c.args.out.now) (g.O.Sink.faults c.write_lines.new.out) (g.E.Sink.faults c.args.err.now)
     (g.E.Sink.faults c.report.new.err)
@@ -51,17 +51,17 @@ pub returns-in-Ok-clause-memory : goal.returns-in-Ok-clause-memory
 returns-in-Ok-clause-memory g c = λ h. memory_of_write (texts c.args.words.now)
     (g.F.Files.content c.args.files.now)
     (g.F.Files.content c.answer.new.files) (g.O.Sink.written c.args.out.now)
-        (g.O.Sink.written c.write_lines.new.out) (g.E.Sink.written c.args.err.now)
+    (g.O.Sink.written c.write_lines.new.out) (g.E.Sink.written c.args.err.now)
     (g.E.Sink.written c.report.new.err) (g.F.Files.read_faults c.args.files.now)
     (g.F.Files.read_faults c.answer.new.files)
     (g.F.Files.write_faults c.args.files.now)
     (g.F.Files.write_faults c.answer.new.files) (g.O.Sink.faults c.args.out.now)
-        (g.O.Sink.faults c.write_lines.new.out)
+    (g.O.Sink.faults c.write_lines.new.out)
     c.in-Err-write_lines.stop
     (wrote_front (texts c.args.words.now) (g.F.Files.content c.args.files.now)
-        (g.F.Files.content c.answer.new.files) (g.O.Sink.written c.args.out.now)
-            (g.O.Sink.written c.write_lines.new.out) (g.E.Sink.written c.args.err.now)
-                (g.E.Sink.written c.args.err.now) c.in-Ok.lines c.in-Ok.ensures.ends
+    (g.F.Files.content c.answer.new.files) (g.O.Sink.written c.args.out.now)
+    (g.O.Sink.written c.write_lines.new.out) (g.E.Sink.written c.args.err.now)
+    (g.E.Sink.written c.args.err.now) c.in-Ok.lines c.in-Ok.ensures.ends
     (subst (λ ls. AppendsFront (g.O.Sink.written c.args.out.now) (g.O.Sink.written c.write_lines.new.out)
     (concat (contents ls))) c.deref.ensures.value c.in-Err-write_lines.ensures.err))
     c.in-Err-write_lines.ensures.cause (c.report.ensures.memory h)
@@ -74,15 +74,15 @@ returns-in-Ok-clause-complete g c = λ told e is k reads saves writes. inr
     (g.O.Sink.faults c.args.out.now) (g.O.Sink.faults c.write_lines.new.out) c.report.ensures.told
     c.in-Err-write_lines.ensures.cause
     (writes (let m = told_meets (texts c.args.words.now) (g.F.Files.content c.args.files.now)
-        (g.F.Files.content c.answer.new.files) (Ok c.in-Ok.lines) c.in-Ok.ensures.ends told is in
+    (g.F.Files.content c.answer.new.files) (Ok c.in-Ok.lines) c.in-Ok.ensures.ends told is in
     answers (texts c.args.words.now) told m.0 (contents c.in-Ok.lines.items) m.1 e k)))
 
 pub returns-clause-outcome : goal.returns-clause-outcome
 returns-clause-outcome g c = λ h.
     stopped (texts c.args.words.now) (g.F.Files.content c.args.files.now)
-        (g.F.Files.content c.answer.new.files)
+    (g.F.Files.content c.answer.new.files)
     (g.O.Sink.written c.args.out.now) (g.E.Sink.written c.args.err.now)
-        (g.E.Sink.written c.report-in-Err.new.err)
+    (g.E.Sink.written c.report-in-Err.new.err)
     (g.E.Sink.faults c.args.err.now)
     (g.E.Sink.faults c.report-in-Err.new.err) c.in-Err.stop c.report-in-Err.result h
     c.report-in-Err.ensures.told c.in-Err.ensures.ends
@@ -96,7 +96,7 @@ returns-clause-usage g c = usage_stop c.report-in-Err.result (g.E.Sink.written c
     (g.F.Files.read_faults c.answer.new.files)
     (g.F.Files.write_faults c.args.files.now)
     (g.F.Files.write_faults c.answer.new.files) (g.F.Files.content c.args.files.now)
-        (g.F.Files.content c.answer.new.files)
+    (g.F.Files.content c.answer.new.files)
     c.in-Err.stop c.report-in-Err.ensures.told c.in-Err.ensures.ends
 
 pub returns-clause-words : goal.returns-clause-words
@@ -108,7 +108,7 @@ returns-clause-words g c = words_stop c.report-in-Err.result (g.E.Sink.written c
     (g.F.Files.read_faults c.answer.new.files)
     (g.F.Files.write_faults c.args.files.now)
     (g.F.Files.write_faults c.answer.new.files) (g.F.Files.content c.args.files.now)
-        (g.F.Files.content c.answer.new.files)
+    (g.F.Files.content c.answer.new.files)
     c.in-Err.stop c.report-in-Err.ensures.told c.in-Err.ensures.ends c.in-Err.ensures.cause
 
 pub returns-clause-read : goal.returns-clause-read
@@ -120,7 +120,7 @@ returns-clause-read g c = read_told c.report-in-Err.result (g.E.Sink.written c.a
     (g.F.Files.read_faults c.answer.new.files)
     (g.F.Files.write_faults c.args.files.now)
     (g.F.Files.write_faults c.answer.new.files) c.in-Err.stop c.report-in-Err.ensures.told
-        c.in-Err.ensures.cause
+    c.in-Err.ensures.cause
 
 pub returns-clause-kept : goal.returns-clause-kept
 returns-clause-kept g c = read_kept c.report-in-Err.result (g.E.Sink.written c.args.err.now)
@@ -131,7 +131,7 @@ returns-clause-kept g c = read_kept c.report-in-Err.result (g.E.Sink.written c.a
     (g.F.Files.read_faults c.answer.new.files)
     (g.F.Files.write_faults c.args.files.now)
     (g.F.Files.write_faults c.answer.new.files) (g.F.Files.content c.args.files.now)
-        (g.F.Files.content c.answer.new.files)
+    (g.F.Files.content c.answer.new.files)
     c.in-Err.stop c.report-in-Err.ensures.told c.in-Err.ensures.kept
 
 pub returns-clause-write : goal.returns-clause-write
@@ -148,8 +148,8 @@ returns-clause-write g c = λ e. inr (save_told c.report-in-Err.result (g.E.Sink
 pub returns-clause-memory : goal.returns-clause-memory
 returns-clause-memory g c = λ h.
     memory_of_stop (texts c.args.words.now) (g.F.Files.content c.args.files.now)
-        (g.F.Files.content c.answer.new.files) (g.O.Sink.written c.args.out.now)
-            (g.O.Sink.written c.args.out.now) (g.E.Sink.written c.args.err.now)
+    (g.F.Files.content c.answer.new.files) (g.O.Sink.written c.args.out.now)
+    (g.O.Sink.written c.args.out.now) (g.E.Sink.written c.args.err.now)
     (g.E.Sink.written c.report-in-Err.new.err) (g.F.Files.read_faults c.args.files.now)
     (g.F.Files.read_faults c.answer.new.files)
     (g.F.Files.write_faults c.args.files.now)
@@ -160,16 +160,16 @@ returns-clause-memory g c = λ h.
 pub returns-clause-complete : goal.returns-clause-complete
 returns-clause-complete g c = λ told e is k reads saves writes.
     let m = told_meets (texts c.args.words.now) (g.F.Files.content c.args.files.now)
-        (g.F.Files.content c.answer.new.files) (Err c.in-Err.stop) c.in-Err.ensures.ends told is in
+    (g.F.Files.content c.answer.new.files) (Err c.in-Err.stop) c.in-Err.ensures.ends told is in
     complete_stop c.report-in-Err.result (g.E.Sink.written c.args.err.now)
-        (g.E.Sink.written c.report-in-Err.new.err)
+    (g.E.Sink.written c.report-in-Err.new.err)
     (g.E.Sink.faults c.args.err.now)
     (g.E.Sink.faults c.report-in-Err.new.err) (texts c.args.words.now)
     (g.F.Files.read_faults c.args.files.now)
     (g.F.Files.read_faults c.answer.new.files)
     (g.F.Files.write_faults c.args.files.now)
     (g.F.Files.write_faults c.answer.new.files) told m.0 e k c.in-Err.stop c.report-in-Err.ensures.told m.1
-        c.in-Err.ensures.cause reads saves
+    c.in-Err.ensures.cause reads saves
 
 pub returns-in-Ok-write_lines-clause-files : goal.returns-in-Ok-write_lines-clause-files
 returns-in-Ok-write_lines-clause-files g c =
@@ -187,19 +187,19 @@ returns-clause-files g c = stays (texts c.args.words.now) (g.F.Files.content c.a
 pub returns-in-Ok-write_lines-clause-ring : goal.returns-in-Ok-write_lines-clause-ring
 returns-in-Ok-write_lines-clause-ring g c = λ _.
     tells_ring (texts c.args.words.now) (g.F.Files.content c.args.files.now)
-        (g.F.Files.content c.answer.new.files) c.in-Ok.lines
+    (g.F.Files.content c.answer.new.files) c.in-Ok.lines
     (g.O.Sink.written c.args.out.now) (g.O.Sink.written c.write_lines.new.out) c.in-Ok.ensures.ends
     (subst (λ ls. Appends (g.O.Sink.written c.args.out.now) (g.O.Sink.written c.write_lines.new.out)
     (concat (contents ls))) c.deref.ensures.value c.in-Ok-write_lines.ensures.ok)
 
 pub returns-in-Ok-clause-ring : goal.returns-in-Ok-clause-ring
-returns-in-Ok-clause-ring g c = 
+returns-in-Ok-clause-ring g c =
     stop_not_answered c.in-Err-write_lines.stop c.report.result (g.E.Sink.written c.args.err.now)
     (g.E.Sink.written c.report.new.err) (g.E.Sink.faults c.args.err.now)
     (g.E.Sink.faults c.report.new.err) c.report.ensures.told
 
 pub returns-clause-ring : goal.returns-clause-ring
-returns-clause-ring g c = 
+returns-clause-ring g c =
     stop_not_answered c.in-Err.stop c.report-in-Err.result (g.E.Sink.written c.args.err.now)
     (g.E.Sink.written c.report-in-Err.new.err) (g.E.Sink.faults c.args.err.now)
     (g.E.Sink.faults c.report-in-Err.new.err) c.report-in-Err.ensures.told
@@ -207,17 +207,17 @@ returns-clause-ring g c =
 pub returns-in-Ok-write_lines-clause-classes : goal.returns-in-Ok-write_lines-clause-classes
 returns-in-Ok-write_lines-clause-classes g c = λ _.
     has_classes (texts c.args.words.now) (g.F.Files.content c.args.files.now)
-        (g.F.Files.content c.answer.new.files) c.in-Ok.lines
+    (g.F.Files.content c.answer.new.files) c.in-Ok.lines
     c.in-Ok.ensures.ends
 
 pub returns-in-Ok-clause-classes : goal.returns-in-Ok-clause-classes
-returns-in-Ok-clause-classes g c = 
+returns-in-Ok-clause-classes g c =
     stop_not_answered c.in-Err-write_lines.stop c.report.result (g.E.Sink.written c.args.err.now)
     (g.E.Sink.written c.report.new.err) (g.E.Sink.faults c.args.err.now)
     (g.E.Sink.faults c.report.new.err) c.report.ensures.told
 
 pub returns-clause-classes : goal.returns-clause-classes
-returns-clause-classes g c = 
+returns-clause-classes g c =
     stop_not_answered c.in-Err.stop c.report-in-Err.result (g.E.Sink.written c.args.err.now)
     (g.E.Sink.written c.report-in-Err.new.err) (g.E.Sink.faults c.args.err.now)
     (g.E.Sink.faults c.report-in-Err.new.err) c.report-in-Err.ensures.told

@@ -14,17 +14,17 @@ returns-in_err-algebra g c =
     (Some c.args.path.now) None (λ old left. left ≡ old) (g.F.Files.content c.args.files.now)
     (g.F.Files.read_faults c.args.files.now) (g.F.Files.write_faults c.args.files.now) (λ files. refl) _
     (memory_settles (λ count. count) (WalkFile c.args.consistent.now GREATEST_DEGREE c.args.path.now) p.0
-        p.2))
+    p.2))
 
 pub returns-in-Ok : goal.returns-in-Ok
 returns-in-Ok g c =
     rw c.last.ensures (counted c.args.consistent.now c.in_ok-algebra.algebra c.in_ok-algebra.ensures
-        c.args.path
+    c.args.path
     (g.F.Files.content c.args.files.now) (g.F.Files.content c.taken_stages.new.files)
     (g.F.Files.read_faults c.args.files.now) (g.F.Files.read_faults c.taken_stages.new.files)
     (g.F.Files.write_faults c.args.files.now) (g.F.Files.write_faults c.taken_stages.new.files)
     c.in-Ok.ensures.content c.in-Ok.resolution.last c.in-Ok.ensures.last c.in-Ok.ensures.fit
-        c.in-Ok.ensures.taken)
+    c.in-Ok.ensures.taken)
 
 pub stop_at-requires : goal.stop_at-requires
 stop_at-requires g c =

@@ -37,7 +37,7 @@ returns-in_ok-one_operand-in-len1-up-clause-command c =
     ap (λ t. bytes_eq t (codes "group")) (sym c.as_str.ensures.value) ∙ sym c.eq.ensures ∙ c.if-eq.true in
     let plain = sym c.all_plain.ensures ∙ c.if-not-all_plain.false in
     group_found words (drop 1 words) plain name first is_named c.in_ok-one_operand-in-len1-up.field-0.now
-        c.in_ok-one_operand-in-len1-up.ensures.found
+    c.in_ok-one_operand-in-len1-up.ensures.found
 
 pub returns-in_err-path-in-len1-up-2-clause-refused : goal.returns-in_err-path-in-len1-up-2-clause-refused
 returns-in_err-path-in-len1-up-2-clause-refused c =
@@ -46,13 +46,13 @@ returns-in_err-path-in-len1-up-2-clause-refused c =
     let name = string_bytes c.name-item-2.result in
     let is_named : bytes_eq name (codes "resolve") ≡ true =
     ap (λ t. bytes_eq t (codes "resolve")) (sym c.as_str-2.ensures.value) ∙ sym c.eq-2.ensures
-        ∙ c.if-eq-2.true in
+    ∙ c.if-eq-2.true in
     let plain = sym c.all_plain.ensures ∙ c.if-not-all_plain.false in
     let r = c.from_residual-in_err-path-in-len1-up-2 in
     let p = err_from_is_err_and r.result r.ensures.1 in
     rw (p.1, p.2) (weaker_words (file_and_degree words ≡ None) (plain_command words ≡ None)
     (λ none. at_resolve words (drop 1 words) plain name first is_named
-        ∙ ap (of_degree Resolve) none) c.in_err-path-in-len1-up-2.field-0.0
+    ∙ ap (of_degree Resolve) none) c.in_err-path-in-len1-up-2.field-0.0
     c.in_err-path-in-len1-up-2.ensures.refused)
 
 pub returns-in_ok-path-in-len1-up-2-clause-command : goal.returns-in_ok-path-in-len1-up-2-clause-command
@@ -62,7 +62,7 @@ returns-in_ok-path-in-len1-up-2-clause-command c =
     let name = string_bytes c.name-item-2.result in
     let is_named : bytes_eq name (codes "resolve") ≡ true =
     ap (λ t. bytes_eq t (codes "resolve")) (sym c.as_str-2.ensures.value) ∙ sym c.eq-2.ensures
-        ∙ c.if-eq-2.true in
+    ∙ c.if-eq-2.true in
     let plain = sym c.all_plain.ensures ∙ c.if-not-all_plain.false in
     at_resolve words (drop 1 words) plain name first is_named
     ∙ ap (of_degree Resolve) c.in_ok-path-in-len1-up-2.ensures.found
@@ -74,7 +74,7 @@ returns-in_err-path-in-len1-up-3-clause-refused c =
     let name = string_bytes c.name-item-3.result in
     let is_named : bytes_eq name (codes "check") ≡ true =
     ap (λ t. bytes_eq t (codes "check")) (sym c.as_str-3.ensures.value) ∙ sym c.eq-3.ensures
-        ∙ c.if-eq-3.true in
+    ∙ c.if-eq-3.true in
     let plain = sym c.all_plain.ensures ∙ c.if-not-all_plain.false in
     let r = c.from_residual-in_err-path-in-len1-up-3 in
     let p = err_from_is_err_and r.result r.ensures.1 in
@@ -89,10 +89,10 @@ returns-in_ok-path-in-len1-up-3-clause-command c =
     let name = string_bytes c.name-item-3.result in
     let is_named : bytes_eq name (codes "check") ≡ true =
     ap (λ t. bytes_eq t (codes "check")) (sym c.as_str-3.ensures.value) ∙ sym c.eq-3.ensures
-        ∙ c.if-eq-3.true in
+    ∙ c.if-eq-3.true in
     let plain = sym c.all_plain.ensures ∙ c.if-not-all_plain.false in
     check_found words (drop 1 words) plain name first is_named c.in_ok-path-in-len1-up-3.path.now
-        c.in_ok-path-in-len1-up-3.stages.now
+    c.in_ok-path-in-len1-up-3.stages.now
     c.in_ok-path-in-len1-up-3.ensures.found
 
 pub returns-in_err-path-in-len1-up-4-clause-refused : goal.returns-in_err-path-in-len1-up-4-clause-refused
@@ -102,13 +102,13 @@ returns-in_err-path-in-len1-up-4-clause-refused c =
     let name = string_bytes c.name-item-4.result in
     let is_named : bytes_eq name (codes "value") ≡ true =
     ap (λ t. bytes_eq t (codes "value")) (sym c.as_str-4.ensures.value) ∙ sym c.eq-4.ensures
-        ∙ c.if-eq-4.true in
+    ∙ c.if-eq-4.true in
     let plain = sym c.all_plain.ensures ∙ c.if-not-all_plain.false in
     let r = c.from_residual-in_err-path-in-len1-up-4 in
     let p = err_from_is_err_and r.result r.ensures.1 in
     rw (p.1, p.2) (weaker_words (file_and_place words ≡ None) (plain_command words ≡ None)
     (λ none. at_value words (drop 1 words) plain name first is_named
-        ∙ ap of_place none) c.in_err-path-in-len1-up-4.field-0.0
+    ∙ ap of_place none) c.in_err-path-in-len1-up-4.field-0.0
     c.in_err-path-in-len1-up-4.ensures.refused)
 
 pub returns-in_ok-path-in-len1-up-4-clause-command : goal.returns-in_ok-path-in-len1-up-4-clause-command
@@ -118,7 +118,7 @@ returns-in_ok-path-in-len1-up-4-clause-command c =
     let name = string_bytes c.name-item-4.result in
     let is_named : bytes_eq name (codes "value") ≡ true =
     ap (λ t. bytes_eq t (codes "value")) (sym c.as_str-4.ensures.value) ∙ sym c.eq-4.ensures
-        ∙ c.if-eq-4.true in
+    ∙ c.if-eq-4.true in
     let plain = sym c.all_plain.ensures ∙ c.if-not-all_plain.false in
     at_value words (drop 1 words) plain name first is_named
     ∙ ap of_place c.in_ok-path-in-len1-up-4.ensures.found
@@ -131,13 +131,13 @@ returns-in_err-sample_number-in-len1-up-5-clause-refused c =
     let name = string_bytes c.name-item-5.result in
     let is_named : bytes_eq name (codes "sample") ≡ true =
     ap (λ t. bytes_eq t (codes "sample")) (sym c.as_str-5.ensures.value) ∙ sym c.eq-5.ensures
-        ∙ c.if-eq-5.true in
+    ∙ c.if-eq-5.true in
     let plain = sym c.all_plain.ensures ∙ c.if-not-all_plain.false in
     let r = c.from_residual-in_err-sample_number-in-len1-up-5 in
     let p = err_from_is_err_and r.result r.ensures.1 in
     rw (p.1, p.2) (weaker_words (sample_number words ≡ None) (plain_command words ≡ None)
     (λ none. at_sample words (drop 1 words) plain name first is_named
-        ∙ ap (option_map Sample) none) c.in_err-sample_number-in-len1-up-5.field-0.0
+    ∙ ap (option_map Sample) none) c.in_err-sample_number-in-len1-up-5.field-0.0
     c.in_err-sample_number-in-len1-up-5.ensures.refused)
 
 pub returns-in_ok-sample_number-in-len1-up-5-clause-command :
@@ -148,7 +148,7 @@ returns-in_ok-sample_number-in-len1-up-5-clause-command c =
     let name = string_bytes c.name-item-5.result in
     let is_named : bytes_eq name (codes "sample") ≡ true =
     ap (λ t. bytes_eq t (codes "sample")) (sym c.as_str-5.ensures.value) ∙ sym c.eq-5.ensures
-        ∙ c.if-eq-5.true in
+    ∙ c.if-eq-5.true in
     let plain = sym c.all_plain.ensures ∙ c.if-not-all_plain.false in
     at_sample words (drop 1 words) plain name first is_named
     ∙ ap (option_map Sample) c.in_ok-sample_number-in-len1-up-5.ensures.found
@@ -160,24 +160,24 @@ returns-in_default-clause-refused c =
     elim c.in_default.branch [
       | in_default-via-then-words-lt1 w ↦ (no_words given (search rules), refl)
       | in_default-via-in-len1-up-5+else-eq-5 w ↦ (
-          unnamed words _ _ _ _ _
-          (named given w.name-item.result w.in-len1-up.len_at_least w.name-item.is)
-          (named given w.name-item-2.result w.in-len1-up.len_at_least w.name-item-2.is)
-          (named given w.name-item-3.result w.in-len1-up.len_at_least w.name-item-3.is)
-          (named given w.name-item-4.result w.in-len1-up.len_at_least w.name-item-4.is)
-          (named given w.name-item-5.result w.in-len1-up.len_at_least w.name-item-5.is)
-          (ap (λ t. bytes_eq t (codes "group")) (sym w.as_str.ensures.value) ∙ sym w.eq.ensures
-          ∙ w.if-eq.false)
-          (ap (λ t. bytes_eq t (codes "resolve")) (sym w.as_str-2.ensures.value) ∙ sym w.eq-2.ensures
-          ∙ w.if-eq-2.false)
-          (ap (λ t. bytes_eq t (codes "check")) (sym w.as_str-3.ensures.value) ∙ sym w.eq-3.ensures
-          ∙ w.if-eq-3.false)
-          (ap (λ t. bytes_eq t (codes "value")) (sym w.as_str-4.ensures.value) ∙ sym w.eq-4.ensures
-          ∙ w.if-eq-4.false)
-          (ap (λ t. bytes_eq t (codes "sample")) (sym w.as_str-5.ensures.value) ∙ sym w.eq-5.ensures
-          ∙ w.if-eq-5.false),
-          refl,
-        )
+        unnamed words _ _ _ _ _
+            (named given w.name-item.result w.in-len1-up.len_at_least w.name-item.is)
+            (named given w.name-item-2.result w.in-len1-up.len_at_least w.name-item-2.is)
+            (named given w.name-item-3.result w.in-len1-up.len_at_least w.name-item-3.is)
+            (named given w.name-item-4.result w.in-len1-up.len_at_least w.name-item-4.is)
+            (named given w.name-item-5.result w.in-len1-up.len_at_least w.name-item-5.is)
+            (ap (λ t. bytes_eq t (codes "group")) (sym w.as_str.ensures.value) ∙ sym w.eq.ensures
+            ∙ w.if-eq.false)
+            (ap (λ t. bytes_eq t (codes "resolve")) (sym w.as_str-2.ensures.value) ∙ sym w.eq-2.ensures
+            ∙ w.if-eq-2.false)
+            (ap (λ t. bytes_eq t (codes "check")) (sym w.as_str-3.ensures.value) ∙ sym w.eq-3.ensures
+            ∙ w.if-eq-3.false)
+            (ap (λ t. bytes_eq t (codes "value")) (sym w.as_str-4.ensures.value) ∙ sym w.eq-4.ensures
+            ∙ w.if-eq-4.false)
+            (ap (λ t. bytes_eq t (codes "sample")) (sym w.as_str-5.ensures.value) ∙ sym w.eq-5.ensures
+            ∙ w.if-eq-5.false),
+        refl,
+      )
     ]
 
 pub returns-then-not-all_plain-clause-refused : goal.returns-then-not-all_plain-clause-refused

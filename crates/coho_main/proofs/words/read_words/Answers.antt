@@ -16,6 +16,6 @@ returns-in_default-clause-step c =
           not_ring words (drop 1 words) (string_bytes w.name-item.result)
           (named given w.name-item.result w.in-len1-up.len_at_least w.name-item.is)
           (ap (λ t. bytes_eq t (codes "ring")) (sym w.as_str.ensures.value) ∙ sym w.eq.ensures
-              ∙ w.if-eq.false)
+          ∙ w.if-eq.false)
     ] in
     plainly words c.plain_command.result same c.plain_command.ensures.command c.plain_command.ensures.refused
