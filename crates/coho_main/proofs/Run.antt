@@ -143,13 +143,19 @@ module _ (answer : Status) (err err_now : Option (List ℕ)) (n m : ℕ) where
     at_write : (s : Stop) → ReportedHere s → answer ≡ status.Write → (told s).status ≡ status.Write
     at_write s r e = sym (r (λ is. let no : status.Write ≡ status.Memory = sym e ∙ is in cc)).0 ∙ e
 
+    refused_read : (why : Cause) → ReportedHere (stop.Refused why) → answer ≡ status.Read → ⊥
+    refused_read why r e = subst IsSettled (at_read (stop.Refused why) r e) (no_fault why)
+
+    refused_write : (why : Cause) → ReportedHere (stop.Refused why) → answer ≡ status.Write → ⊥
+    refused_write why r e = subst IsSettled (at_write (stop.Refused why) r e) (no_fault why)
+
     abbrev ReadTold : Type 0
     ReadTold = (path : List ℕ) × IsRead words path × Rose (before path) (now path)
         × Tells err err_now n m (read_refused path).line
 
     -- where the status is that of a read, it is the fault of a path that the words name
     pub read_told : (s : Stop) → ReportedHere s → CauseHere s → answer ≡ status.Read → ReadTold
-    read_told (stop.Refused why) r h e = absurd (subst IsSettled (at_read (stop.Refused why) r e) (no_fault why))
+    read_told (stop.Refused why) r h e = absurd (refused_read why r e)
     read_told (stop.Read path) r h e = (
       path.now,
       h.0,
@@ -165,7 +171,7 @@ module _ (answer : Status) (err err_now : Option (List ℕ)) (n m : ℕ) where
     -- the files are as before then
     pub read_kept : (known left : Option Content) (s : Stop) → ReportedHere s → KeepsAtRead known left s
         → answer ≡ status.Read → left ≡ known
-    read_kept known left (stop.Refused why) r h e = absurd (subst IsSettled (at_read (stop.Refused why) r e) (no_fault why))
+    read_kept known left (stop.Refused why) r h e = absurd (refused_read why r e)
     read_kept known left (stop.Read path) r h e = h
     read_kept known left stop.Write r h e = absurd (let no : status.Write ≡ status.Read =
         at_read stop.Write r e in cc)
@@ -177,7 +183,7 @@ module _ (answer : Status) (err err_now : Option (List ℕ)) (n m : ℕ) where
     -- where it is that of a write before out was written, it is the fault of a path that the words save to
     pub save_told : (out : Option (List ℕ)) (s : Stop) → ReportedHere s → CauseHere s → answer ≡ status.Write
         → FailsOnSave words out out err err_now writes writes_now n m
-    save_told out (stop.Refused why) r h e = absurd (subst IsSettled (at_write (stop.Refused why) r e) (no_fault why))
+    save_told out (stop.Refused why) r h e = absurd (refused_write why r e)
     save_told out (stop.Read path) r h e =
         absurd (let no : status.Read ≡ status.Write = at_write (stop.Read path) r e in cc)
     save_told out stop.Write r h e = absurd h

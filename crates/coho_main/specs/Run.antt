@@ -73,8 +73,8 @@ abbrev pub Answers : List (List ℕ) → Content → Type 0
 Answers words files = (e : Ending) × Outcome words files e × (e.status ≡ status.Answered)
 
 -- the lines of which a run that wants memory may have written the first bytes: that of want of
--- memory, that of the outcome, that of a read that failed, that of a call on a file to save to that failed, and
--- that of a write of an answer that failed
+-- memory, that of the outcome, that of a read that failed, that of a call on a file to save to that
+-- failed, and that of a write of an answer that failed
 abbrev pub MayTell : List (List ℕ) → (ReadFailed SaveFailed : List ℕ → Type 0) → Type 0 → List ℕ → Content
     → Type 0
 MayTell words ReadFailed SaveFailed WriteFailed line files =

@@ -1,7 +1,8 @@
 ghost use Rattle.std.specs.Prelude.{◌≡◌, ◌+◌, ◌≤◌, ◌<◌, ◌++◌, ◌∷◌, [], codes, flat_map, length, IfOk};
 ghost use Rattle.std.specs.Prelude.{string_bytes};
 ghost use Rattle.min_res.specs.Values.{boundary_of};
-ghost use Rattle.coho_main.specs.Outcome.{after_space, group_lines, layers_line, line, rows_words, stage_line};
+ghost use Rattle.coho_main.specs.Outcome.{after_space, group_lines, layers_line, line, rows_words};
+ghost use Rattle.coho_main.specs.Outcome.{stage_line};
 ghost use Rattle.coho_main.specs.Stages.{HasRows, summary};
 ghost use Rattle.coho_main.specs.Resolving.{TellsStage, TellsStages};
 ghost use Rattle.coho_main.specs.Samples.{sample_lines};

@@ -2,8 +2,8 @@
 
 ghost use Rattle.std.specs.Prelude.{◌≡◌, ◌≤◌, IfSome, None, Some, option_map};
 ghost use Rattle.coho_main.specs.Words.{IsWithin, asked, no_ring_words, path_in, put, ring_command, ring_of};
-ghost use Rattle.coho_main.specs.Words.{ring_words_of, saves_over, stage_files, texts, with_from, with_operand};
-ghost use Rattle.coho_main.specs.Words.{with_due, with_save, with_word, with_words};
+ghost use Rattle.coho_main.specs.Words.{ring_words_of, saves_over, stage_files, texts, with_from};
+ghost use Rattle.coho_main.specs.Words.{with_due, with_operand, with_save, with_word, with_words};
 
 use crate::{Command, is_plain, read_degree};
 

@@ -272,8 +272,8 @@ pub fn run<F: Files, O: Sink, E: Sink>(
         × Tells (E.written err.old) (E.written err.new) (E.faults err.old) (E.faults err.new)
         (read_refused path).line }
 
-    // A write fault is that of out, and comes where the outcome is an answer, or that of the file that the words
-    // save to.
+    // A write fault is that of out, and comes where the outcome is an answer, or that of the file that the
+    // words save to.
     ensures write { result ≡ Status.Write
         → FailsOnOut (texts words.now) (F.content files.old) (O.written out.old) (O.written out.new)
         (E.written err.old) (E.written err.new) (O.faults out.old) (O.faults out.new)

@@ -45,8 +45,8 @@ fn stop_at<'a>(fault: StagesFault, named: StageFiles<'a>) -> Stop<'a>
     }
 }
 
-/// The minimal resolution of a consistent presentation's group, to degree n: its stages are taken from the one
-/// file as far as it goes, and the others are computed; all are saved to the other file.
+/// The minimal resolution of a consistent presentation's group, to degree n: its stages are taken from the
+/// one file as far as it goes, and the others are computed; all are saved to the other file.
 pub fn find_stages<'a, F: Files>(
     alloc: Global,
     consistent: &Consistent,

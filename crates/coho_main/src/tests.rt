@@ -260,7 +260,8 @@ fn statuses_have_numbers(rt: HostRuntime) {
 fn saves_takes_and_checks_stages(rt: HostRuntime) -> Result<(), Fail> {
     let report =
         "coho ring 1\nprime 2\norder 2\ndegree 3\nranks 1 1 1 1\ngenerators 1\nx_1_1\nrelations 0\n\
-        subgroups 1\nsubgroup 1 rank 1 basis 1\nx_1_1 -> x_1_1\nparameters 1\nx_1_1\nbound 1\nverdict complete\n";
+        subgroups 1\nsubgroup 1 rank 1 basis 1\nx_1_1 -> x_1_1\nparameters 1\nx_1_1\nbound 1\n\
+        verdict complete\n";
     let usage = "coho: the words are not those of a command\n";
     let header = "coho: stage file refused: header\n";
     let mut files = MemFiles::new(rt.alloc());
