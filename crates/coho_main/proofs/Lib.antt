@@ -24,6 +24,7 @@ pub mod ParsedPlaces
 pub mod Places
 pub mod Commands
 pub mod GivenWords
+pub mod Settled
 pub mod Run
 pub mod TableExists
 pub mod ProductWords

@@ -16,7 +16,6 @@ use Rattle.coho_main.specs.declared.stop.Stop.{Stop}
 use Rattle.coho_main.specs.declared.stop.Stop.TheVariants as stop
 use Rattle.coho_main.specs.Outcome.{Ending, ending, Outcome, Comes}
 use Rattle.coho_main.specs.declared.cause.Cause.{Cause}
-use Rattle.coho_main.specs.declared.cause.Cause.TheVariants as cause
 use Rattle.coho_main.specs.Refusals.{words_refused, read_refused, save_refused, write_refused, memory_refused}
 use Rattle.coho_main.specs.Saving.{FromTo}
 use Rattle.coho_main.specs.Steps.{Refusal}
@@ -27,6 +26,7 @@ use Rattle.coho_main.specs.Run.{NoSaveFault}
 use Rattle.coho_main.specs.Words.{AskForValue, Command, IsRead, IsSaved, command}
 use Rattle.coho_main.proofs.Replies.{Lines, lines_of}
 use Rattle.coho_main.proofs.Outcomes.{none_comes, outcome_unique, usage_is}
+use Rattle.coho_main.proofs.Settled.{IsOrMemory, is_memory, no_fault, not_memory}
 
 Appends_nothing : (known : Option (List ℕ)) → Appends known known []
 Appends_nothing None = tt
@@ -36,24 +36,6 @@ Appends_nothing (Some bytes) = sym (append-nil bytes)
 abbrev pub Reported : Stop → Status → Option (List ℕ) → Option (List ℕ) → ℕ → ℕ → Type 0
 Reported s answer err err_now n m = answer ≢ status.Memory → (answer ≡ (told s).status)
     × Tells err err_now n m (told s).line
-
-not_memory : (s : Status) → IsSettled s → s ≢ status.Memory
-not_memory s h e = subst IsSettled e h
-
-is_memory : (s : Status) → (s ≡ status.Memory) ⊎ (s ≢ status.Memory)
-is_memory status.Answered = inr (λ e. cc)
-is_memory status.Text = inr (λ e. cc)
-is_memory status.Usage = inr (λ e. cc)
-is_memory status.Inconsistent = inr (λ e. cc)
-is_memory status.Limit = inr (λ e. cc)
-is_memory status.Read = inr (λ e. cc)
-is_memory status.Write = inr (λ e. cc)
-is_memory status.Stage = inr (λ e. cc)
-is_memory status.Memory = inl refl
-
--- the answer is this status, or that of want of memory
-abbrev pub IsOrMemory : Status → Status → Type 0
-IsOrMemory s answer = (answer ≡ s) ⊎ (answer ≡ status.Memory)
 
 module _ (answer : Status) (err err_now : Option (List ℕ)) (n m : ℕ) where
   abbrev ReportedHere : Stop → Type 0
@@ -122,20 +104,6 @@ module _ (answer : Status) (err err_now : Option (List ℕ)) (n m : ℕ) where
     words_stop known left stop.Write r k h none = absurd h
     words_stop known left (stop.Save path) r k h none = absurd (no_command h.0.0 h.0.1 none)
     words_stop known left stop.Memory r k h none = inr (reported_memory r)
-
-    -- the status of a refusal is that of no fault
-    no_fault : (why : Cause) → IsSettled (refusal_of why).status
-    no_fault cause.Words = tt
-    no_fault cause.Length = tt
-    no_fault (cause.Text kind line column) = tt
-    no_fault cause.Order = tt
-    no_fault (cause.Inconsistent name) = tt
-    no_fault (cause.StageFile part) = tt
-    no_fault (cause.Stage d X) = tt
-    no_fault (cause.Monomials d X) = tt
-    no_fault (cause.Element E n) = tt
-    no_fault (cause.Class d b) = tt
-    no_fault (cause.SubgroupStage i d X) = tt
 
     at_read : (s : Stop) → ReportedHere s → answer ≡ status.Read → (told s).status ≡ status.Read
     at_read s r e = sym (r (λ is. let no : status.Read ≡ status.Memory = sym e ∙ is in cc)).0 ∙ e
