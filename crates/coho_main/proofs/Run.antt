@@ -123,7 +123,6 @@ module _ (answer : Status) (err err_now : Option (List ℕ)) (n m : ℕ) where
     not_read cause.Order e = cc
     not_read (cause.Inconsistent name) e = cc
     not_read (cause.Stage d X) e = cc
-    not_read (cause.Monomials d X) e = cc
     not_read (cause.Element E n) e = cc
     not_read (cause.Class d b) e = cc
     not_read (cause.SubgroupStage i d X) e = cc

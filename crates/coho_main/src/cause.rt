@@ -3,7 +3,7 @@ ghost use Rattle.coho_main.specs.Refusals.{test_words};
 ghost use Rattle.coho_main.specs.Stops.{refusal_of};
 
 use crate::Status;
-use limits::{GREATEST_DIMENSION, GREATEST_ORDER, LONGEST_TEXT, MOST_MONOMIALS};
+use limits::{GREATEST_DIMENSION, GREATEST_ORDER, LONGEST_TEXT};
 use pc_group::TestName;
 use pc_text::Kind;
 use std::alloc::{AllocError, Global};
@@ -29,11 +29,6 @@ pub enum Cause {
     Stage {
         degree: u32,
         dimension: u64,
-    },
-    /// This degree has more than `MOST_MONOMIALS` monomials in generators of lower degree.
-    Monomials {
-        degree: u32,
-        count: u64,
     },
     /// The free module of the stage of this degree of a listed subgroup, counted from 1, has a dimension
     /// above `GREATEST_DIMENSION`.
@@ -65,7 +60,6 @@ impl Cause {
             Cause::Order => Status::Limit,
             Cause::Inconsistent(_) => Status::Inconsistent,
             Cause::Stage { .. } => Status::Limit,
-            Cause::Monomials { .. } => Status::Limit,
             Cause::SubgroupStage { .. } => Status::Limit,
             Cause::Element { .. } => Status::Usage,
             Cause::Class { .. } => Status::Usage,
@@ -96,11 +90,6 @@ impl Cause {
                 format!(in alloc;
                     "coho: limit: stage {degree} of the group has dimension {dimension}, \
                         above {GREATEST_DIMENSION}\n"
-                )
-            }
-            Cause::Monomials { degree, count } => {
-                format!(in alloc;
-                    "coho: limit: degree {degree} has {count} monomials, above {MOST_MONOMIALS}\n"
                 )
             }
             Cause::SubgroupStage {

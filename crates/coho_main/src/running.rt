@@ -20,7 +20,7 @@ use crate::{
 };
 use coho_io::{Files, Sink};
 use coho_report::{compose, report_lines};
-use limits::{GREATEST_DEGREE, GREATEST_DIMENSION, MOST_MONOMIALS};
+use limits::{GREATEST_DEGREE, GREATEST_DIMENSION};
 use pc_group::Consistent;
 use std::alloc::Global;
 
@@ -55,7 +55,7 @@ fn answer_ring<'a>(alloc: Global, consistent: &Consistent, n: u32) -> Result<Vec
     ensures { Settles (λ lines. contents lines.items) (AnswerRing consistent.now n) result }
 {
     let resolution = resolution_of(alloc, consistent, n)?;
-    let report = compose(alloc, &resolution, n, MOST_MONOMIALS, GREATEST_DIMENSION)?;
+    let report = compose(alloc, &resolution, n, GREATEST_DIMENSION)?;
     Ok(report_lines(alloc, &report)?)
 }
 
@@ -84,13 +84,7 @@ fn answer_sample<'a>(
     ensures { Settles (λ lines. contents lines.items) (AnswerSample consistent.now k) result }
 {
     let resolution = resolution_of(alloc, consistent, SAMPLE_DEGREE)?;
-    let report = compose(
-        alloc,
-        &resolution,
-        SAMPLE_DEGREE,
-        MOST_MONOMIALS,
-        GREATEST_DIMENSION,
-    )?;
+    let report = compose(alloc, &resolution, SAMPLE_DEGREE, GREATEST_DIMENSION)?;
     Ok(sample_lines(alloc, k, &report)?)
 }
 

@@ -1,7 +1,7 @@
 use Rattle.std.proofs.lemmas.Result.{err_from_is_err_and}
 use Rattle.coho_main.specs.Outcome.{AnswerRing}
 use Rattle.coho_main.proofs.Chain.{memory_settles}
-use Rattle.coho_main.proofs.Replies.{lines_of, ring_refused, ring_then, ring_too_many}
+use Rattle.coho_main.proofs.Replies.{lines_of, ring_refused, ring_then, ring_too_large}
 use Rattle.coho_main.proofs.Ringing.{fit_of, report_of, report_stop}
 use Rattle.coho_main.proofs.running.answer_ring.Goals as goal
 
@@ -17,7 +17,7 @@ returns-in_err-report c =
     in
     let P = c.args.consistent.now in
     let R = c.in_ok-resolution.ensures.found in
-    rw (p.1, p.2) (ring_too_many P c.args.n (fit_of P c.args.n c.in_ok-resolution.resolution R) _
+    rw (p.1, p.2) (ring_too_large P c.args.n (fit_of P c.args.n c.in_ok-resolution.resolution R) _
     (report_stop P c.args.n c.in_ok-resolution.resolution R c.in_err-report.field-0.0
     c.in_err-report.ensures.refused))
 
@@ -33,5 +33,5 @@ returns c =
     let R = c.in_ok-resolution.ensures.found in
     ring_then P c.args.n (fit_of P c.args.n c.in_ok-resolution.resolution R) c.in_ok-report.report
     c.in_ok-report_lines.field-0
-    (report_of P c.args.n c.in_ok-resolution.resolution R c.in_ok-report.report c.in_ok-report.ensures.few
-    c.in_ok-report.ensures.small c.in_ok-report.ensures.report) c.in_ok-report_lines.ensures
+    (report_of P c.args.n c.in_ok-resolution.resolution R c.in_ok-report.report c.in_ok-report.ensures.small
+    c.in_ok-report.ensures.report) c.in_ok-report_lines.ensures
