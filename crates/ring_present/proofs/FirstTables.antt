@@ -1,11 +1,11 @@
 -- The table of degree 0, and the tables of a ring.
 use Rattle.std.proofs.Common.{◌≡◌, ℕ, zero, suc, ◌<◌, List, [], ◌∷◌, ◌++◌, length, map, ◌⊎◌, inl, inr, arith, ap}
 use Rattle.std.proofs.Common.{sym, ◌∙◌, refl}
-use Rattle.std.specs.Prelude.{Option, Some, None, IfSome}
+use Rattle.std.specs.Prelude.{Option, Some, None, IfSome, slice_index_or}
 use Rattle.std.proofs.lemmas.List.{append-nil}
 use mathlib.Core.Path.{subst}
 use Rattle.p_groups.specs.PGroups.{PGroup, largest_residue}
-use Rattle.graded_polynomials.specs.Monomials.{IsWithin}
+use Rattle.graded_polynomials.specs.Monomials.{IsMonomial, IsWithin}
 use Rattle.graded_polynomials.specs.Polynomials.{Polynomial}
 use Rattle.graded_polynomials.specs.Texts.{power}
 use Rattle.gc_poly.specs.Generators.{Generators}
@@ -27,16 +27,13 @@ no-generator zero w = w
 no-generator (suc i) w = w
 
 module _ (G : PGroup) (t : Table) (one : t.standard ≡ [] ∷ []) where
-  abbrev q : ℕ
-  q = largest_residue G
-
   only : (q e : ℕ) → e < 1 → AreSome q [] e (standard_at (t ∷ []) e)
   only q zero l = subst (AreSome q [] 0) (sym one) (record {
     each = λ i b. here i b;
     descending = λ i j a b. absurd (omega (arith, a, b));
   })
     where
-      here : (i : ℕ) → i < 1 → _
+      here : (i : ℕ) → i < 1 → IsMonomial q [] 0 (slice_index_or ([] ∷ []) i [])
       here zero b = record { within = tt; trimmed = tt; fitting = refl; degree_is = refl }
       here (suc i) b = absurd (omega (arith, b))
   only q (suc e) l = absurd (omega (arith, l))
@@ -44,7 +41,7 @@ module _ (G : PGroup) (t : Table) (one : t.standard ≡ [] ∷ []) where
   first-tables : HasTables G 0 [] (t ∷ [])
   first-tables = record {
     shape = record {
-      monomials = λ e l. only q e l;
+      monomials = λ e l. only (largest_residue G) e l;
       products = λ e l. record {
         count = λ i b. absurd (omega (arith, b));
         primes = λ i m b. absurd (omega (arith, b));

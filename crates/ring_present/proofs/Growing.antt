@@ -75,11 +75,11 @@ module _ (G : PGroup) (d : ℕ) (lifts new : List LiftValue)
     });
     values = subst (λ ks. AreValues q (cohomology G) ks v.monomials v.values.rows)
         (sym (classes-append G lifts new)) (record {
-      count = A.values.count;
-      each = λ i l. A.values.each i l
-          ∙ sym (from-more (cohomology G) 0 (unit q 0) gs hs (slice_index_or v.monomials i [])
-          (A.some.each i l).within);
-    });
+          count = A.values.count;
+          each = λ i l. A.values.each i l
+              ∙ sym (from-more (cohomology G) 0 (unit q 0) gs hs (slice_index_or v.monomials i [])
+              (A.some.each i l).within);
+        });
   }
 
   standard-stays : (ms : List (List ℕ)) → AreStandard q (cohomology G) gs d ms

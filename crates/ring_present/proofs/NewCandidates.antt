@@ -92,13 +92,13 @@ module _ (G : PGroup) (n : ℕ) (lifts new : List LiftValue) (i : ℕ) (within :
         to_n = (let z = h.to_n in omega (arith, z));
       })
       (λ k d b. let a : k < i = (let t = length-take i new in omega (arith, b, t)) in
-          let h : IsLiftOf G (suc n) (slice_index_or (take i new) k d) =
-          subst (IsLiftOf G (suc n)) (sym (get_or-take i new k d a)) (are k d (omega (arith, a, within))) in
-          record {
-            group_is = h.group_is;
-            from_one = (let z = h.degree_is in omega (arith, z));
-            to_n = (let z = h.degree_is in omega (arith, z));
-          })
+      let h : IsLiftOf G (suc n) (slice_index_or (take i new) k d) =
+      subst (IsLiftOf G (suc n)) (sym (get_or-take i new k d a)) (are k d (omega (arith, a, within))) in
+      record {
+        group_is = h.group_is;
+        from_one = (let z = h.degree_is in omega (arith, z));
+        to_n = (let z = h.degree_is in omega (arith, z));
+      })
 
   place : length (lifts ++ take i new) ≡ length lifts + i
   place = let a = length-append lifts (take i new) in let t = length-take i new in omega (arith, a, t, within)

@@ -136,30 +136,31 @@ pub has-tables-next : (G : PGroup) (n : ℕ) (lifts new : List LiftValue) (rs : 
     → AreTables gens (tables ++ t ∷ [])
     → IsTableGiven gens tables t forms width w.monomials kernel
     → HasTables G (suc n) (lifts ++ new) (tables ++ t ∷ [])
-has-tables-next G n lifts new rs tables t x gens forms width extra w kernel e low are ef el em B S A K shape given =
-    record {
-  shape = subst (λ (g : Generators). AreTables g (tables ++ t ∷ [])) e shape;
-  are = subst (λ gs. AreTablesOf q (graded_classes G) gs (suc n) (tables ++ t ∷ []))
-      (sym (classes-append G lifts new))
-      (subst (λ k. AreTablesOf q (graded_classes G) (classes G lifts ++ classes G new) k (tables ++ t ∷ []))
-      B.tables_are.count
-      ((subst (λ (g : Generators). IsTableGiven g tables t forms width w.monomials kernel) e given)
-      (graded_classes G) (classes G lifts) (classes G new) rs x extra w.values.rows
-      (ap degrees (sym (classes-append G lifts new)) ∙ degrees-are G (lifts ++ new))
-      (of-low lifts low) (of-degree new are) ef el em
-      (subst (λ k. IsRingBelow q (graded_classes G) (classes G lifts) rs k tables) below B)
-      (subst (λ k. IsStep q (graded_classes G) (classes G lifts) rs k tables x) below S)
-      (subst (λ k. AreLeft q (cohomology G) (classes G lifts ++ classes G new) rs k w.monomials)
-      (sym B.tables_are.count)
-      (subst (λ gs. AreLeft q (cohomology G) gs rs (suc n) w.monomials) (classes-append G lifts new) A.left))
-      (subst (λ gs. AreValues q (cohomology G) gs w.monomials w.values.rows) (classes-append G lifts new)
-      A.valued.values)
-      (subst (λ p. IsKernelOf p w.values.rows kernel) A.valued.prime K)));
-}
+has-tables-next G n lifts new rs tables t x gens forms width extra w kernel e low are ef el em B S A K shape
+    given = record {
+      shape = subst (λ (g : Generators). AreTables g (tables ++ t ∷ [])) e shape;
+      are = subst (λ gs. AreTablesOf (largest_residue G) (graded_classes G) gs (suc n) (tables ++ t ∷ []))
+          (sym (classes-append G lifts new))
+          (subst (λ k. AreTablesOf (largest_residue G) (graded_classes G) (classes G lifts ++ classes G new) k
+          (tables ++ t ∷ []))
+          B.tables_are.count
+          ((subst (λ (g : Generators). IsTableGiven g tables t forms width w.monomials kernel) e given)
+          (graded_classes G) (classes G lifts) (classes G new) rs x extra w.values.rows
+          (ap degrees (sym (classes-append G lifts new)) ∙ degrees-are G (lifts ++ new))
+          (of-low lifts low) (of-degree new are) ef el em
+          (subst (λ k. IsRingBelow (largest_residue G) (graded_classes G) (classes G lifts) rs k tables) below B)
+          (subst (λ k. IsStep (largest_residue G) (graded_classes G) (classes G lifts) rs k tables x) below S)
+          (subst (λ k. AreLeft (largest_residue G) (cohomology G) (classes G lifts ++ classes G new) rs k
+          w.monomials)
+          (sym B.tables_are.count)
+          (subst (λ gs. AreLeft (largest_residue G) (cohomology G) gs rs (suc n) w.monomials)
+          (classes-append G lifts new) A.left))
+          (subst (λ gs. AreValues (largest_residue G) (cohomology G) gs w.monomials w.values.rows)
+          (classes-append G lifts new)
+          A.valued.values)
+          (subst (λ p. IsKernelOf p w.values.rows kernel) A.valued.prime K)));
+    }
   where
-    abbrev q : ℕ
-    q = largest_residue G
-
     below : n ≡ length tables - 1
     below = let c = B.tables_are.count in omega (arith, c)
 
@@ -195,6 +196,24 @@ forms-below g es n width tables forms count above M = record {
         → (i < length g.degrees) × (at_generator (g.degrees ++ es) i ≡ at_generator g.degrees i)
     at i b h = before g es n above tables count i n (omega arith) b (omega (arith, h, count))
 
+-- the monomials of generators, by number
+generators-count : (k m : ℕ) → length (generators_from k m) ≡ m
+generators-count k zero = refl
+generators-count k (suc m) = length_push (generators_from k m) (power (k + m) 1)
+    ∙ (let z = generators-count k m in omega (arith, z))
+
+generator-at : (k m j : ℕ) → j < m → slice_index_or (generators_from k m) j [] ≡ power (k + j) 1
+generator-at k zero j l = absurd (omega (arith, l))
+generator-at k (suc m) j l = go (cases_lt j m) (generator-at k m j)
+  where
+    go : (j < m) ⊎ (m ≤ j) → (j < m → slice_index_or (generators_from k m) j [] ≡ power (k + j) 1)
+        → slice_index_or (generators_from k (suc m)) j [] ≡ power (k + j) 1
+    go (inl a) before = get_or_append_left (generators_from k m) (power (k + m) 1 ∷ []) [] j
+        (let c = generators-count k m in omega (arith, a, c)) ∙ before a
+    go (inr a) before = let s : j ≡ m = omega (arith, a, l) in
+        get_or_push (generators_from k m) (power (k + m) 1) [] j (generators-count k m ∙ sym s)
+        ∙ ap (λ n. power (k + n) 1) (sym s)
+
 -- the monomials of the new generators are listed
 pub new-are-listed : (lifts new : List LiftValue) (n d : ℕ) (init left : List (List ℕ)) (g : Generators)
     → g.degrees ≡ degrees_of (lifts ++ new) → All (λ e. e ≤ n) (degrees_of lifts) → d ≡ suc n
@@ -202,31 +221,14 @@ pub new-are-listed : (lifts new : List LiftValue) (n d : ℕ) (init left : List 
 new-are-listed lifts new n d init left g eg low ed el i b h =
     subst (λ ms. IsListed ms (power i 1)) (sym el)
     (subst (λ j. IsListed (init ++ generators_from (length lifts) (length new)) (power j 1))
-    (let z : length lifts + (i - length lifts) ≡ i = omega (arith, past) in z)
-    (length init + (i - length lifts),
-    (let a = length-append init (generators_from (length lifts) (length new)) in
-    let c = count (length new) in omega (arith, a, c, past, inside)),
-    get_or-append-add init (generators_from (length lifts) (length new)) (i - length lifts) []
-    ∙ member (length new) (i - length lifts) (omega (arith, past, inside))))
+    (let z : length lifts + (i - length lifts) ≡ i = omega (arith, past) in z) (
+      length init + (i - length lifts),
+      (let a = length-append init (generators_from (length lifts) (length new)) in
+          let c = generators-count (length lifts) (length new) in omega (arith, a, c, past, inside)),
+      get_or-append-add init (generators_from (length lifts) (length new)) (i - length lifts) []
+          ∙ generator-at (length lifts) (length new) (i - length lifts) (omega (arith, past, inside)),
+    ))
   where
-    count : (m : ℕ) → length (generators_from (length lifts) m) ≡ m
-    count zero = refl
-    count (suc m) = length_push (generators_from (length lifts) m) (power (length lifts + m) 1)
-        ∙ (let z = count m in omega (arith, z))
-
-    member : (m j : ℕ) → j < m
-        → slice_index_or (generators_from (length lifts) m) j [] ≡ power (length lifts + j) 1
-    member zero j l = absurd (omega (arith, l))
-    member (suc m) j l = go (cases_lt j m)
-      where
-        go : (j < m) ⊎ (m ≤ j)
-            → slice_index_or (generators_from (length lifts) (suc m)) j [] ≡ power (length lifts + j) 1
-        go (inl a) = get_or_append_left (generators_from (length lifts) m) (power (length lifts + m) 1 ∷ []) [] j
-            (let c = count m in omega (arith, a, c)) ∙ member m j a
-        go (inr a) = let s : j ≡ m = omega (arith, a, l) in
-            get_or_push (generators_from (length lifts) m) (power (length lifts + m) 1) [] j (count m ∙ sym s)
-            ∙ ap (λ k. power (length lifts + k) 1) (sym s)
-
     inside : i < length lifts + length new
     inside = let a = ap (λ (ds : List ℕ). length ds) eg in
         let c = length-map (lifts ++ new) (λ (l : LiftValue). l.degree) in

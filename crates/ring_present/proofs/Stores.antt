@@ -185,8 +185,8 @@ ring-next G gens lifts all rs total Ds grown x B s N eg el er ed =
         → IsDegree G (suc e) (lifts ++ x.lifts.items) (slice_index_or (Ds ++ x.degree ∷ []) e D)
     each e D (inl b) l = subst (λ d. IsDegree G (suc e) (lifts ++ x.lifts.items) d)
         (sym (get_or_append_left Ds (x.degree ∷ []) D e b))
-        (degree-stays G (suc e) lifts x.lifts.items (slice_index_or Ds e D)
-        (above-new G (length Ds) (suc e) x.lifts.items (omega (arith, b)) N.lifts_are)
+        (degree-stays G (suc e) lifts x.lifts.items
+        (above-new G (length Ds) (suc e) x.lifts.items (omega (arith, b)) N.lifts_are) (slice_index_or Ds e D)
         (B.lower.degrees_are.each e D b))
     each e D (inr b) l =
         let s : length Ds ≡ e = omega (arith, b, l) in

@@ -52,7 +52,12 @@ fn rank(res: &Resolution, d: u32) -> usize
 
 // What is kept of a degree: the standard ones of the monomials that are left, by the kernel of their values,
 // and the preimages of the dual basis.
-fn finished(alloc: Global, left: Valued, kernel: &Echelon, basis: &Echelon) -> Result<Degree, Memory>
+fn finished(
+    alloc: Global,
+    left: Valued,
+    kernel: &Echelon,
+    basis: &Echelon,
+) -> Result<Degree, Memory>
     requires count { length left.values.rows ≡ length left.monomials }
     requires prime { basis.now.p ≡ left.values.p }
     requires width { basis.now.width ≡ left.values.width }
