@@ -32,19 +32,38 @@ pub(crate) struct RingParts {
     pub(crate) candidates: Monos,
 }
 
+// The monomial 1.
+fn one(alloc: Global) -> Result<Mono, Memory>
+    ensures { IfOk result (λ m. m ≡ []) }
+{
+    let one = Mono::of(alloc, &[])?;
+    Ok(one)
+}
+
+// The table of degree 0, in which 1 is standard.
+fn table_of_one(alloc: Global) -> Result<Table, Memory>
+    ensures standard { IfOk result (λ t. t.standard ≡ [] ∷ []) }
+    ensures products { IfOk result (λ t. t.products.items ≡ []) }
+{
+    let one = one(alloc)?;
+    let mut standard = Monos::new(alloc);
+    standard.push(one)?;
+    Ok(Table {
+        standard,
+        products: Vec::new(alloc),
+    })
+}
+
 // The table of degree 0, where there is none yet.
 fn first_table(alloc: Global, tables: &[Table]) -> Result<Vec<Table>, Memory>
     ensures { IfOk result (λ first. IsFirst tables.now first.items) }
 {
     let mut first = Vec::new(alloc);
-    if tables.is_empty() {
-        let mut standard = Monos::new(alloc);
-        standard.push(Mono::of(alloc, &[])?)?;
-        first.push(Table {
-            standard,
-            products: Vec::new(alloc),
-        })?;
+    if !tables.is_empty() {
+        return Ok(first);
     }
+    let table = table_of_one(alloc)?;
+    first.push(table)?;
     Ok(first)
 }
 
