@@ -59,11 +59,11 @@ fn first_table(alloc: Global, tables: &[Table]) -> Result<Vec<Table>, Memory>
     ensures { IfOk result (λ first. IsFirst tables.now first.items) }
 {
     let mut first = Vec::new(alloc);
-    if !tables.is_empty() {
+    if tables.is_empty() {
+        let table = table_of_one(alloc)?;
+        first.push(table)?;
         return Ok(first);
     }
-    let table = table_of_one(alloc)?;
-    first.push(table)?;
     Ok(first)
 }
 
