@@ -1,5 +1,6 @@
 -- The table of degree 0, and the tables of a ring.
-use Rattle.std.proofs.Common.{◌≡◌, ℕ, zero, suc, ◌<◌, List, [], ◌∷◌, ◌++◌, length, map, ◌⊎◌, inl, inr, arith, ap}
+use Rattle.std.proofs.Common.{◌≡◌, ℕ, zero, suc, ◌<◌, List, [], ◌∷◌, ◌++◌, length, map, ◌⊎◌, inl, inr, arith}
+use Rattle.std.proofs.Common.{ap}
 use Rattle.std.proofs.Common.{sym, ◌∙◌, refl}
 use Rattle.std.specs.Prelude.{Option, Some, None, IfSome, slice_index_or}
 use Rattle.std.proofs.lemmas.List.{append-nil}
@@ -66,8 +67,9 @@ module _ (G : PGroup) (t : Table) (one : t.standard ≡ [] ∷ []) where
   }
 
 -- the tables of the ring of H, or that of degree 0
-pub tables-before : (group : Option PGroup) (gens : Generators) (lifts : List LiftValue) (rs : List Polynomial)
-    (Ds : List Degree) (tables first : List Table) (H : PGroup) → IfSome group (λ G. G ≡ H)
+pub tables-before : (group : Option PGroup) (gens : Generators) (lifts : List LiftValue)
+    (rs : List Polynomial) (Ds : List Degree) (tables first : List Table) (H : PGroup)
+    → IfSome group (λ G. G ≡ H)
     → IsRingStore group gens lifts rs Ds → IsTableStore group lifts Ds tables → IsFirst tables first
     → HasTables H (length Ds) lifts (tables ++ first)
 tables-before None gens lifts rs Ds tables first H s S T (inl f) =
@@ -116,8 +118,9 @@ pub candidates-kept : (G : PGroup) (d : ℕ) (xs ys : List LiftValue) (ms : List
 candidates-kept G d xs ys ms e C =
     subst (λ gs. AreCandidates (largest_residue G) (cohomology G) gs d ms) (sym (classes-kept G xs ys e)) C
 
-pub candidate-store-same : (group group' : Option PGroup) (lifts lifts' : List LiftValue) (Ds Ds' : List Degree)
-    (ms ms' : List (List ℕ)) → group' ≡ group → map kept lifts' ≡ map kept lifts → Ds' ≡ Ds → ms' ≡ ms
+pub candidate-store-same : (group group' : Option PGroup) (lifts lifts' : List LiftValue)
+    (Ds Ds' : List Degree) (ms ms' : List (List ℕ)) → group' ≡ group → map kept lifts' ≡ map kept lifts
+    → Ds' ≡ Ds → ms' ≡ ms
     → IsCandidateStore group lifts Ds ms → IsCandidateStore group' lifts' Ds' ms'
 candidate-store-same group group' lifts lifts' Ds Ds' ms ms' eg el ed em C =
     subst (λ g. IsCandidateStore g lifts' Ds' ms') (sym eg)
@@ -134,7 +137,8 @@ pub candidate-store-known : (G : PGroup) (group : Option PGroup) (lifts : List L
 candidate-store-known G group lifts Ds ms e C = subst (λ g. IsCandidateStore g lifts Ds ms) (sym e) C
 
 pub candidates-at : (group : Option PGroup) (lifts : List LiftValue) (Ds : List Degree) (ms : List (List ℕ))
-    (G : PGroup) → group ≡ Some G → IsCandidateStore group lifts Ds ms → AreCandidatesOf G (length Ds) lifts ms
+    (G : PGroup) → group ≡ Some G → IsCandidateStore group lifts Ds ms
+    → AreCandidatesOf G (length Ds) lifts ms
 candidates-at group lifts Ds ms G e C = subst (λ g. IsCandidateStore g lifts Ds ms) e C
 
 pub no-candidates : (group : Option PGroup) (lifts : List LiftValue) (Ds : List Degree) (ms : List (List ℕ))

@@ -1,6 +1,7 @@
--- The monomials of the next degree that lead in no consequence of the relations: their quotients, and one more
--- generator.
-use Rattle.std.proofs.Common.{◌≡◌, ℕ, suc, ◌+◌, ◌<◌, ◌⊎◌, inl, inr, List, [], ◌∷◌, ◌++◌, length, arith, ap, sym, ◌∙◌}
+-- The monomials of the next degree that lead in no consequence of the relations: their quotients, and one
+-- more generator.
+use Rattle.std.proofs.Common.{◌≡◌, ℕ, suc, ◌+◌, ◌<◌, ◌⊎◌, inl, inr, List, [], ◌∷◌, ◌++◌, length, arith, ap}
+use Rattle.std.proofs.Common.{sym, ◌∙◌}
 use Rattle.std.proofs.Common.{refl, append_assoc}
 use Rattle.std.proofs.lemmas.Bool.{cases_order}
 use Rattle.std.specs.Prelude.{slice_index_or, All}
@@ -30,7 +31,8 @@ use Rattle.ring_completion.proofs.Factors.{power-here, power-elsewhere}
 use Rattle.ring_completion.proofs.Quotients.{power-trimmed, consequence-by-quotient}
 use Rattle.ring_completion.proofs.Results.{free, left-and-last, values-and-last}
 use Rattle.ring_present.specs.Rings.{cohomology}
-use Rattle.ring_present.specs.Degrees.{classes, degrees_of, new_lift, AreLeftOf, AreValued, HasStandardQuotients}
+use Rattle.ring_present.specs.Degrees.{classes, degrees_of, new_lift, AreLeftOf, AreValued}
+use Rattle.ring_present.specs.Degrees.{HasStandardQuotients}
 use Rattle.ring_present.specs.declared.degree.Valued.{Valued}
 use Rattle.ring_present.proofs.Factors.{degrees-are}
 use Rattle.ring_present.specs.Graded.{graded_classes}
@@ -41,7 +43,8 @@ pub last-quotient : (q e i : ℕ) (ds n m : List ℕ) → IsTrimmed m → IsMono
     → IsQuotient q ds i e n m
 last-quotient q e i ds n m t M F = record {
   monomial = M;
-  product = same-exponents (joined (power i 1) n) m (trimmed-joined (power i 1) n (power-trimmed i) M.trimmed) t
+  product = same-exponents (joined (power i 1) n) m
+      (trimmed-joined (power i 1) n (power-trimmed i) M.trimmed) t
       (λ j. exponent-joined (power i 1) n j ∙ at j (cases_order j i));
 }
   where

@@ -1,5 +1,6 @@
 -- The candidates of the next degree with the monomials of its new generators.
-use Rattle.std.proofs.Common.{◌≡◌, ℕ, suc, ◌+◌, ◌<◌, List, [], ◌∷◌, ◌++◌, length, take, arith, ap, sym, ◌∙◌, refl}
+use Rattle.std.proofs.Common.{◌≡◌, ℕ, suc, ◌+◌, ◌<◌, List, [], ◌∷◌, ◌++◌, length, take, arith, ap, sym, ◌∙◌}
+use Rattle.std.proofs.Common.{refl}
 use Rattle.std.specs.Prelude.{slice_index_or, All}
 use Rattle.std.specs.List.{AllByRecursion as Each}
 use Rattle.std.proofs.lemmas.List.{get_or_push, get_or_append_left, length_push, length-map, length-take}
@@ -60,7 +61,8 @@ module _ (G : PGroup) (n : ℕ) (lifts : List LiftValue) (l : LiftValue) (of : I
       count
       (candidates-with-last q n (Vector q) (cohomology G) (IsOfDegree q (graded_classes G))
       (graded_classes G).laws (classes G lifts) g of.degree_is (positive-degrees G (suc n) lifts below)
-      (subst (λ gs. Each (λ d. 0 < d) (degrees gs)) more (positive-degrees G (suc n) (lifts ++ l ∷ []) all-below))
+      (subst (λ gs. Each (λ d. 0 < d) (degrees gs)) more
+      (positive-degrees G (suc n) (lifts ++ l ∷ []) all-below))
       (λ k e. one-free q (graded_classes G) k (field G).above_one e) ms C))
 
   pub candidates-before : All (λ m. IsGreater m (power (length lifts) 1)) ms

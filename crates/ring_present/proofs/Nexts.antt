@@ -26,7 +26,8 @@ use Rattle.min_res.specs.Stages.{rank_of}
 use Rattle.chain_lift.specs.Values.{LiftValue}
 use Rattle.chain_lift.specs.Products.{multiply}
 use Rattle.ring_completion.specs.Candidates.{AreSome}
-use Rattle.ring_completion.proofs.Results.{generators-of-left, relations-of-list, separates-left, nothing-leads}
+use Rattle.ring_completion.proofs.Results.{generators-of-left, relations-of-list, separates-left}
+use Rattle.ring_completion.proofs.Results.{nothing-leads}
 use Rattle.ring_completion.proofs.Results.{standard-of-list, all-standard}
 use Rattle.ring_present.specs.Rings.{cohomology, dual_basis}
 use Rattle.ring_present.specs.Degrees.{classes, degrees_of, new_lift, AreLeftOf, AreValued, IsDegree}
@@ -150,7 +151,8 @@ module _ (G : PGroup) (n : ℕ) (lifts : List LiftValue) (rs : List Polynomial)
       A.valued.values kernel-is)
 
   -- what is kept of the degree
-  pub next-degree-is : (D : Degree) (basis : List (List ℕ)) → AreUnitRows (rank_of G (suc n)) basis → D.left ≡ w
+  pub next-degree-is : (D : Degree) (basis : List (List ℕ)) → AreUnitRows (rank_of G (suc n)) basis
+      → D.left ≡ w
       → D.standard.monomials ≡ without_pivots kernel 0 w.monomials
       → D.standard.values ≡ record w.values { rows = without_pivots kernel 0 w.values.rows }
       → D.preimages.p ≡ w.values.p → D.preimages.width ≡ length w.values.rows

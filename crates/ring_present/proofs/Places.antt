@@ -1,5 +1,6 @@
 -- How many places a greedy choice takes, and how many generators there are with those of a degree.
-use Rattle.std.proofs.Common.{◌≡◌, ℕ, zero, suc, ◌+◌, ◌*◌, ◌^◌, ◌<◌, ◌≤◌, inl, inr, List, [], ◌∷◌, ◌++◌, map, take, length}
+use Rattle.std.proofs.Common.{◌≡◌, ℕ, zero, suc, ◌+◌, ◌*◌, ◌^◌, ◌<◌, ◌≤◌, inl, inr, List, [], ◌∷◌, ◌++◌, map}
+use Rattle.std.proofs.Common.{take, length}
 use Rattle.std.proofs.Common.{length-append, length-take, append_assoc, arith, ap, ◌∙◌}
 use Rattle.std.proofs.lemmas.List.{length-map, length_push}
 use Rattle.limits.specs.declared.TheConstants.{GREATEST_DEGREE}

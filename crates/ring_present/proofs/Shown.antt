@@ -123,11 +123,13 @@ module _ (R : RingValue) (group : Option PGroup) (gens : Generators) (lifts : Li
     standard-seen =
         subst (λ k. AreStandard q (cohomology G) (generators_of q R.generators) k at.standard.monomials)
         (sym step)
-        (subst (λ gs. AreStandard q (cohomology G) gs (suc (d - 1)) at.standard.monomials) classes-are degree.all)
+        (subst (λ gs. AreStandard q (cohomology G) gs (suc (d - 1)) at.standard.monomials) classes-are
+        degree.all)
 
     values : AreValues q (cohomology G) (generators_of q R.generators) at.standard.monomials
         at.standard.values.rows
-    values = subst (λ gs. AreValues q (cohomology G) gs at.standard.monomials at.standard.values.rows) classes-are
+    values = subst (λ gs. AreValues q (cohomology G) gs at.standard.monomials at.standard.values.rows)
+        classes-are
         degree.standard.values
 
     pub count-seen : length at.standard.values.rows ≡ length (standard_of R d)
@@ -198,7 +200,8 @@ module _ (R : RingValue) (group : Option PGroup) (gens : Generators) (lifts : Li
         (polynomial_of at.left.monomials u)) (sym step)
         (subst (λ gs. IsNormalForm q (cohomology G) gs (suc (d - 1)) (vector q w)
         (polynomial_of at.left.monomials u)) classes-are
-        (normal-form-among q (suc (d - 1)) (multiply G) (classes G lifts) at.left.monomials at.left.values.rows
+        (normal-form-among q (suc (d - 1)) (multiply G) (classes G lifts) at.left.monomials
+        at.left.values.rows
         degree.kernel degree.left.some degree.left.values
         (subst (AreStandard q (cohomology G) (classes G lifts) (suc (d - 1))) degree.others degree.all) w u
         (preimage-of-combination (field G).above_one degree.basis_is degree.preimages degree.kernel_is w u

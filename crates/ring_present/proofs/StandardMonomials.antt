@@ -1,5 +1,6 @@
 -- The monomials that are no pivots are the standard ones, and their rows are their values.
-use Rattle.std.proofs.Common.{◌≡◌, ℕ, zero, suc, ◌+◌, ◌<◌, ◌↔◌, ◌⊎◌, inl, inr, List, [], ◌∷◌, length, true, false}
+use Rattle.std.proofs.Common.{◌≡◌, ℕ, zero, suc, ◌+◌, ◌<◌, ◌↔◌, ◌⊎◌, inl, inr, List, [], ◌∷◌, length, true}
+use Rattle.std.proofs.Common.{false}
 use Rattle.std.proofs.Common.{cond, Bool, arith, ap, sym, ◌∙◌, refl}
 use Rattle.std.specs.Prelude.{slice_index_or}
 use Rattle.std.proofs.lemmas.Bool.{cases_Bool}
@@ -56,7 +57,8 @@ left-pairs P K k (x ∷ xs) (y ∷ ys) n h =
 
 -- the standard monomials in a list that has them all, where those of its members are standard that are no
 -- pivots
-pub standard-among : (q d : ℕ) {V : Type 0} (A : Algebra V) (gs : List (Generator V)) (ms kernel : List (List ℕ))
+pub standard-among : (q d : ℕ) {V : Type 0} (A : Algebra V) (gs : List (Generator V))
+    (ms kernel : List (List ℕ))
     → AreSome q (degrees gs) d ms
     → ((k : ℕ) → k < length ms → IsStandard q A gs d (slice_index_or ms k []) ↔ (IsPivot kernel k → ⊥))
     → ((m : List ℕ) → IsMonomial q (degrees gs) d m → IsStandard q A gs d m → IsListed ms m)

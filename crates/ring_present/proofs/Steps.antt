@@ -1,9 +1,11 @@
 -- The next degree by tables, for the classes of a p-group.
-use Rattle.std.proofs.Common.{◌≡◌, ℕ, zero, suc, ◌+◌, ◌-◌, ◌<◌, ◌≤◌, ◌⊎◌, inl, inr, List, [], ◌∷◌, ◌++◌, length}
+use Rattle.std.proofs.Common.{◌≡◌, ℕ, zero, suc, ◌+◌, ◌-◌, ◌<◌, ◌≤◌, ◌⊎◌, inl, inr, List, [], ◌∷◌, ◌++◌}
+use Rattle.std.proofs.Common.{length}
 use Rattle.std.proofs.Common.{length-append, arith, ap, sym, refl, ◌∙◌}
 use Rattle.std.specs.Prelude.{slice_index_or}
 use Rattle.std.proofs.lemmas.Bool.{cases_lt}
-use Rattle.std.proofs.lemmas.List.{get_or_append_left, get_or-append-add, get_or_push, length_push, length-map}
+use Rattle.std.proofs.lemmas.List.{get_or_append_left, get_or-append-add, get_or_push, length_push}
+use Rattle.std.proofs.lemmas.List.{length-map}
 use Rattle.std.specs.Prelude.{All}
 use Rattle.std.specs.List.{AllByRecursion as Each}
 use mathlib.Core.Path.{subst}
@@ -148,7 +150,8 @@ has-tables-next G n lifts new rs tables t x gens forms width extra w kernel e lo
           (graded_classes G) (classes G lifts) (classes G new) rs x extra w.values.rows
           (ap degrees (sym (classes-append G lifts new)) ∙ degrees-are G (lifts ++ new))
           (of-low lifts low) (of-degree new are) ef el em
-          (subst (λ k. IsRingBelow (largest_residue G) (graded_classes G) (classes G lifts) rs k tables) below B)
+          (subst (λ k. IsRingBelow (largest_residue G) (graded_classes G) (classes G lifts) rs k tables)
+          below B)
           (subst (λ k. IsStep (largest_residue G) (graded_classes G) (classes G lifts) rs k tables x) below S)
           (subst (λ k. AreLeft (largest_residue G) (cohomology G) (classes G lifts ++ classes G new) rs k
           w.monomials)
@@ -181,7 +184,8 @@ has-tables-next G n lifts new rs tables t x gens forms width extra w kernel e lo
     )
 
 -- the forms of the generators before, where generators of the next degree are added
-pub forms-below : (g : Generators) (es : List ℕ) (n width : ℕ) (tables : List Table) (forms : List MatrixValue)
+pub forms-below : (g : Generators) (es : List ℕ) (n width : ℕ) (tables : List Table)
+    (forms : List MatrixValue)
     → length tables ≡ suc n → All (λ e. n < e) es → AreMatrices g tables (length tables) width forms
     → AreFormsBelow (record g { degrees = g.degrees ++ es }) tables width forms
 forms-below g es n width tables forms count above M = record {

@@ -61,8 +61,8 @@ module _ (G : PGroup) where
       (i e : ℕ) (n : List ℕ) → IsQuotient (largest_residue G) (degrees (classes lifts)) i e n m
       → IsStandard (largest_residue G) (cohomology G) (classes lifts) e n
 
-  -- what is kept of degree d: of the monomials that are left the kernel of the values tells the standard ones,
-  -- and the preimages of the dual basis over them are 0 at its pivots
+  -- what is kept of degree d: of the monomials that are left the kernel of the values tells the standard
+  -- ones, and the preimages of the dual basis over them are 0 at its pivots
   pub record IsDegree (d : ℕ) (lifts : List LiftValue) (D : Degree) : Type 0 where
     pub left : AreValued d lifts D.left
     pub kernel : List (List ℕ)

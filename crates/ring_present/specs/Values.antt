@@ -46,7 +46,8 @@ coded_polynomial =
 
 abbrev pub coded_ring : Coded RingValue
 coded_ring =
-    code_by (((ℕ × Option PGroup) × (ℕ × List GeneratorValue)) × (List Polynomial × (List (List (List ℕ)) × List (List ℕ))))
+    code_by (((ℕ × Option PGroup) × (ℕ × List GeneratorValue))
+    × (List Polynomial × (List (List (List ℕ)) × List (List ℕ))))
     (coded× (coded× (coded× coded_ℕ (coded_option coded_p_group))
     (coded× coded_ℕ (coded_list coded_generator)))
     (coded× (coded_list coded_polynomial)

@@ -35,8 +35,8 @@ pub(crate) fn polynomial_of(
     Ok(f)
 }
 
-/// The relations of degree d: the rows of the kernel of the values of the monomials that lead in no consequence
-/// of the relations before.
+/// The relations of degree d: the rows of the kernel of the values of the monomials that lead in no
+/// consequence of the relations before.
 pub(crate) fn relations_of(
     alloc: Global,
     gens: &Gens,

@@ -177,8 +177,8 @@ impl Ring {
     }
 
     /// The candidates of the last degree, in descending order: the monomials of which each quotient by a
-    /// generator is standard. The standard monomials are among them, and so are the generators of that degree.
-    /// Before the first degree there are none.
+    /// generator is standard. The standard monomials are among them, and so are the generators of that
+    /// degree. Before the first degree there are none.
     pub fn candidates(&self) -> &Monos
         ensures list { result.now ≡ self.now.candidates }
         ensures none { self.now.group ≡ None → result.now ≡ [] }

@@ -33,13 +33,15 @@ invariant_of-self c =
           n.relations.items k.degrees.items n.degrees.items a b l r d c.self.invariant.0),
       after-four {S = IsTableStore n.group n.lifts.items n.degrees.items n.tables.items}
           c.add_degree.result e.group e.tables
-          (λ g t. table-store-known c.args.res.now.group n.group n.lifts.items n.degrees.items n.tables.items g t)
+          (λ g t. table-store-known c.args.res.now.group n.group n.lifts.items n.degrees.items n.tables.items
+          g t)
           e.group_kept e.lifts_kept e.degrees_kept e.tables_kept
           (λ a l d t. table-store-same k.group n.group k.lifts.items n.lifts.items k.degrees.items
           n.degrees.items k.tables.items n.tables.items a l d t c.self.invariant.1),
       after-four {S = IsCandidateStore n.group n.lifts.items n.degrees.items n.candidates}
           c.add_degree.result e.group e.candidates
-          (λ g t. candidate-store-known c.args.res.now.group n.group n.lifts.items n.degrees.items n.candidates
+          (λ g t. candidate-store-known c.args.res.now.group n.group n.lifts.items n.degrees.items
+          n.candidates
           g t)
           e.group_kept e.lifts_kept e.degrees_kept e.candidates_kept
           (λ a l d t. candidate-store-same k.group n.group k.lifts.items n.lifts.items k.degrees.items

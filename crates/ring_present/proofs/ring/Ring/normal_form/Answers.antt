@@ -18,7 +18,8 @@ combination-requires-clause-prime c =
     c.self.view_is in
     let some : 0 < length k.degrees.items =
     (let e = seen.degree_is in omega (arith, e, c.requires.from, c.requires.to)) in
-    let g = some-group k.group k.gens k.lifts.items k.relations.items k.degrees.items c.self.invariant.0 some in
+    let g = some-group k.group k.gens k.lifts.items k.relations.items k.degrees.items
+    c.self.invariant.0 some in
     c.requires.prime ∙ sym (prime-seen c.args.self.now k.group k.gens k.lifts.items k.relations.items
     k.degrees.items seen c.self.invariant.0 c.args.d c.index-degree.result.now c.index-degree.ensures
     c.requires.from c.requires.to g.0 (seen.group_is ∙ g.1))
@@ -30,7 +31,8 @@ combination-requires-clause-length c =
     c.self.view_is in
     let some : 0 < length k.degrees.items =
     (let e = seen.degree_is in omega (arith, e, c.requires.from, c.requires.to)) in
-    let g = some-group k.group k.gens k.lifts.items k.relations.items k.degrees.items c.self.invariant.0 some in
+    let g = some-group k.group k.gens k.lifts.items k.relations.items k.degrees.items
+    c.self.invariant.0 some in
     c.requires.length g.0 (seen.group_is ∙ g.1)
     ∙ sym (targets-seen c.args.self.now k.group k.gens k.lifts.items k.relations.items k.degrees.items seen
     c.self.invariant.0 c.args.d c.index-degree.result.now c.index-degree.ensures c.requires.from
@@ -43,7 +45,8 @@ polynomial_of-requires-clause-monomials c =
     c.self.view_is in
     let some : 0 < length k.degrees.items =
     (let e = seen.degree_is in omega (arith, e, c.requires.from, c.requires.to)) in
-    let g = some-group k.group k.gens k.lifts.items k.relations.items k.degrees.items c.self.invariant.0 some in
+    let g = some-group k.group k.gens k.lifts.items k.relations.items k.degrees.items
+    c.self.invariant.0 some in
     monomials-seen c.args.self.now k.group k.gens k.lifts.items k.relations.items k.degrees.items seen
     c.self.invariant.0 c.args.d c.index-degree.result.now c.index-degree.ensures c.requires.from
     c.requires.to g.0 (seen.group_is ∙ g.1)
@@ -55,7 +58,8 @@ polynomial_of-requires-clause-prime c =
     c.self.view_is in
     let some : 0 < length k.degrees.items =
     (let e = seen.degree_is in omega (arith, e, c.requires.from, c.requires.to)) in
-    let g = some-group k.group k.gens k.lifts.items k.relations.items k.degrees.items c.self.invariant.0 some in
+    let g = some-group k.group k.gens k.lifts.items k.relations.items k.degrees.items
+    c.self.invariant.0 some in
     c.view.ensures.modulus ∙ c.in_ok-row.ensures.prime
     ∙ prime-seen c.args.self.now k.group k.gens k.lifts.items k.relations.items k.degrees.items seen
     c.self.invariant.0 c.args.d c.index-degree.result.now c.index-degree.ensures c.requires.from
@@ -69,7 +73,8 @@ polynomial_of-requires-clause-length c =
     c.self.view_is in
     let some : 0 < length k.degrees.items =
     (let e = seen.degree_is in omega (arith, e, c.requires.from, c.requires.to)) in
-    let g = some-group k.group k.gens k.lifts.items k.relations.items k.degrees.items c.self.invariant.0 some in
+    let g = some-group k.group k.gens k.lifts.items k.relations.items k.degrees.items
+    c.self.invariant.0 some in
     width-of-forms c.args.self.now k.group k.gens k.lifts.items k.relations.items k.degrees.items seen
     c.self.invariant.0 c.args.d c.index-degree.result.now c.index-degree.ensures c.requires.from
     c.requires.to g.0 (seen.group_is ∙ g.1)

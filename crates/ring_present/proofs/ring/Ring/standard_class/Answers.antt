@@ -10,7 +10,8 @@ row-requires c =
     c.self.view_is in
     let some : 0 < length k.degrees.items =
     (let e = seen.degree_is in omega (arith, e, c.requires.from, c.requires.to)) in
-    let g = some-group k.group k.gens k.lifts.items k.relations.items k.degrees.items c.self.invariant.0 some in
+    let g = some-group k.group k.gens k.lifts.items k.relations.items k.degrees.items
+    c.self.invariant.0 some in
     let n = count-seen c.args.self.now k.group k.gens k.lifts.items k.relations.items k.degrees.items seen
     c.self.invariant.0 c.args.d c.index.result.now c.index.ensures c.requires.from c.requires.to g.0
     (seen.group_is ∙ g.1) in
@@ -41,7 +42,8 @@ returns-clause-modulus c =
     c.self.view_is in
     let some : 0 < length k.degrees.items =
     (let e = seen.degree_is in omega (arith, e, c.requires.from, c.requires.to)) in
-    let g = some-group k.group k.gens k.lifts.items k.relations.items k.degrees.items c.self.invariant.0 some in
+    let g = some-group k.group k.gens k.lifts.items k.relations.items k.degrees.items
+    c.self.invariant.0 some in
     c.row.ensures.modulus ∙ modulus-seen c.args.self.now k.group k.gens k.lifts.items k.relations.items
     k.degrees.items seen c.self.invariant.0 c.args.d c.index.result.now c.index.ensures c.requires.from
     c.requires.to g.0 (seen.group_is ∙ g.1)

@@ -63,7 +63,8 @@ returns-clause-generators c =
 pub returns-clause-spans : goal.returns-clause-spans
 returns-clause-spans c =
     let G : PGroup = c.args.res.now.group in
-    subst (λ p. AreInSpan p c.new_generators.new.left.values.rows c.args.basis.now.rows) (c.requires.left.valued.prime
+    subst (λ p. AreInSpan p c.new_generators.new.left.values.rows c.args.basis.now.rows)
+    (c.requires.left.valued.prime
     ∙ sym c.in_ok-lifts.ensures.left.valued.prime)
     (basis-in-span c.args.left.now.values.p c.args.left.now.values.width c.args.left.now.values.rows
     c.in_ok-places.ensures.greedy.0 c.args.basis.now.rows c.new_generators.new.left.values.rows

@@ -1,4 +1,5 @@
-use Rattle.std.proofs.Common.{◌≡◌, ℕ, suc, ◌<◌, ◌≤◌, List, [], ◌++◌, length, arith, ap, sym, ◌∙◌, refl, add-one, length-append}
+use Rattle.std.proofs.Common.{◌≡◌, ℕ, suc, ◌<◌, ◌≤◌, List, [], ◌++◌, length, arith, ap, sym, ◌∙◌, refl}
+use Rattle.std.proofs.Common.{add-one, length-append}
 use Rattle.std.specs.Prelude.{All}
 use Rattle.std.proofs.lemmas.List.Elements.{All-weaker, All-map}
 use mathlib.Core.Path.{subst}
@@ -114,7 +115,8 @@ pub finished-requires-clause-width : goal.finished-requires-clause-width
 finished-requires-clause-width c =
     let G : PGroup = c.args.res.now.group in
     c.in_ok-basis.ensures.width ∙ c.rank.ensures.value
-    ∙ ap (rank_of G) (add-one (length c.args.self.now.degrees.now)) ∙ sym c.in_ok-lifts.ensures.left.valued.width
+    ∙ ap (rank_of G) (add-one (length c.args.self.now.degrees.now))
+    ∙ sym c.in_ok-lifts.ensures.left.valued.width
 
 pub finished-requires-clause-spans : goal.finished-requires-clause-spans
 finished-requires-clause-spans c = c.in_ok-lifts.ensures.spans
@@ -245,7 +247,8 @@ finish-requires-clause-forms c =
     (sym c.in_ok-lifts.ensures.gens)
     (subst (λ ds. AreFormsBelow (record { prime = G.table.p; degrees = ds }) ts c.len-width.result
     c.deref-2.result.now) (sym (degrees-of-append old new))
-    (forms-below (record { prime = G.table.p; degrees = degrees_of old }) (degrees_of new) n c.len-width.result
+    (forms-below (record { prime = G.table.p; degrees = degrees_of old }) (degrees_of new) n
+    c.len-width.result
     ts c.deref-2.result.now c.requires.tables.are.count
     (All-map (λ e. n < e) (λ (l : LiftValue). l.degree) new
     (λ k d l. let z = (c.in_ok-lifts.ensures.lifts k d l).degree_is in omega (arith, z)))

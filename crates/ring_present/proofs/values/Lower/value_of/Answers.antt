@@ -35,7 +35,8 @@ returns-then-d-eq0-clause-value c =
     value-of-one G c.args.self.now.lifts.now _ c.args.m.now
     (entries_of c.view.result) c.requires.lower.lifts_are
     (subst (λ k. IsMonomial (largest_residue G)
-    (degrees (classes G c.args.self.now.lifts.now)) k c.args.m.now) c.if-d-eq0.true c.requires.standard.monomial)
+    (degrees (classes G c.args.self.now.lifts.now)) k c.args.m.now) c.if-d-eq0.true
+    c.requires.standard.monomial)
     (c.view.ensures.entries ∙ c.requires.one.1)
 
 pub returns-else-d-eq0-clause-modulus : goal.returns-else-d-eq0-clause-modulus
