@@ -295,6 +295,15 @@ pub fn left_monomials_with_one_more_generator()
         (values ++ w ∷ []) }
 {}
 
+/// One more generator of the degree adds its monomial behind the candidates.
+pub fn candidates_with_one_more_generator()
+    ensures { (q n : ℕ) (G : GradedAlgebra q) (gs : List (Generator (Vector q))) (g : Generator (Vector q))
+        (ms : List (List ℕ))
+        → IsFieldModulo (suc q) → Each (λ e. 0 < e) (degrees gs) → g.degree ≡ suc n
+        → AreCandidates q (algebra q G) gs (suc n) ms
+        → AreCandidates q (algebra q G) (gs ++ g ∷ []) (suc n) (ms ++ power (length (degrees gs)) 1 ∷ []) }
+{}
+
 /// One more generator of the degree leaves the forms as they are, with a 0 behind.
 pub fn forms_with_one_more_generator()
     ensures { (q n i e : ℕ) (G : GradedAlgebra q) (gs : List (Generator (Vector q)))
