@@ -4,8 +4,7 @@ use Rattle.std.proofs.Common.{◌⊎◌, inl, inr, arith, ap, sym, subst, ◌∙
 use Rattle.std.specs.Prelude.{slice_index_or}
 use Rattle.std.specs.List.{AllByRecursion as Each}
 use Rattle.std.proofs.lemmas.Bool.{cases_lt}
-use Rattle.std.proofs.lemmas.List.{get_or_append_left, get_or_push, length-append, length-map, map-append}
-use Rattle.std.proofs.lemmas.List.{get_or-map, get_or-append-add}
+use Rattle.std.proofs.lemmas.List.{length-append, length-map, length-replicate, get_or-append-add, get_or-map}
 use Rattle.fp_rows.specs.Values.{MatrixValue}
 use Rattle.linear_algebra.specs.Kernels.{IsKernelOf}
 use Rattle.linear_algebra.specs.Rows.{row}
@@ -22,6 +21,7 @@ use Rattle.graded_algebra.proofs.Relations.{defining}
 use Rattle.graded_algebra.proofs.Stability.{relations-up}
 use Rattle.presentation_rows.specs.RowPolynomials.{polynomial_of, row_of}
 use Rattle.presentation_rows.specs.Values.{AreValues}
+use Rattle.presentation_rows.proofs.RowTerms.{row-of-is-row}
 use Rattle.ring_completion.specs.Candidates.{AreSome, IsListed, AreLeft}
 use Rattle.ring_completion.specs.Completions.{degree_of, generator_times, IsGenerator, IsStandardOf, IsReduced}
 use Rattle.ring_completion.specs.Completions.{AreProducts}
@@ -41,6 +41,7 @@ use Rattle.ring_degree.specs.Tables.{at_generator, lists, standard_at, rows_at, 
 use Rattle.ring_degree.specs.Tables.{products_at, place_of, AreTablesOf}
 use Rattle.ring_degree.specs.declared.step.Step.{Step}
 use Rattle.ring_degree.specs.declared.table.Table.{Table}
+use Rattle.ring_degree.proofs.AddedTable.{standard-old, standard-new, rows-old, rows-new, lists-drop}
 use Rattle.ring_degree.proofs.CriticalMeaning.{place-of-member}
 use Rattle.ring_degree.proofs.Degrees.{listed}
 
@@ -143,50 +144,6 @@ module _ (q n : ℕ) (G : GradedAlgebra q) (gs new : List (Generator (Vector q))
       (separates-left q n B.field G hs positive rs relations left L) V K (generator_times q (degrees hs) i s) u
       X.reduced c (rw (← l) X.is_row) X.is_reduced)
 
--- the standard monomials of degree d', and the rows of products with generator i, with one more table
-module _ (tables : List Table) (t : Table) (n : ℕ) (count : length tables ≡ suc n) where
-  lists-are : lists (tables ++ t ∷ []) ≡ lists tables ++ t.standard ∷ []
-  lists-are = map-append (λ (t : Table). t.standard) tables (t ∷ [])
-
-  pub standard-old : (e : ℕ) → e ≤ n → standard_at (tables ++ t ∷ []) e ≡ standard_at tables e
-  standard-old e l = ap (λ ls. slice_index_or ls e []) lists-are
-      ∙ get_or_append_left (lists tables) (t.standard ∷ []) [] e
-      (let c = length-map tables (λ (t : Table). t.standard) in omega (arith, c, l, count))
-
-  pub standard-new : standard_at (tables ++ t ∷ []) (suc n) ≡ t.standard
-  standard-new = ap (λ ls. slice_index_or ls (suc n) []) lists-are
-      ∙ get_or_push (lists tables) t.standard [] (suc n)
-      (length-map tables (λ (t : Table). t.standard) ∙ count)
-
-  matrices-are : map (λ (t : Table). t.products.items) (tables ++ t ∷ [])
-      ≡ map (λ (t : Table). t.products.items) tables ++ t.products.items ∷ []
-  matrices-are = map-append (λ (t : Table). t.products.items) tables (t ∷ [])
-
-  pub products-old : (e : ℕ) → e ≤ n → products_at (tables ++ t ∷ []) e ≡ products_at tables e
-  products-old e l = ap (λ ms. slice_index_or ms e []) matrices-are
-      ∙ get_or_append_left (map (λ (t : Table). t.products.items) tables) (t.products.items ∷ []) [] e
-      (let c = length-map tables (λ (t : Table). t.products.items) in omega (arith, c, l, count))
-
-  pub products-new : products_at (tables ++ t ∷ []) (suc n) ≡ t.products.items
-  products-new = ap (λ ms. slice_index_or ms (suc n) []) matrices-are
-      ∙ get_or_push (map (λ (t : Table). t.products.items) tables) t.products.items [] (suc n)
-      (length-map tables (λ (t : Table). t.products.items) ∙ count)
-
-  rows-old : (e i : ℕ) → e ≤ n → product_rows (tables ++ t ∷ []) e i ≡ product_rows tables e i
-  rows-old e i l = ap (λ ms. rows_at ms i) (products-old e l)
-
-  rows-new : (i : ℕ) → product_rows (tables ++ t ∷ []) (suc n) i ≡ rows_at t.products.items i
-  rows-new i = ap (λ ms. rows_at ms i) products-new
-
-  pub lists-drop : drop 1 (lists (tables ++ t ∷ [])) ≡ drop 1 (lists tables) ++ t.standard ∷ []
-  lists-drop = ap (drop 1) lists-are ∙ go (lists tables)
-      (let c = length-map tables (λ (t : Table). t.standard) in omega (arith, c, count))
-    where
-      go : (ls : List (List (List ℕ))) → 0 < length ls
-          → drop 1 (ls ++ t.standard ∷ []) ≡ drop 1 ls ++ t.standard ∷ []
-      go [] l = absurd (omega (arith, l))
-      go (x ∷ ls) l = refl
-
 -- the product by its degrees
 abbrev product_at : List Table → ℕ → ℕ → ℕ → List ℕ → List Term
 product_at tables d e i s = polynomial_of (standard_at tables d)
@@ -238,7 +195,7 @@ module _ (q n : ℕ) (G : GradedAlgebra q) (gs new : List (Generator (Vector q))
       ∙ sym (ap (λ d. product_at all (degree_of (degrees hs) i + d) d i s) (up e s M).degree_is
       ∙ ap (λ d. product_at all (d + e) e i s) (up (degree_of (degrees gs) i) (power i 1) I).degree_is)
     where
-      D : ℕ
+      abbrev D : ℕ
       D = degree_of (degrees gs) i + e
 
       same-all : polynomial_of (standard_at all D) (row (product_rows tables D i) (place_of (standard_at tables e) s))
@@ -288,7 +245,7 @@ module _ (q n : ℕ) (G : GradedAlgebra q) (gs new : List (Generator (Vector q))
       (product-is q n G gs new rs tables B here left values kernel L V K i s
       (row (rows_at wide i) at.0) (row (rows_at t.products.items i) at.0)
       (ap length wide-row ∙ length-append (row (rows_at x.forms.items i) at.0) (replicate z 0)
-      ∙ (let a = widths i at.0 il inside in let b = length-zeros z in omega (arith, a, b, zeros)))
+      ∙ (let a = widths i at.0 il inside in let b = length-replicate {A = ℕ} z 0 in omega (arith, a, b, zeros)))
       (subst (λ u. IsConsequence q (algebra q G) hs rs (suc n)
       (generator_times q (degrees hs) i s ++ scaled q (polynomial_of left u))) (sym wide-row)
       (form-widened q n G gs new rs tables B here left values kernel L V K x.left extra split i e z s
@@ -330,10 +287,6 @@ module _ (q n : ℕ) (G : GradedAlgebra q) (gs new : List (Generator (Vector q))
       wide-row = ap (λ rows. row rows at.0) (wide-old i il)
           ∙ get_or-map (λ v. v ++ replicate z 0) (rows_at x.forms.items i) at.0 [] [] inside
 
-      length-zeros : (k : ℕ) → length (replicate k 0) ≡ k
-      length-zeros zero = refl
-      length-zeros (suc k) = omega (arith, length-zeros k)
-
   -- of a new generator
   of-new : (i e : ℕ) (s : List ℕ) → length (degrees gs) ≤ i → i < length (degrees hs)
       → IsStandardOf q (algebra q G) hs e s → degree_of (degrees hs) i + e ≡ suc n
@@ -347,7 +300,7 @@ module _ (q n : ℕ) (G : GradedAlgebra q) (gs new : List (Generator (Vector q))
       (polynomial_of (without_pivots kernel 0 left) (row (rows_at t.products.items i) 0))) (sym one)
       (product-is q n G gs new rs tables B here left values kernel L V K i []
       (row (rows_at wide i) 0) (row (rows_at t.products.items i) 0)
-      (ap length wide-row ∙ length-map left _)
+      (ap length wide-row ∙ (row-of-is-row q left (generator_times q (degrees hs) i [])).length_is)
       (subst (λ u. IsConsequence q (algebra q G) hs rs (suc n)
       (generator_times q (degrees hs) i [] ++ scaled q (polynomial_of left u))) (sym wide-row)
       (form-of-new q n G gs new rs tables B here left values kernel L V K i (wide-new i il jl).1))
