@@ -1,5 +1,5 @@
 use Rattle.ring_completion.proofs.Results.{form-and-last}
-use Rattle.ring_completion.proofs.forms_with_one_more_generator.Goals as goal
+use Rattle.ring_completion.proofs.more_generators.forms_with_one_more_generator.Goals as goal
 
 pub returns : goal.returns
 returns c q n i e G gs g rs ms s u field p R d C I M l h =

@@ -5,7 +5,7 @@ use Rattle.graded_algebra.proofs.MoreGenerators.{degrees-append}
 use Rattle.graded_algebra.proofs.VectorLemmas.{one-free}
 use Rattle.graded_polynomials.proofs.Terms.{each-append}
 use Rattle.ring_completion.proofs.AddedCandidates.{candidates-with-last}
-use Rattle.ring_completion.proofs.candidates_with_one_more_generator.Goals as goal
+use Rattle.ring_completion.proofs.more_generators.candidates_with_one_more_generator.Goals as goal
 
 pub returns : goal.returns
 returns c q n G gs g ms field positive d C = candidates-with-last q n (Vector q) (algebra q G) (IsOfDegree q G)

@@ -2,7 +2,7 @@ use Rattle.std.proofs.Common.{◌++◌}
 use Rattle.graded_algebra.specs.Vectors.{algebra}
 use Rattle.ring_completion.proofs.GrownLists.{lists-grow}
 use Rattle.ring_completion.proofs.Results.{separates-left, standard-of-list, all-standard}
-use Rattle.ring_completion.proofs.standard_lists_with_next_degree.Goals as goal
+use Rattle.ring_completion.proofs.more_generators.standard_lists_with_next_degree.Goals as goal
 
 pub returns : goal.returns
 returns c q n G gs new rs lists ms values kernel field p above count S R C V K =
