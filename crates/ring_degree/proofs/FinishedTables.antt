@@ -180,7 +180,7 @@ module _ (g : Generators) (tables : List Table) (n : ℕ) (size : length tables 
       (λ i c. subst (λ p. AreRests p kernel (rows_at wide i) (rows_at t.products.items i)) (prime ∙ sym pe)
       (rests i (let z = inside i c in omega (arith, z, count)))))
     where
-      abbrev q : ℕ
+      q : ℕ
       q = greatest g
 
       at-n : length tables - 1 ≡ n

@@ -28,6 +28,7 @@ use Rattle.ring_completion.specs.Completions.{AreProducts}
 use Rattle.ring_completion.specs.Listings.{AreStandardLists}
 use Rattle.ring_completion.specs.Left.{without_pivots}
 use Rattle.ring_completion.proofs.AddedGenerators.{ideal-up}
+use Rattle.ring_completion.proofs.Factors.{joined-right}
 use Rattle.ring_completion.proofs.FormRows.{form-of-product, rows-over-left}
 use Rattle.ring_completion.proofs.Results.{separates-left, product-of-form, standard-of-list, all-standard}
 use Rattle.ring_completion.proofs.GrownLists.{lists-grow}
@@ -61,10 +62,6 @@ polynomial-widened (m ∷ ms) es (zero ∷ u) z e = polynomial-widened ms es u z
 polynomial-widened (m ∷ ms) es (suc c ∷ u) z e =
     ap (λ (f : List Term). record { scalar = suc c; monomial = m } ∷ f)
     (polynomial-widened ms es u z (omega (arith, e)))
-
-pub joined-one : (a : List ℕ) → joined a [] ≡ a
-joined-one [] = refl
-joined-one (x ∷ a) = refl
 
 module _ (q n : ℕ) (G : GradedAlgebra q) (gs new : List (Generator (Vector q))) (rs : List Polynomial)
     (tables : List Table) (B : IsRingBelow q G gs rs n tables)
@@ -126,7 +123,7 @@ module _ (q n : ℕ) (G : GradedAlgebra q) (gs new : List (Generator (Vector q))
       (generator_times q (degrees (gs ++ new)) i []
       ++ scaled q (polynomial_of left (row_of q left (generator_times q (degrees (gs ++ new)) i []))))
   form-of-new i l = form-of-product q G.mul hs (suc n) rs left L.some i []
-      (subst (IsListed left) (sym (joined-one (power i 1))) l)
+      (subst (IsListed left) (sym (joined-right (power i 1))) l)
 
   -- what is left of a form, reduced by the kernel, is the product
   pub product-is : (i : ℕ) (s u v : List ℕ) → length u ≡ length left
@@ -195,7 +192,7 @@ module _ (q n : ℕ) (G : GradedAlgebra q) (gs new : List (Generator (Vector q))
       ∙ sym (ap (λ d. product_at all (degree_of (degrees hs) i + d) d i s) (up e s M).degree_is
       ∙ ap (λ d. product_at all (d + e) e i s) (up (degree_of (degrees gs) i) (power i 1) I).degree_is)
     where
-      abbrev D : ℕ
+      D : ℕ
       D = degree_of (degrees gs) i + e
 
       same-all : polynomial_of (standard_at all D) (row (product_rows tables D i) (place_of (standard_at tables e) s))

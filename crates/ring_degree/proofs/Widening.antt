@@ -49,5 +49,5 @@ widened-rows width w rows k old new v u l eo ev n eu en = en ∙ ap (λ xs. xs +
     ∙ ap (λ x. map f (take k rows) ++ x ∷ []) (eu ∙ ap (λ j. v ++ replicate (w - j) 0) n ∙ ap f ev)
     ∙ sym (ap (map f) (take_more rows k [] l) ∙ map-append f (take k rows) (row rows k ∷ []))
   where
-    abbrev f : List ℕ → List ℕ
+    f : List ℕ → List ℕ
     f v = v ++ replicate (w - width) 0
