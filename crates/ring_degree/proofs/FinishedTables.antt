@@ -141,9 +141,13 @@ module _ (g : Generators) (tables : List Table) (n : ℕ) (size : length tables 
 
           matrix : (i : ℕ) → i < length t.products.items
               → IsMatrix g.prime (length t.standard) (rows_at t.products.items i)
-          matrix i k = rw (rows-are t.products.items i none k, sym (prime-at i none k ∙ prime),
-              sym (width-at i none k))
-              (All-get_or (λ (m : MatrixValue). IsMatrix m.p m.width m.rows) t.products.items i none k matrices)
+          matrix i k = subst (λ p. IsMatrix p (length t.standard) (rows_at t.products.items i))
+              (prime-at i none k ∙ prime)
+              (subst (λ w. IsMatrix (slice_index_or t.products.items i none).p w (rows_at t.products.items i))
+              (width-at i none k)
+              (subst (IsMatrix (slice_index_or t.products.items i none).p
+              (slice_index_or t.products.items i none).width) (sym (rows-are t.products.items i none k))
+              (All-get_or (λ (m : MatrixValue). IsMatrix m.p m.width m.rows) t.products.items i none k matrices)))
 
   -- the table is that of any algebra with these tables, forms, values and kernel
   pub are-tables-of : (G : GradedAlgebra (greatest g)) (gs later : List (Generator (Vector (greatest g))))

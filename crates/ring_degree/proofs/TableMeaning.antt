@@ -168,13 +168,13 @@ module _ (q n : ℕ) (G : GradedAlgebra q) (gs new : List (Generator (Vector q))
     × IsListed left (power i 1))
     (rests : (i : ℕ) → i < length (degrees (gs ++ new))
     → AreRests (suc q) kernel (rows_at wide i) (rows_at t.products.items i)) where
-  abbrev hs : List (Generator (Vector q))
-  hs = gs ++ new
+  abbrev more : List (Generator (Vector q))
+  more = gs ++ new
 
   abbrev all : List Table
   all = tables ++ t ∷ []
 
-  up : (d : ℕ) (m : List ℕ) → IsMonomial q (degrees gs) d m → IsMonomial q (degrees hs) d m
+  up : (d : ℕ) (m : List ℕ) → IsMonomial q (degrees gs) d m → IsMonomial q (degrees more) d m
   up d m M = monomial-up q (algebra q G) gs new d m M
 
   above : Each (λ e. n < e) (degrees new)
@@ -183,13 +183,13 @@ module _ (q n : ℕ) (G : GradedAlgebra q) (gs new : List (Generator (Vector q))
   -- products of lower degree stay
   product-same : (i e : ℕ) (s : List ℕ) → IsGenerator q (degrees gs) i → IsMonomial q (degrees gs) e s
       → degree_of (degrees gs) i + e < suc n
-      → product_in (degrees gs) tables i s ≡ product_in (degrees hs) all i s
+      → product_in (degrees gs) tables i s ≡ product_in (degrees more) all i s
   product-same i e s I M l =
       ap (λ d. product_at tables (degree_of (degrees gs) i + d) d i s) M.degree_is
       ∙ ap (λ ss. polynomial_of ss (row (product_rows tables D i) (place_of (standard_at tables e) s)))
       (sym (standard-old tables t n B.tables_are.count D (omega (arith, l))))
       ∙ same-all
-      ∙ sym (ap (λ d. product_at all (degree_of (degrees hs) i + d) d i s) (up e s M).degree_is
+      ∙ sym (ap (λ d. product_at all (degree_of (degrees more) i + d) d i s) (up e s M).degree_is
       ∙ ap (λ d. product_at all (d + e) e i s) (up (degree_of (degrees gs) i) (power i 1) I).degree_is)
     where
       D : ℕ
@@ -202,7 +202,7 @@ module _ (q n : ℕ) (G : GradedAlgebra q) (gs new : List (Generator (Vector q))
           ∙ ap (λ ss. polynomial_of (standard_at all D) (row (product_rows all D i) (place_of ss s)))
           (sym (standard-old tables t n B.tables_are.count e (omega (arith, l))))
 
-  lower : AreProducts q (algebra q G) gs (suc n) (product_in (degrees hs) all)
+  lower : AreProducts q (algebra q G) gs (suc n) (product_in (degrees more) all)
   lower = record {
     reduced = λ i e s I X l. subst (IsReduced q (algebra q G) gs (degree_of (degrees gs) i + e))
         (product-same i e s I X.monomial l) (B.tables_are.products.reduced i e s I X l);
@@ -212,16 +212,16 @@ module _ (q n : ℕ) (G : GradedAlgebra q) (gs new : List (Generator (Vector q))
   }
 
   -- the product in the degree itself, from the row at the place of s
-  at-place : (i e k : ℕ) (s : List ℕ) → degree_of (degrees hs) i + e ≡ suc n → IsMonomial q (degrees hs) e s
+  at-place : (i e k : ℕ) (s : List ℕ) → degree_of (degrees more) i + e ≡ suc n → IsMonomial q (degrees more) e s
       → e ≤ n → place_of (standard_at tables e) s ≡ k
-      → IsNormalForm q (algebra q G) hs (suc n)
-      (value (algebra q G) hs (generator_times q (degrees hs) i s))
+      → IsNormalForm q (algebra q G) more (suc n)
+      (value (algebra q G) more (generator_times q (degrees more) i s))
       (polynomial_of (without_pivots kernel 0 left) (row (rows_at t.products.items i) k))
-      → IsNormalForm q (algebra q G) hs (suc n)
-      (value (algebra q G) hs (generator_times q (degrees hs) i s)) (product_in (degrees hs) all i s)
+      → IsNormalForm q (algebra q G) more (suc n)
+      (value (algebra q G) more (generator_times q (degrees more) i s)) (product_in (degrees more) all i s)
   at-place i e k s total M low p N =
-      subst (IsNormalForm q (algebra q G) hs (suc n) (value (algebra q G) hs (generator_times q (degrees hs) i s)))
-      (sym (ap (λ d. product_at all (degree_of (degrees hs) i + d) d i s) M.degree_is
+      subst (IsNormalForm q (algebra q G) more (suc n) (value (algebra q G) more (generator_times q (degrees more) i s)))
+      (sym (ap (λ d. product_at all (degree_of (degrees more) i + d) d i s) M.degree_is
       ∙ ap (λ d. product_at all d e i s) total
       ∙ ap (λ ss. polynomial_of ss (row (product_rows all (suc n) i) (place_of (standard_at all e) s)))
       (standard-new tables t n B.tables_are.count ∙ standard-is)
@@ -232,10 +232,10 @@ module _ (q n : ℕ) (G : GradedAlgebra q) (gs new : List (Generator (Vector q))
       ∙ ap (λ j. polynomial_of (without_pivots kernel 0 left) (row (rows_at t.products.items i) j)) p)) N
 
   -- of a generator of lower degree
-  of-old : (i e : ℕ) (s : List ℕ) → i < length (degrees gs) → IsStandardOf q (algebra q G) hs e s
-      → degree_of (degrees hs) i + e ≡ suc n
-      → IsNormalForm q (algebra q G) hs (suc n)
-      (value (algebra q G) hs (generator_times q (degrees hs) i s)) (product_in (degrees hs) all i s)
+  of-old : (i e : ℕ) (s : List ℕ) → i < length (degrees gs) → IsStandardOf q (algebra q G) more e s
+      → degree_of (degrees more) i + e ≡ suc n
+      → IsNormalForm q (algebra q G) more (suc n)
+      (value (algebra q G) more (generator_times q (degrees more) i s)) (product_in (degrees more) all i s)
   of-old i e s il X total = at-place i e at.0 s total X.monomial low
       (ap (place_of (standard_at tables e)) (sym at.2)
       ∙ place-of-member (standard_at tables e) (some e low).descending at.0 at.1)
@@ -243,8 +243,8 @@ module _ (q n : ℕ) (G : GradedAlgebra q) (gs new : List (Generator (Vector q))
       (row (rows_at wide i) at.0) (row (rows_at t.products.items i) at.0)
       (ap length wide-row ∙ length-append (row (rows_at x.forms.items i) at.0) (replicate z 0)
       ∙ (let a = widths i at.0 il inside in let b = length-replicate {A = ℕ} z 0 in omega (arith, a, b, zeros)))
-      (subst (λ u. IsConsequence q (algebra q G) hs rs (suc n)
-      (generator_times q (degrees hs) i s ++ scaled q (polynomial_of left u))) (sym wide-row)
+      (subst (λ u. IsConsequence q (algebra q G) more rs (suc n)
+      (generator_times q (degrees more) i s ++ scaled q (polynomial_of left u))) (sym wide-row)
       (form-widened q n G gs new rs tables B here left values kernel L V K x.left extra split i e z s
       (row (rows_at x.forms.items i) at.0) I M (widths i at.0 il inside)
       (subst (λ r. IsConsequence q (algebra q G) gs rs (suc n)
@@ -259,7 +259,7 @@ module _ (q n : ℕ) (G : GradedAlgebra q) (gs new : List (Generator (Vector q))
       I : IsGenerator q (degrees gs) i
       I = generator-at q (degrees gs) i il
 
-      same-degree : degree_of (degrees hs) i ≡ degree_of (degrees gs) i
+      same-degree : degree_of (degrees more) i ≡ degree_of (degrees gs) i
       same-degree = (up (degree_of (degrees gs) i) (power i 1) I).degree_is
 
       low : e ≤ n
@@ -285,26 +285,26 @@ module _ (q n : ℕ) (G : GradedAlgebra q) (gs new : List (Generator (Vector q))
           ∙ get_or-map (λ v. v ++ replicate z 0) (rows_at x.forms.items i) at.0 [] [] inside
 
   -- of a new generator
-  of-new : (i e : ℕ) (s : List ℕ) → length (degrees gs) ≤ i → i < length (degrees hs)
-      → IsStandardOf q (algebra q G) hs e s → degree_of (degrees hs) i + e ≡ suc n
-      → IsNormalForm q (algebra q G) hs (suc n)
-      (value (algebra q G) hs (generator_times q (degrees hs) i s)) (product_in (degrees hs) all i s)
+  of-new : (i e : ℕ) (s : List ℕ) → length (degrees gs) ≤ i → i < length (degrees more)
+      → IsStandardOf q (algebra q G) more e s → degree_of (degrees more) i + e ≡ suc n
+      → IsNormalForm q (algebra q G) more (suc n)
+      (value (algebra q G) more (generator_times q (degrees more) i s)) (product_in (degrees more) all i s)
   of-new i e s il jl X total = at-place i e 0 s total X.monomial (omega (arith, none))
       (ap (λ d. place_of (standard_at tables d) s) none
       ∙ ap (λ ss. place_of ss s) B.tables_are.one ∙ ap (place_of ([] ∷ [])) one)
-      (subst (λ r. IsNormalForm q (algebra q G) hs (suc n)
-      (value (algebra q G) hs (generator_times q (degrees hs) i r))
+      (subst (λ r. IsNormalForm q (algebra q G) more (suc n)
+      (value (algebra q G) more (generator_times q (degrees more) i r))
       (polynomial_of (without_pivots kernel 0 left) (row (rows_at t.products.items i) 0))) (sym one)
       (product-is q n G gs new rs tables B here left values kernel L V K i []
       (row (rows_at wide i) 0) (row (rows_at t.products.items i) 0)
-      (ap length wide-row ∙ (row-of-is-row q left (generator_times q (degrees hs) i [])).length_is)
-      (subst (λ u. IsConsequence q (algebra q G) hs rs (suc n)
-      (generator_times q (degrees hs) i [] ++ scaled q (polynomial_of left u))) (sym wide-row)
+      (ap length wide-row ∙ (row-of-is-row q left (generator_times q (degrees more) i [])).length_is)
+      (subst (λ u. IsConsequence q (algebra q G) more rs (suc n)
+      (generator_times q (degrees more) i [] ++ scaled q (polynomial_of left u))) (sym wide-row)
       (form-of-new q n G gs new rs tables B here left values kernel L V K i (wide-new i il jl).1))
       ((rests i jl).each 0 (let a = ap length (wide-new i il jl).0 in omega (arith, a)))))
     where
-      degree-is : degree_of (degrees hs) i ≡ suc n
-      degree-is = degree-power (degrees hs) i jl
+      degree-is : degree_of (degrees more) i ≡ suc n
+      degree-is = degree-power (degrees more) i jl
           ∙ ap (λ ds. at_generator ds i) (degrees-append gs new)
           ∙ ap (λ j. at_generator (degrees gs ++ degrees new) j)
           (let w : i ≡ length (degrees gs) + (i - length (degrees gs)) = omega (arith, il) in w)
@@ -323,32 +323,32 @@ module _ (q n : ℕ) (G : GradedAlgebra q) (gs new : List (Generator (Vector q))
       none = omega (arith, degree-is, total)
 
       one : s ≡ []
-      one = only-one q (degrees hs) s (positive q n G gs new rs tables B here left values kernel L V K)
-          (subst (λ d. IsMonomial q (degrees hs) d s) none X.monomial)
+      one = only-one q (degrees more) s (positive q n G gs new rs tables B here left values kernel L V K)
+          (subst (λ d. IsMonomial q (degrees more) d s) none X.monomial)
 
-      wide-row : row (rows_at wide i) 0 ≡ row_of q left (generator_times q (degrees hs) i [])
+      wide-row : row (rows_at wide i) 0 ≡ row_of q left (generator_times q (degrees more) i [])
       wide-row = ap (λ rows. row rows 0) (wide-new i il jl).0
 
   pub tables-of : AreTablesOf q G (gs ++ new) (suc n) (tables ++ t ∷ [])
   tables-of = record {
     count = length-append tables (t ∷ []) ∙ (let c = B.tables_are.count in omega (arith, c));
     one = standard-old tables t n B.tables_are.count 0 (omega arith) ∙ B.tables_are.one;
-    standard = subst (AreStandardLists q (algebra q G) hs (suc n))
+    standard = subst (AreStandardLists q (algebra q G) more (suc n))
         (ap (λ ss. drop 1 (lists tables) ++ ss ∷ []) (sym standard-is)
         ∙ sym (lists-drop tables t n B.tables_are.count))
         (lists-grow q (algebra q G) gs new n above (drop 1 (lists tables)) lists-count B.tables_are.standard
         left kernel L.some
-        (standard-of-list q n B.field G hs
+        (standard-of-list q n B.field G more
         (positive q n G gs new rs tables B here left values kernel L V K) rs
         (relations q n G gs new rs tables B here left values kernel L V K) left values kernel L.some
-        (separates-left q n B.field G hs (positive q n G gs new rs tables B here left values kernel L V K) rs
+        (separates-left q n B.field G more (positive q n G gs new rs tables B here left values kernel L V K) rs
         (relations q n G gs new rs tables B here left values kernel L V K) left L) V K)
-        (all-standard q n B.field G hs
+        (all-standard q n B.field G more
         (positive q n G gs new rs tables B here left values kernel L V K) rs
         (relations q n G gs new rs tables B here left values kernel L V K) left values kernel L.some
-        (separates-left q n B.field G hs (positive q n G gs new rs tables B here left values kernel L V K) rs
+        (separates-left q n B.field G more (positive q n G gs new rs tables B here left values kernel L V K) rs
         (relations q n G gs new rs tables B here left values kernel L V K) left L) V K));
-    products = products-grow q (algebra q G) gs new n above (product_in (degrees hs) all) lower
+    products = products-grow q (algebra q G) gs new n above (product_in (degrees more) all) lower
         (λ i e s I X total. in-degree i e s I X total (cases_lt i (length (degrees gs))));
   }
     where
@@ -360,9 +360,9 @@ module _ (q n : ℕ) (G : GradedAlgebra q) (gs new : List (Generator (Vector q))
           go [] l = absurd (omega (arith, l))
           go (y ∷ ls) l = omega (arith, l)
 
-      in-degree : (i e : ℕ) (s : List ℕ) → IsGenerator q (degrees hs) i → IsStandardOf q (algebra q G) hs e s
-          → degree_of (degrees hs) i + e ≡ suc n → (i < length (degrees gs)) ⊎ (length (degrees gs) ≤ i)
-          → IsNormalForm q (algebra q G) hs (suc n)
-          (value (algebra q G) hs (generator_times q (degrees hs) i s)) (product_in (degrees hs) all i s)
+      in-degree : (i e : ℕ) (s : List ℕ) → IsGenerator q (degrees more) i → IsStandardOf q (algebra q G) more e s
+          → degree_of (degrees more) i + e ≡ suc n → (i < length (degrees gs)) ⊎ (length (degrees gs) ≤ i)
+          → IsNormalForm q (algebra q G) more (suc n)
+          (value (algebra q G) more (generator_times q (degrees more) i s)) (product_in (degrees more) all i s)
       in-degree i e s I X total (inl l) = of-old i e s l X total
-      in-degree i e s I X total (inr l) = of-new i e s l (within-length (degrees hs) i I.within) X total
+      in-degree i e s I X total (inr l) = of-new i e s l (within-length (degrees more) i I.within) X total
