@@ -47,9 +47,10 @@ fn widened(alloc: Global, rows: &Matrix, width: usize) -> Result<Matrix, Memory>
         rows.now.rows) }
     ensures lengths { (k : ℕ) → k < length rows.now.rows → length (row rows.now.rows k) ≡ rows.now.width }
 {
+    let count = rows.rows();
     let mut wide = Matrix::new(alloc, rows.prime(), width);
     let mut out = Row::zero(alloc, rows.prime(), width)?;
-    for k in 0..rows.rows() {
+    for k in 0..count {
         write_widened(rows.row(k), &mut out);
         wide.push(out.view())?;
     }
@@ -76,11 +77,11 @@ fn product_forms(
     ensures { IfOk result (IsProductForm gens.now tables.now forms.now left.now width i) }
 {
     if (gens.degree(i) as usize) < tables.len() {
-        let old = widened(alloc, &forms[i], left.len())?;
-        Ok(old)
+        let wide = widened(alloc, &forms[i], left.len())?;
+        Ok(wide)
     } else {
-        let new = form_rows(alloc, gens, i, &tables[0].standard, left)?;
-        Ok(new)
+        let unit = form_rows(alloc, gens, i, &tables[0].standard, left)?;
+        Ok(unit)
     }
 }
 
