@@ -1,38 +1,48 @@
 -- Critical rows, one place and one generator after another.
-use Rattle.std.proofs.Common.{◌≡◌, ℕ, ◌+◌, ◌*◌, ◌-◌, ◌<◌, ◌≤◌, ◌↔◌, false, true, List, [], ◌∷◌, ◌++◌, ◌⊎◌, inl, inr}
+use Rattle.std.proofs.Common.{◌≡◌, ℕ, suc, ◌+◌, ◌*◌, ◌%◌, ◌-◌, ◌<◌, ◌≤◌, ◌↔◌, true, List, [], ◌∷◌, ◌++◌, ◌⊎◌, inl, inr}
 use Rattle.std.proofs.Common.{length, get_or, slice_get, Some, arith, ap, sym, subst, ◌∙◌, refl}
 use Rattle.std.specs.Prelude.{slice_index_or}
-use Rattle.std.proofs.lemmas.Bool.{cases_eq, false≢true}
+use Rattle.std.proofs.lemmas.Bool.{cases_eq}
 use Rattle.std.proofs.lemmas.Option.{get_or_from_slice_get}
-use Rattle.graded_polynomials.specs.Monomials.{is_exterior}
+use Rattle.linear_algebra.specs.Rows.{entry, row}
+use Rattle.linear_algebra.proofs.RowLemmas.{length-add_multiple}
+use Rattle.graded_polynomials.specs.Monomials.{is_exterior, sign}
 use Rattle.fp_rows.specs.Values.{MatrixValue}
-use Rattle.ring_completion.specs.Candidates.{IsListed}
 use Rattle.ring_completion.specs.Completions.{IsClearBefore}
 use Rattle.ring_degree.specs.Critical.{form_of_product, exchange_row, IsExchangeRow, IsSquareRow}
 use Rattle.ring_degree.specs.Products.{Gains}
-use Rattle.ring_degree.specs.Tables.{at_generator, standard_at}
+use Rattle.ring_degree.specs.Tables.{at_generator, standard_at, product_rows, rows_at}
 use Rattle.ring_degree.specs.declared.table.Table.{Table}
-use Rattle.ring_degree.proofs.Gaining.{gains-none, gains-more, gains-same, gains-push}
+use Rattle.ring_degree.proofs.FormVectors.{length-combination}
+use Rattle.ring_degree.proofs.Gaining.{gains-more, gains-same, gains-push}
 use Rattle.ring_degree.proofs.Lookups.{standard-is}
-use Rattle.ring_degree.proofs.Places.{IsAmong, IsClearAt, among-none, among-more, among-same, exchanges-are}
-use Rattle.ring_degree.proofs.Places.{no-exchanges, squares-are}
+use Rattle.ring_degree.proofs.Places.{IsAmong, IsClearAt, among-more, among-same, exchanges-are}
+use Rattle.ring_degree.proofs.Places.{squares-are}
 
 -- the monomial that is read at a place of a table
 pub monomial-at : (tables : List Table) (e k : ℕ) (t : Table) (m : List ℕ) → e < length tables
-    → t ≡ get_or tables e t → slice_get t.standard k ≡ Some m
-    → slice_index_or (standard_at tables e) k [] ≡ m
-monomial-at tables e k t m l s g =
-    ap (λ ss. slice_index_or ss k []) (standard-is tables e t l ∙ ap (λ (x : Table). x.standard) (sym s))
-    ∙ get_or_from_slice_get t.standard k m [] g
+    → slice_get (get_or tables e t).standard k ≡ Some m → slice_index_or (standard_at tables e) k [] ≡ m
+monomial-at tables e k t m l g = ap (λ ss. slice_index_or ss k []) (standard-is tables e t l)
+    ∙ get_or_from_slice_get (get_or tables e t).standard k m [] g
 
-pub length-at : (tables : List Table) (e : ℕ) (t : Table) → e < length tables → t ≡ get_or tables e t
-    → length (standard_at tables e) ≡ length t.standard
-length-at tables e t l s = ap length (standard-is tables e t l ∙ ap (λ (x : Table). x.standard) (sym s))
+pub length-at : (tables : List Table) (e : ℕ) (t : Table) → e < length tables
+    → length (standard_at tables e) ≡ length (get_or tables e t).standard
+length-at tables e t l = ap length (standard-is tables e t l)
+
+-- the length of a form and of an exchange
+pub length-form : (q : ℕ) (ds : List ℕ) (tables : List Table) (width : ℕ) (forms : List MatrixValue)
+    (e i j k : ℕ) → length (form_of_product q ds tables width forms e i j k) ≡ width
+length-form q ds tables width forms e i j k = length-combination q (λ d e v w. v) width
+    (entry (row (product_rows tables (at_generator ds j + e) j) k)) (rows_at forms i)
+
+pub length-exchange : (q : ℕ) (ds : List ℕ) (tables : List Table) (width : ℕ) (forms : List MatrixValue)
+    (e i j k : ℕ) → length (exchange_row q ds tables width forms e i j k) ≡ width
+length-exchange q ds tables width forms e i j k =
+    length-add_multiple (suc q) (q * sign q (at_generator ds i * at_generator ds j) % suc q)
+    (form_of_product q ds tables width forms e i j k) (form_of_product q ds tables width forms e j i k)
+    ∙ length-form q ds tables width forms e i j k
 
 module _ (C : ℕ → Type 0) (row : ℕ → List ℕ) (old : List (List ℕ)) where
-  pub gains-at-none : Gains (IsAmong C row 0) old old
-  gains-at-none = gains-none (IsAmong C row 0) old (among-none C row)
-
   -- a row at a place with C
   pub gains-at : (k : ℕ) (mid new : List (List ℕ)) → C k → Gains (IsAmong C row k) old mid
       → new ≡ mid ++ row k ∷ [] → Gains (IsAmong C row (k + 1)) old new
@@ -64,23 +74,6 @@ module _ (q : ℕ) (ds : List ℕ) (tables : List Table) (width : ℕ) (forms : 
       (IsAmong (IsClearAt tables e i) (form_of_product q ds tables width forms e i i) k)
       (IsSquareRow q ds tables width forms i) old new g (squares-are q ds tables width forms e i k s o l)
 
-module _ (q : ℕ) (ds : List ℕ) (tables : List Table) (width : ℕ) (forms : List MatrixValue)
-    (old : List (List ℕ)) where
-  pub no-exchange-gained : (i j : ℕ) → length tables < at_generator ds i + at_generator ds j
-      → Gains (IsExchangeRow q ds tables width forms i j) old old
-  no-exchange-gained i j l = gains-none (IsExchangeRow q ds tables width forms i j) old
-      (no-exchanges q ds tables width forms i j l)
-
-  pub no-even-square-gained : (i : ℕ) → is_exterior q (at_generator ds i) ≡ false
-      → Gains (IsSquareRow q ds tables width forms i) old old
-  no-even-square-gained i e = gains-none (IsSquareRow q ds tables width forms i) old
-      (λ v x. false≢true (sym e ∙ x.exterior))
-
-  pub no-low-square-gained : (i : ℕ) → length tables < at_generator ds i + at_generator ds i
-      → Gains (IsSquareRow q ds tables width forms i) old old
-  no-low-square-gained i l = gains-none (IsSquareRow q ds tables width forms i) old
-      (λ v x. let d = x.degree_is in omega (arith, d, l))
-
 -- rows with S, and rows with E at one of the numbers after i
 module _ (S : List ℕ → Type 0) (E : ℕ → List ℕ → Type 0) (i : ℕ) where
   abbrev pub IsUpTo : ℕ → List ℕ → Type 0
@@ -110,7 +103,3 @@ module _ (S : List ℕ → Type 0) (E : ℕ → List ℕ → Type 0) (i : ℕ) w
       from v (inl (inl s)) = inl s
       from v (inl (inr (k, a, b, e))) = inr (k, a, omega (arith, b), e)
       from v (inr e) = inr (j, l, omega arith, e)
-
--- no row, of no generator
-pub none-listed : (T : ℕ → List ℕ → Type 0) (v : List ℕ) → IsListed [] v ↔ ((j : ℕ) × (j < 0) × T j v)
-none-listed T v = ((λ x. let b = x.1 in absurd (omega (arith, b))), (λ x. let b = x.1 in absurd (omega (arith, b))))

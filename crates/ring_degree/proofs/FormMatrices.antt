@@ -1,8 +1,7 @@
 -- The matrices of products, one generator after another.
-use Rattle.std.proofs.Common.{◌≡◌, ℕ, zero, suc, ◌+◌, ◌-◌, ◌<◌, ◌≤◌, List, [], ◌∷◌, ◌++◌, ◌⊎◌, inl, inr, length}
+use Rattle.std.proofs.Common.{◌≡◌, ℕ, zero, suc, ◌+◌, ◌-◌, ◌<◌, ◌≤◌, List, [], ◌∷◌, ◌++◌, length}
 use Rattle.std.proofs.Common.{get_or, map, take, arith, ap, sym, subst, ◌∙◌, refl}
-use Rattle.std.proofs.lemmas.Bool.{cases_eq}
-use Rattle.std.proofs.lemmas.List.{get_or_push, get_or_append_left, length-map, take_more}
+use Rattle.std.proofs.lemmas.List.{length-map, take_more}
 use Rattle.linear_algebra.specs.Rows.{row, IsRow, IsMatrix}
 use Rattle.fp_rows.specs.Values.{MatrixValue}
 use Rattle.gc_poly.specs.Generators.{Generators, greatest}
@@ -34,18 +33,6 @@ module _ (g : Generators) (tables : List Table) (ms : List (List ℕ)) where
     pub prime : m.p ≡ g.prime
     pub width : m.width ≡ length ms
     pub rows : m.rows ≡ form_rows_of i
-
-  -- one more matrix
-  pub one-more-matrix : (F : List MatrixValue) (x : MatrixValue) (n : ℕ) → length F ≡ n
-      → ((i : ℕ) (m : MatrixValue) → i < n → IsFormMatrix i (get_or F i m)) → IsFormMatrix n x
-      → (i : ℕ) (m : MatrixValue) → i < n + 1 → IsFormMatrix i (get_or (F ++ x ∷ []) i m)
-  one-more-matrix F x n e h p i m l = go (cases_eq i n)
-    where
-      go : (i ≡ n) ⊎ (i ≡ n → ⊥) → IsFormMatrix i (get_or (F ++ x ∷ []) i m)
-      go (inl z) = subst (IsFormMatrix i) (sym (get_or_push F x m i (e ∙ sym z)))
-          (subst (λ a. IsFormMatrix a x) (sym z) p)
-      go (inr z) = subst (IsFormMatrix i)
-          (sym (get_or_append_left F (x ∷ []) m i (omega (arith, l, z, e)))) (h i m (omega (arith, l, z)))
 
   module _ (F : List MatrixValue) (e : length F ≡ length g.degrees) (positive : 0 < g.prime)
       (h : (i : ℕ) (m : MatrixValue) → i < length g.degrees → IsFormMatrix i (get_or F i m)) where
