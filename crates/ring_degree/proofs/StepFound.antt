@@ -152,3 +152,32 @@ module _ (q : ℕ) (ds : List ℕ) (tables : List Table)
 
   pub left-some : (E : List (List ℕ)) → AreSome q ds (length tables) (without_pivots E 0 ms)
   left-some E = some-left q (length tables) ds E ms products-some
+
+-- all that was found, with the prime and the number of products by other names
+pub found : (g : Generators) (tables : List Table) (p w : ℕ) (ms : List (List ℕ)) (F : List MatrixValue)
+    (rows E : List (List ℕ)) (x : Step) → AreOrdered g.degrees → All (λ e. e < length tables) g.degrees
+    → AreTables g tables → p ≡ suc (greatest g) → w ≡ length ms
+    → AreProductsIn (greatest g) g.degrees tables (length tables) ms
+    → ((i : ℕ) → i < length g.degrees → rows_at F i
+    ≡ map (λ s. row_of (greatest g) ms (generator_times (greatest g) g.degrees i s))
+    (standard_at tables (length tables - at_generator g.degrees i)))
+    → length F ≡ length g.degrees
+    → ((v : List ℕ) → IsListed rows v ↔ IsCriticalRow (greatest g) g.degrees tables w F v)
+    → IsEchelonOf p w rows E → x.left ≡ without_pivots E 0 ms
+    → ((i : ℕ) → i < length F → AreRests p E (rows_at F i) (rows_at x.forms.items i))
+    → AreCandidatesIn g.degrees tables ms x.candidates
+    → IsFound (greatest g) g.degrees tables ms F rows E x
+found g tables p w ms F rows E x o b T pe we P H n K L l R C = record {
+  low = low-of g.degrees (length tables) o b;
+  products = P;
+  forms = H;
+  some = T.monomials;
+  widths = product-width g tables T;
+  critical = subst (λ w. (v : List ℕ) → IsListed rows v
+      ↔ IsCriticalRow (greatest g) g.degrees tables w F v) we K;
+  echelon = subst (λ w. IsEchelonOf (suc (greatest g)) w rows E) we (subst (λ p. IsEchelonOf p w rows E) pe L);
+  left = l;
+  rests = λ i k. subst (λ p. AreRests p E (rows_at F i) (rows_at x.forms.items i)) pe
+      (R i (omega (arith, k, n)));
+  candidates = C;
+}
