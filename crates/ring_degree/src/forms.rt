@@ -40,6 +40,7 @@ fn write_form(
     }) }
 {
     let _count = gens.len();
+    let _length = list.len();
     out.clear();
     match times(alloc, gens, i, s)? {
         Some(m) => match list.position(&m) {
@@ -98,6 +99,7 @@ pub(crate) fn forms(
         (generator_times (greatest gens.now) gens.now.degrees i s))
         (standard_at tables.now (length tables.now - at_generator gens.now.degrees i))) }
 {
+    let _prime = gens.modulus();
     let mut forms = Vec::new(alloc);
     for i in 0..gens.len() {
         let low = &tables[tables.len() - gens.degree(i) as usize];
