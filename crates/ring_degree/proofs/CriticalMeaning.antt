@@ -169,8 +169,8 @@ module _ (q n : ℕ) (G : GradedAlgebra q) (gs : List (Generator (Vector q))) (r
         vector-sum q G.mul (q * sign q (d i * d j) % suc q)
         (form_of_product q (degrees gs) tables (length ms) F e i j k)
         (form_of_product q (degrees gs) tables (length ms) F e j i k)
-        (length-combination q (length ms) (entry (row (product_rows tables (d i + e) i) k)) (rows_at F j)
-        ∙ sym (length-combination q (length ms) (entry (row (product_rows tables (d j + e) j) k)) (rows_at F i)))
+        (length-combination q G.mul (length ms) (entry (row (product_rows tables (d i + e) i) k)) (rows_at F j)
+        ∙ sym (length-combination q G.mul (length ms) (entry (row (product_rows tables (d j + e) j) k)) (rows_at F i)))
         ∙ ap₂ (λ v w. (vectors q G.mul).add v (times (vectors q G.mul) (q * sign q (d i * d j) % suc q) w))
         (form-vector i j e k il jl x kl) (form-vector j i e k jl il (omega (arith, x)) kl)
         ∙ ap ((vectors q G.mul).add (form_of q G.mul gs form i

@@ -22,3 +22,4 @@ pub mod FormMatrices
 pub mod CandidateLists
 pub mod RestRows
 pub mod StepFound
+pub mod CriticalLists

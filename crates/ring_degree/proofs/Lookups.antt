@@ -1,8 +1,9 @@
 -- What stands in tables and matrices.
 use Rattle.std.proofs.Common.{◌≡◌, ℕ, zero, suc, ◌+◌, ◌-◌, ◌<◌, ◌≤◌, true, List, [], ◌∷◌, All, length, get_or, map}
-use Rattle.std.proofs.Common.{arith, Option, Some, None, IfSome, IsNone}
+use Rattle.std.proofs.Common.{arith, inl, inr, Option, Some, None, IfSome, IsNone}
 use Rattle.std.proofs.Common.{ap, sym, subst, ◌∙◌, refl}
 use Rattle.std.proofs.lemmas.List.Elements.{All-get_or}
+use Rattle.linear_algebra.specs.Modular.{IsSmallPrime}
 use Rattle.linear_algebra.specs.Rows.{entry, row, combination_row, IsRow, IsMatrix}
 use Rattle.fp_rows.specs.Values.{MatrixValue, RowValue}
 use Rattle.limits.specs.declared.TheConstants.{GREATEST_DEGREE}
@@ -54,6 +55,12 @@ exponent-small g e i s o l M = let h = exponents-small g e s [] o l record {
     fits-one : (ds : List ℕ) → fits (greatest g) ds [] ≡ true
     fits-one [] = refl
     fits-one (d ∷ ds) = refl
+
+pub prime-is : (p : ℕ) → IsSmallPrime p → p ≡ suc (p - 1)
+prime-is p (inl e) = omega (arith, e)
+prime-is p (inr (inl e)) = omega (arith, e)
+prime-is p (inr (inr (inl e))) = omega (arith, e)
+prime-is p (inr (inr (inr e))) = omega (arith, e)
 
 pub generator-below : (ds : List ℕ) (d i : ℕ) → All (λ e. e < d) ds → i < length ds → at_generator ds i < d
 generator-below ds d i h l = All-get_or (λ e. e < d) ds i 0 l h

@@ -12,12 +12,12 @@ use Rattle.graded_polynomials.proofs.Monomials.{monomial-joined}
 use Rattle.graded_algebra.specs.Algebras.{Generator, degrees}
 use Rattle.graded_algebra.specs.Vectors.{Vector, GradedAlgebra}
 use Rattle.presentation_rows.specs.RowPolynomials.{row_of}
-use Rattle.gc_poly.specs.Generators.{Generators, greatest}
+use Rattle.limits.specs.declared.TheConstants.{GREATEST_DEGREE}
+use Rattle.gc_poly.specs.Generators.{Generators, greatest, AreOrdered}
 use Rattle.ring_completion.specs.Candidates.{AreSome, IsListed}
 use Rattle.ring_completion.specs.Completions.{degree_of, generator_times}
 use Rattle.ring_completion.specs.Left.{without_pivots}
 use Rattle.ring_degree.specs.Critical.{IsCriticalRow}
-use Rattle.ring_completion.proofs.LeftLists.{stood, left-descend}
 use Rattle.ring_completion.proofs.ListedCandidates.{generator-at}
 use Rattle.ring_completion.proofs.Listings.{degree-power}
 use Rattle.ring_degree.specs.Products.{IsProductIn, AreProductsIn}
@@ -27,6 +27,7 @@ use Rattle.ring_degree.specs.Tables.{at_generator, standard_at, product_rows, ro
 use Rattle.ring_degree.specs.declared.step.Step.{Step}
 use Rattle.ring_degree.specs.declared.table.Table.{Table}
 use Rattle.ring_degree.proofs.Degrees.{are-reached}
+use Rattle.ring_degree.proofs.LeftSome.{some-left}
 use Rattle.ring_degree.proofs.Lookups.{generator-below}
 use Rattle.ring_degree.proofs.StepMeaning.{are-step}
 
@@ -72,6 +73,14 @@ pub found-step : (q n : ℕ) (ds : List ℕ) (G : GradedAlgebra q) (gs : List (G
     → IsRingBelow q G gs rs n tables → IsStep q G gs rs n tables x
 found-step q n ds G gs rs tables ms F rows E x X e B = found-below q n G gs rs tables ms F rows E x
     (subst (λ ds. IsFound q ds tables ms F rows E x) (sym e) X) B
+
+-- the degrees of the generators are from 1 to below d
+pub low-of : (ds : List ℕ) (d : ℕ) → AreOrdered ds → All (λ e. e < d) ds → (i : ℕ) → i < length ds
+    → (1 ≤ at_generator ds i) × (at_generator ds i < d)
+low-of ds d o b i l = (
+  (All-get_or (λ e. (1 ≤ e) × (e ≤ GREATEST_DEGREE)) ds i 0 l o.range).0,
+  generator-below ds d i b l,
+)
 
 -- the length of a product's row
 pub product-width : (g : Generators) (tables : List Table) → AreTables g tables → (e j k : ℕ)
@@ -142,8 +151,4 @@ module _ (q : ℕ) (ds : List ℕ) (tables : List Table)
   }
 
   pub left-some : (E : List (List ℕ)) → AreSome q ds (length tables) (without_pivots E 0 ms)
-  left-some E = record {
-    each = λ i l. let s = stood E 0 ms i l in subst (IsMonomial q ds (length tables)) (sym s.2)
-        (products-some.each s.0 s.1);
-    descending = left-descend E 0 ms products-some.descending;
-  }
+  left-some E = some-left q (length tables) ds E ms products-some
