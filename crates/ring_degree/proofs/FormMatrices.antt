@@ -1,7 +1,7 @@
 -- The matrices of products, one generator after another.
-use Rattle.std.proofs.Common.{◌≡◌, ℕ, zero, suc, ◌+◌, ◌-◌, ◌<◌, ◌≤◌, List, [], ◌∷◌, ◌++◌, length}
-use Rattle.std.proofs.Common.{get_or, map, take, arith, ap, sym, subst, ◌∙◌, refl}
-use Rattle.std.proofs.lemmas.List.{length-map, take_more}
+use Rattle.std.proofs.Common.{◌≡◌, ℕ, zero, suc, ◌+◌, ◌-◌, ◌<◌, List, [], ◌∷◌, ◌++◌, length, get_or, map, take}
+use Rattle.std.proofs.Common.{arith, ap, sym, subst, ◌∙◌}
+use Rattle.std.proofs.lemmas.List.{length-map, map-append, take_more}
 use Rattle.linear_algebra.specs.Rows.{row, IsRow, IsMatrix}
 use Rattle.fp_rows.specs.Values.{MatrixValue}
 use Rattle.gc_poly.specs.Generators.{Generators, greatest}
@@ -11,10 +11,6 @@ use Rattle.ring_completion.specs.Completions.{generator_times}
 use Rattle.ring_degree.specs.Tables.{at_generator, standard_at, rows_at, AreMatrices}
 use Rattle.ring_degree.specs.declared.table.Table.{Table}
 use Rattle.ring_degree.proofs.Lookups.{rows-are}
-
-map-append : (f : List ℕ → List ℕ) (xs ys : List (List ℕ)) → map f (xs ++ ys) ≡ map f xs ++ map f ys
-map-append f [] ys = refl
-map-append f (x ∷ xs) ys = ap (λ zs. f x ∷ zs) (map-append f xs ys)
 
 -- one more row
 pub mapped-more : (f : List ℕ → List ℕ) (ss : List (List ℕ)) (k : ℕ) (s x : List ℕ) (old new : List (List ℕ))

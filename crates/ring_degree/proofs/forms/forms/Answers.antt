@@ -1,4 +1,4 @@
-use Rattle.std.proofs.Common.{◌≡◌, ℕ, ◌-◌, ◌<◌, length, map, get_or, [], arith, sym, subst, ap, refl, ◌∙◌}
+use Rattle.std.proofs.Common.{◌≡◌, ℕ, ◌+◌, ◌-◌, ◌<◌, List, length, map, arith, sym, subst, ap, ◌∙◌}
 use Rattle.std.proofs.lemmas.List.{length_push}
 use Rattle.fp_rows.specs.Values.{MatrixValue}
 use Rattle.presentation_rows.specs.RowPolynomials.{row_of}
@@ -54,41 +54,40 @@ loop-i-preserved c =
     ∙ ap (λ d. standard_at c.args.tables.now (length c.args.tables.now - d)) c.degree.ensures.value in
     record {
       count = ap length c.in_ok-push.ensures.items
-          ∙ (let h = length_push c.loop-i.forms.items c.in_ok-form_rows.field-0 in
-          omega (arith, h, c.loop-i.invariant.count));
-      each = each-pushed (λ j (m : MatrixValue). IsFormMatrix c.args.gens.now c.args.tables.now
-          c.args.list.now j m) c.loop-i.forms.items c.push.new.self.items c.loop-i.i c.in_ok-form_rows.field-0
+          ∙ length_push c.loop-i.forms.items c.in_ok-form_rows.field-0
+          ∙ ap (λ n. n + 1) c.loop-i.invariant.count;
+      each = each-pushed
+          (λ j m. IsFormMatrix c.args.gens.now c.args.tables.now c.args.list.now j m)
+          c.loop-i.forms.items c.push.new.self.items c.loop-i.i c.in_ok-form_rows.field-0
           c.loop-i.invariant.count c.loop-i.invariant.each
-          record {
+          (record {
             prime = c.in_ok-form_rows.ensures.prime;
             width = c.in_ok-form_rows.ensures.width;
             rows = c.in_ok-form_rows.ensures.rows
-                ∙ ap (map (λ s. row_of (c.args.gens.now.prime - 1) c.args.list.now
-                (generator_times (c.args.gens.now.prime - 1) c.args.gens.now.degrees c.loop-i.i s))) e;
-          }
+                ∙ ap (λ (ss : List (List ℕ)). map (λ s. row_of (c.args.gens.now.prime - 1) c.args.list.now
+                (generator_times (c.args.gens.now.prime - 1) c.args.gens.now.degrees c.loop-i.i s)) ss) e;
+          })
           c.in_ok-push.ensures.items;
     }
 
+pub returns-clause-count : goal.returns-clause-count
+returns-clause-count c = c.loop-i.invariant.count
+    ∙ omega (arith, c.loop-i-test.false, c.loop-i.auto.i-end, c.len-i-end.ensures.value)
+
 pub returns-clause-shape : goal.returns-clause-shape
 returns-clause-shape c =
-    let s : c.loop-i.i ≡ length c.args.gens.now.degrees = omega (
-      arith,
-      c.loop-i-test.false,
-      c.loop-i.auto.i-end,
-      c.len-i-end.ensures.value,
-    ) in
+    let all : c.loop-i.i ≡ length c.args.gens.now.degrees =
+    omega (arith, c.loop-i-test.false, c.loop-i.auto.i-end, c.len-i-end.ensures.value) in
     forms-shape c.args.gens.now c.args.tables.now c.args.list.now c.loop-i.forms.items
-    (c.loop-i.invariant.count ∙ s) (omega (arith, c.modulus-prime.ensures.low, c.modulus-prime.ensures.value))
-    (λ i m l. c.loop-i.invariant.each i m (omega (arith, l, s)))
+    (c.loop-i.invariant.count ∙ all)
+    (let p = c.modulus-prime.ensures.value in let l = c.modulus-prime.ensures.low in omega (arith, p, l))
+    (λ i m l. c.loop-i.invariant.each i m (omega (arith, l, all)))
 
 pub returns-clause-rows : goal.returns-clause-rows
-returns-clause-rows c =
-    let s : c.loop-i.i ≡ length c.args.gens.now.degrees = omega (
-      arith,
-      c.loop-i-test.false,
-      c.loop-i.auto.i-end,
-      c.len-i-end.ensures.value,
-    ) in
+returns-clause-rows c i l =
+    let all : c.loop-i.i ≡ length c.args.gens.now.degrees =
+    omega (arith, c.loop-i-test.false, c.loop-i.auto.i-end, c.len-i-end.ensures.value) in
     rows-of-form c.args.gens.now c.args.tables.now c.args.list.now c.loop-i.forms.items
-    (c.loop-i.invariant.count ∙ s) (omega (arith, c.modulus-prime.ensures.low, c.modulus-prime.ensures.value))
-    (λ i m l. c.loop-i.invariant.each i m (omega (arith, l, s)))
+    (c.loop-i.invariant.count ∙ all)
+    (let p = c.modulus-prime.ensures.value in let l = c.modulus-prime.ensures.low in omega (arith, p, l))
+    (λ i m l. c.loop-i.invariant.each i m (omega (arith, l, all))) i l
