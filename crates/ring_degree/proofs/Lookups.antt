@@ -7,8 +7,8 @@ use Rattle.linear_algebra.specs.Modular.{IsSmallPrime}
 use Rattle.linear_algebra.specs.Rows.{entry, row, combination_row, IsRow, IsMatrix}
 use Rattle.fp_rows.specs.Values.{MatrixValue, RowValue}
 use Rattle.limits.specs.declared.TheConstants.{GREATEST_DEGREE}
-use Rattle.graded_polynomials.specs.Monomials.{exponent, fits}
-use Rattle.graded_algebra.proofs.Ideals.{degree-nil}
+use Rattle.graded_polynomials.specs.Monomials.{exponent}
+use Rattle.graded_algebra.proofs.Ideals.{degree-nil, fits-nil}
 use Rattle.gc_poly.specs.Generators.{Generators, greatest, AreOrdered}
 use Rattle.gc_poly.specs.Polynomials.{IsMonomialOf}
 use Rattle.gc_poly.proofs.ProductLemmas.{exponents-small}
@@ -48,13 +48,9 @@ exponent-small g e i s o l M = let h = exponents-small g e s [] o l record {
   left = e;
   right = 0;
   left_is = M;
-  right_is = record { within = tt; trimmed = tt; fitting = fits-one g.degrees; degree_is = degree-nil g.degrees };
+  right_is = record { within = tt; trimmed = tt; fitting = fits-nil (greatest g) g.degrees; degree_is = degree-nil g.degrees };
   sum = omega arith;
 } i in omega (arith, h)
-  where
-    fits-one : (ds : List ℕ) → fits (greatest g) ds [] ≡ true
-    fits-one [] = refl
-    fits-one (d ∷ ds) = refl
 
 pub prime-is : (p : ℕ) → IsSmallPrime p → p ≡ suc (p - 1)
 prime-is p (inl e) = omega (arith, e)

@@ -13,6 +13,7 @@ use Rattle.graded_polynomials.specs.Texts.{power}
 use Rattle.graded_polynomials.proofs.Exponents.{exponent-joined, same-exponents}
 use Rattle.graded_polynomials.proofs.Monomials.{trimmed-joined}
 use Rattle.graded_polynomials.proofs.Terms.{eqb-true, eqb-false}
+use Rattle.graded_algebra.proofs.Ideals.{degree-nil, fits-nil, swaps-nil}
 use Rattle.gc_poly.proofs.Joining.{joined-step, joined-end, fits-not}
 use Rattle.ring_completion.specs.Listings.{without_factor}
 use Rattle.ring_completion.proofs.Factors.{joined-right, length-power, power-here, power-elsewhere}
@@ -31,18 +32,6 @@ pub raised-is : (s m p : List ℕ) (i k : ℕ) → m ≡ take k (joined (power i
 raised-is s m p i k e l t u h = same-exponents p (joined (power i 1) s) u
     (trimmed-joined (power i 1) s (power-trimmed i) t)
     (λ j. h j ∙ ap (λ x. exponent x j) (joined-end (power i 1) s m k e (omega (arith, l, length-power i 1))))
-
-degree-nil : (ds : List ℕ) → degree ds [] ≡ 0
-degree-nil [] = refl
-degree-nil (d ∷ ds) = refl
-
-swaps-nil : (ds b : List ℕ) → swaps ds [] b ≡ 0
-swaps-nil [] b = refl
-swaps-nil (d ∷ ds) b = refl
-
-fits-nil : (q : ℕ) (ds : List ℕ) → fits q ds [] ≡ true
-fits-nil q [] = refl
-fits-nil q (d ∷ ds) = refl
 
 -- what generator k adds to the degree
 degree-more : (ds s : List ℕ) (k : ℕ) → k < length ds

@@ -5,7 +5,7 @@ use Rattle.std.specs.Prelude.{All}
 use Rattle.std.proofs.Math.Nat.{mod-eq_of_lt}
 use Rattle.std.proofs.lemmas.Bool.{cases_eq}
 use Rattle.std.proofs.lemmas.List.{ext_get_or, get_or-take, length-take, get_or_push, get_or_append_left}
-use Rattle.std.proofs.lemmas.List.{length_push, length-replicate}
+use Rattle.std.proofs.lemmas.List.{length_push, length-replicate, get_or-replicate}
 use Rattle.std.proofs.lemmas.List.Elements.{All-from_get_or, All-get_or}
 use Rattle.fp_rows.specs.Values.{MatrixValue, RowValue}
 use Rattle.linear_algebra.specs.Rows.{entry, row, add_multiple, IsRow, IsMatrix, IsReduced}
@@ -15,11 +15,6 @@ use Rattle.ring_degree.specs.Rests.{IsRest, AreRests}
 use Rattle.ring_degree.specs.Tables.{rows_at}
 use Rattle.ring_degree.proofs.Lookups.{rows-are}
 
-entry-zeros : (n j : ℕ) → entry (replicate n 0) j ≡ 0
-entry-zeros zero j = refl
-entry-zeros (suc n) zero = refl
-entry-zeros (suc n) (suc j) = entry-zeros n j
-
 -- a row added to 0
 pub added-once : (p w : ℕ) (r : List ℕ) → IsRow p w r → add_multiple p 1 (replicate w 0) r ≡ r
 added-once p w r R = ext_get_or 0 (add_multiple p 1 (replicate w 0) r) r
@@ -27,7 +22,7 @@ added-once p w r R = ext_get_or 0 (add_multiple p 1 (replicate w 0) r) r
     (λ j l. let b : j < w = omega (arith, l, length-add_multiple p 1 (replicate w 0) r, length-replicate {A = ℕ} w 0) in
     entry-add_multiple p 1 (replicate w 0) r j (R.length_is ∙ sym (length-replicate {A = ℕ} w 0))
     (omega (arith, b, length-replicate {A = ℕ} w 0))
-    ∙ ap (λ x. x % p) (let z = entry-zeros w j in
+    ∙ ap (λ x. x % p) (let z = get_or-replicate {A = ℕ} w j 0 0 b in
     let y : entry (replicate w 0) j + 1 * entry r j ≡ entry r j = omega (arith, z) in y)
     ∙ mod-eq_of_lt (R.below j b))
 

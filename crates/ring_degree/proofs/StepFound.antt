@@ -28,7 +28,7 @@ use Rattle.ring_degree.specs.declared.step.Step.{Step}
 use Rattle.ring_degree.specs.declared.table.Table.{Table}
 use Rattle.ring_degree.proofs.Degrees.{are-reached}
 use Rattle.ring_degree.proofs.LeftSome.{some-left}
-use Rattle.ring_degree.proofs.Lookups.{generator-below}
+use Rattle.ring_degree.proofs.Lookups.{generator-below, rows-are}
 use Rattle.ring_degree.proofs.StepMeaning.{are-step}
 
 -- products, forms, critical rows and their echelon list, and what is left
@@ -101,11 +101,11 @@ module _ (g : Generators) (tables : List Table) (width : ℕ) (F : List MatrixVa
 
   pub all-primes : (p : ℕ) → p ≡ g.prime → All (λ m. m.p ≡ p) F
   all-primes p e = All-from_get_or (λ (m : MatrixValue). m.p ≡ p) F none
-      (λ i l. let b = omega (arith, l, n) in A.primes i none b (below-at i b) ∙ sym e)
+      (λ i l. let b : i < length g.degrees = omega (arith, l, n) in A.primes i none b (below-at i b) ∙ sym e)
 
   pub all-widths : (w : ℕ) → w ≡ width → All (λ m. m.width ≡ w) F
   all-widths w e = All-from_get_or (λ (m : MatrixValue). m.width ≡ w) F none
-      (λ i l. let b = omega (arith, l, n) in A.widths i none b (below-at i b) ∙ sym e)
+      (λ i l. let b : i < length g.degrees = omega (arith, l, n) in A.widths i none b (below-at i b) ∙ sym e)
 
   pub rests-shape : (p left : ℕ) (E : List (List ℕ)) (H : List MatrixValue) → p ≡ g.prime
       → length H ≡ length F → All (λ m. m.p ≡ p) H → All (λ m. m.width ≡ left) H
@@ -120,16 +120,13 @@ module _ (g : Generators) (tables : List Table) (width : ℕ) (F : List MatrixVa
     counts = λ i l o. (r i (omega (arith, l, n))).count ∙ A.counts i l o;
   }
     where
-      at-rows : (H : List MatrixValue) (i : ℕ) → i < length H → rows_at H i ≡ (get_or H i none).rows
-      at-rows [] i l = absurd (omega (arith, l))
-      at-rows (h ∷ H) zero l = refl
-      at-rows (h ∷ H) (suc i) l = at-rows H i (omega (arith, l))
-
       matrix : (i : ℕ) → i < length H → IsMatrix g.prime left (rows_at H i)
-      matrix i l = rw (at-rows H i l,
-          sym (All-get_or (λ (m : MatrixValue). m.p ≡ p) H i none l a ∙ e),
-          sym (All-get_or (λ (m : MatrixValue). m.width ≡ left) H i none l b))
-          (All-get_or (λ (m : MatrixValue). IsMatrix m.p m.width m.rows) H i none l d)
+      matrix i l = subst (IsMatrix g.prime left) (sym (rows-are H i none l))
+          (subst (λ q. IsMatrix q left (get_or H i none).rows)
+          (All-get_or (λ (m : MatrixValue). m.p ≡ p) H i none l a ∙ e)
+          (subst (λ w. IsMatrix (get_or H i none).p w (get_or H i none).rows)
+          (All-get_or (λ (m : MatrixValue). m.width ≡ left) H i none l b)
+          (All-get_or (λ (m : MatrixValue). IsMatrix m.p m.width m.rows) H i none l d)))
 
 -- the products of the tables are monomials of the next degree, and so is what is left of them
 module _ (q : ℕ) (ds : List ℕ) (tables : List Table)
