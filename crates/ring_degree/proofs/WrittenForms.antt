@@ -8,7 +8,6 @@ use Rattle.std.proofs.Math.Nat.{mod-eq_of_lt}
 use Rattle.std.proofs.lemmas.Bool.{cases_lt, cases_eq}
 use Rattle.std.proofs.lemmas.List.{ext_get_or, length-map, get_or-set_same, get_or-set_other}
 use Rattle.std.proofs.lemmas.Option.{get_or_from_slice_get, slice_get_within}
-use Rattle.fp_rows.specs.Values.{RowValue}
 use Rattle.linear_algebra.specs.Rows.{entry}
 use Rattle.graded_polynomials.specs.Monomials.{IsGreater, fits, joined, same, sign, swaps}
 use Rattle.graded_polynomials.specs.Polynomials.{Term, coefficient}
@@ -89,19 +88,3 @@ fit-form q ms es i k c s D f at e b = rw f
     ∙ ap (λ x. row_of q ms (record { scalar = x; monomial = joined (power i 1) s } ∷ []))
     (e ∙ (let z : sign q (swaps es (power i 1) s) ≡ 1 * (sign q (swaps es (power i 1) s) * 1) = omega arith
     in z)))
-
--- a row that is cleared and written
-module _ (q : ℕ) (ms : List (List ℕ)) (es : List ℕ) (i : ℕ) (s : List ℕ) (out mid : RowValue)
-    (z : mid ≡ record { p = out.p; entries = replicate (length out.entries) 0 })
-    (l : length out.entries ≡ length ms) where
-  pub form-written : (k c : ℕ) (m : List ℕ) (new : RowValue) → IsDescending ms
-      → fits q es (joined (power i 1) s) ≡ true → slice_get ms k ≡ Some m → m ≡ joined (power i 1) s
-      → c ≡ sign q (swaps es (power i 1) s) → c < suc q
-      → new ≡ record { p = mid.p; entries = slice_set mid.entries k c }
-      → new ≡ record { p = out.p; entries = row_of q ms (generator_times q es i s) }
-  form-written k c m new D f at e a b n = n ∙ rw (z, l) (ap (λ es. record { p = out.p; entries = es })
-      (fit-form q ms es i k c s D f (at ∙ ap Some e) a b))
-
-  pub nothing-written : fits q es (joined (power i 1) s) ≡ false
-      → mid ≡ record { p = out.p; entries = row_of q ms (generator_times q es i s) }
-  nothing-written f = z ∙ rw l (ap (λ es. record { p = out.p; entries = es }) (unfit-form q ms es i s f))
