@@ -36,18 +36,23 @@ module _ (ds : List ℕ) (tables : List Table) (ms cs : List (List ℕ)) (k : �
       push : IsDescending (cs ++ m ∷ [])
       push i j d o b = go (cases_lt j (length cs))
         where
-          go : (j < length cs) ⊎ (length cs ≤ j) → IsGreater (get_or (cs ++ m ∷ []) i d) (get_or (cs ++ m ∷ []) j d)
-          go (inl c) = rw (get_or_append_left cs (m ∷ []) d i (omega (arith, o, c)),
-              get_or_append_left cs (m ∷ []) d j c) (C.descending i j d o c)
+          go : (j < length cs) ⊎ (length cs ≤ j) → IsGreater (get_or (cs ++ m ∷ []) i d)
+              (get_or (cs ++ m ∷ []) j d)
+          go (inl c) = rw (
+            get_or_append_left cs (m ∷ []) d i (omega (arith, o, c)),
+            get_or_append_left cs (m ∷ []) d j c,
+          ) (C.descending i j d o c)
           go (inr c) = let q : j ≡ length cs = omega (arith, c, b, length_push cs m) in
               rw (get_or_append_left cs (m ∷ []) d i (omega (arith, o, q)), get_or_push cs m d j (sym q))
-              (All-get_or (λ (n : List ℕ). IsGreater n m) cs i d (omega (arith, o, q)) (greater-than-next m e))
+              (All-get_or (λ (n : List ℕ). IsGreater n m) cs i d (omega (arith, o, q))
+              (greater-than-next m e))
 
       to : (v : List ℕ) → IsListed cs v ⊎ (v ≡ m) → IsListed (take (k + 1) ms) v × HasQuotientsIn ds tables v
       to v (inl x) = let y = (C.members v).0 x in ((listed-more ms k v l).1 (inl y.0), y.1)
       to v (inr x) = ((listed-more ms k v l).1 (inr (x ∙ sym e)), subst (HasQuotientsIn ds tables) (sym x) h)
 
-      from : (v : List ℕ) → IsListed (take (k + 1) ms) v × HasQuotientsIn ds tables v → IsListed (cs ++ m ∷ []) v
+      from : (v : List ℕ) → IsListed (take (k + 1) ms) v × HasQuotientsIn ds tables v
+          → IsListed (cs ++ m ∷ []) v
       from v (x, y) = go ((listed-more ms k v l).0 x)
         where
           go : IsListed (take k ms) v ⊎ (v ≡ get_or ms k []) → IsListed (cs ++ m ∷ []) v

@@ -46,7 +46,8 @@ module _ (C : ℕ → Type 0) (row : ℕ → List ℕ) (old : List (List ℕ)) w
   -- a row at a place with C
   pub gains-at : (k : ℕ) (mid new : List (List ℕ)) → C k → Gains (IsAmong C row k) old mid
       → new ≡ mid ++ row k ∷ [] → Gains (IsAmong C row (k + 1)) old new
-  gains-at k mid new c g e = gains-more (IsAmong C row k) (λ v. v ≡ row k) (IsAmong C row (k + 1)) old mid new g
+  gains-at k mid new c g e = gains-more (IsAmong C row k) (λ v. v ≡ row k) (IsAmong C row (k + 1)) old
+      mid new g
       (gains-push mid new (row k) e) (among-more C row k (row k) c refl)
 
   -- none at a place without

@@ -169,8 +169,10 @@ module _ (q n : ℕ) (G : GradedAlgebra q) (gs : List (Generator (Vector q))) (r
         vector-sum q G.mul (q * sign q (d i * d j) % suc q)
         (form_of_product q (degrees gs) tables (length ms) F e i j k)
         (form_of_product q (degrees gs) tables (length ms) F e j i k)
-        (length-combination q G.mul (length ms) (entry (row (product_rows tables (d i + e) i) k)) (rows_at F j)
-        ∙ sym (length-combination q G.mul (length ms) (entry (row (product_rows tables (d j + e) j) k)) (rows_at F i)))
+        (length-combination q G.mul (length ms) (entry (row (product_rows tables (d i + e) i) k))
+        (rows_at F j)
+        ∙ sym (length-combination q G.mul (length ms) (entry (row (product_rows tables (d j + e) j) k))
+        (rows_at F i)))
         ∙ ap₂ (λ v w. (vectors q G.mul).add v (times (vectors q G.mul) (q * sign q (d i * d j) % suc q) w))
         (form-vector i j e k il jl x kl) (form-vector j i e k jl il (omega (arith, x)) kl)
         ∙ ap ((vectors q G.mul).add (form_of q G.mul gs form i
@@ -252,15 +254,23 @@ module _ (q n : ℕ) (G : GradedAlgebra q) (gs : List (Generator (Vector q))) (r
           → IsExchange q G.mul gs (suc n) (product_in (degrees gs) tables) form v
           → IsInSpan (suc q) rows (λ j. (v j).0)
       exchange-spanned v X = spanned v
-          (exchange_row q (degrees gs) tables (length ms) F X.low X.first X.second s.0)
-          (X.first, il, inr (X.second, X.ordered, jl, record {
-            low = X.low;
-            place = s.0;
-            within = s.1;
-            degree_is = x ∙ sym B.tables_are.count;
-            clear = subst (λ (m : List ℕ). (k : ℕ) → k < X.first → exponent m k ≡ 0) (sym s.2) X.clear;
-            row_is = refl;
-          }))
+          (exchange_row q (degrees gs) tables (length ms) F X.low X.first X.second s.0) (
+            X.first,
+            il,
+            inr (
+              X.second,
+              X.ordered,
+              jl,
+              record {
+                low = X.low;
+                place = s.0;
+                within = s.1;
+                degree_is = x ∙ sym B.tables_are.count;
+                clear = subst (λ (m : List ℕ). (k : ℕ) → k < X.first → exponent m k ≡ 0) (sym s.2) X.clear;
+                row_is = refl;
+              },
+            ),
+          )
           (X.vector_is
           ∙ ap (exchange q G.mul gs (product_in (degrees gs) tables) form X.first X.second) (sym s.2)
           ∙ sym (exchange-vector X.first X.second X.low s.0 il jl x s.1))
@@ -282,16 +292,20 @@ module _ (q n : ℕ) (G : GradedAlgebra q) (gs : List (Generator (Vector q))) (r
           → IsSquare q G.mul gs (suc n) (product_in (degrees gs) tables) form v
           → IsInSpan (suc q) rows (λ j. (v j).0)
       square-spanned v X = spanned v
-          (form_of_product q (degrees gs) tables (length ms) F X.low X.generator X.generator s.0)
-          (X.generator, il, inl record {
-            low = X.low;
-            place = s.0;
-            exterior = subst (λ a. is_exterior q a ≡ true) (degree-power (degrees gs) X.generator il) X.exterior;
-            within = s.1;
-            degree_is = x ∙ sym B.tables_are.count;
-            clear = subst (λ (m : List ℕ). (k : ℕ) → k < X.generator → exponent m k ≡ 0) (sym s.2) X.clear;
-            row_is = refl;
-          })
+          (form_of_product q (degrees gs) tables (length ms) F X.low X.generator X.generator s.0) (
+            X.generator,
+            il,
+            inl record {
+              low = X.low;
+              place = s.0;
+              exterior = subst (λ a. is_exterior q a ≡ true) (degree-power (degrees gs) X.generator il)
+                  X.exterior;
+              within = s.1;
+              degree_is = x ∙ sym B.tables_are.count;
+              clear = subst (λ (m : List ℕ). (k : ℕ) → k < X.generator → exponent m k ≡ 0) (sym s.2) X.clear;
+              row_is = refl;
+            },
+          )
           (X.vector_is
           ∙ ap (λ m. form_of q G.mul gs form X.generator (product_in (degrees gs) tables X.generator m))
           (sym s.2)

@@ -48,7 +48,12 @@ exponent-small g e i s o l M = let h = exponents-small g e s [] o l record {
   left = e;
   right = 0;
   left_is = M;
-  right_is = record { within = tt; trimmed = tt; fitting = fits-nil (greatest g) g.degrees; degree_is = degree-nil g.degrees };
+  right_is = record {
+    within = tt;
+    trimmed = tt;
+    fitting = fits-nil (greatest g) g.degrees;
+    degree_is = degree-nil g.degrees;
+  };
   sum = omega arith;
 } i in omega (arith, h)
 

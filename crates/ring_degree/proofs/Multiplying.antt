@@ -54,10 +54,12 @@ swaps-before : (ds s : List ℕ) (i : ℕ) → i < length ds
     → swaps ds (power i 1) s ≡ degree (take i ds) s * get_or ds i 0
 swaps-before [] s i l = absurd (omega (arith, l))
 swaps-before (d ∷ ds) [] zero l = omega arith
-swaps-before (d ∷ ds) (e ∷ s) zero l = let a = degree-nil ds in let b = swaps-nil ds s in rw (a, b) (omega arith)
+swaps-before (d ∷ ds) (e ∷ s) zero l = let a = degree-nil ds in let b = swaps-nil ds s in rw (a, b)
+    (omega arith)
 swaps-before (d ∷ ds) [] (suc i) l = omega arith
 swaps-before (d ∷ ds) (e ∷ s) (suc i) l =
-    ap₂ (λ a b. a * (d * e) + b) (degree-power ds i (omega (arith, l))) (swaps-before ds s i (omega (arith, l)))
+    ap₂ (λ a b. a * (d * e) + b) (degree-power ds i (omega (arith, l)))
+    (swaps-before ds s i (omega (arith, l)))
     ∙ together (get_or ds i 0) (d * e) (degree (take i ds) s)
   where
     together : (a b c : ℕ) → a * b + c * a ≡ (b + c) * a
@@ -117,7 +119,8 @@ not-true false e = refl
 pub unfit-times : (q : ℕ) (ds s : List ℕ) (i : ℕ) → i < length ds → is_exterior q (get_or ds i 0) ≡ true
     → 0 < exponent s i → fits q ds (joined (power i 1) s) ≡ false
 unfit-times q ds s i l o b = let h = and-parts (not (eqb q 1)) (eqb (get_or ds i 0 % 2) 1) o in
-    fits-not q ds (joined (power i 1) s) i (λ e. false≢true (sym (not-true (eqb q 1) h.0) ∙ ap (λ q. eqb q 1) e))
+    fits-not q ds (joined (power i 1) s) i (λ e. false≢true (sym (not-true (eqb q 1) h.0)
+    ∙ ap (λ q. eqb q 1) e))
     l (eqb-true (get_or ds i 0 % 2) 1 h.1)
     (let a = exponent-joined (power i 1) s i in let c = power-here i 1 in omega (arith, a, b, c))
 

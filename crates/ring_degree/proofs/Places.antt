@@ -89,7 +89,8 @@ module _ (q : ℕ) (ds : List ℕ) (tables : List Table) (width : ℕ) (forms : 
     where
       to : IsSquareRow q ds tables width forms i v
           → IsAmong (IsClearAt tables e i) (form_of_product q ds tables width forms e i i) k v
-      to x = subst (λ a. IsAmong (IsClearAt tables a i) (form_of_product q ds tables width forms a i i) k v) same
+      to x = subst (λ a. IsAmong (IsClearAt tables a i) (form_of_product q ds tables width forms a i i)
+          k v) same
           (x.place, (let w = x.within in let z = same in rw (l, sym z) w), x.clear, x.row_is)
         where
           same : x.low ≡ e

@@ -80,7 +80,8 @@ module _ (q n : ℕ) (G : GradedAlgebra q) (gs : List (Generator (Vector q))) (r
 
     each-standard : (k i e : ℕ) (r : List ℕ) → k < length cs
         → IsQuotient q (degrees gs) i e r (slice_index_or cs k []) → IsStandard q (algebra q G) gs e r
-    each-standard k i e r l Q = let x = quotient-is i e r (slice_index_or cs k []) (some-candidates.each k l) Q in
+    each-standard k i e r l Q = let x = quotient-is i e r (slice_index_or cs k [])
+        (some-candidates.each k l) Q in
         subst (λ a. IsStandard q (algebra q G) gs a r) (sym x.2)
         (subst (IsStandardOf q (algebra q G) gs (suc n - at_generator (degrees gs) i)) x.0
         ((listed q n G gs rs tables B (suc n - at_generator (degrees gs) i)

@@ -13,7 +13,8 @@ use Rattle.ring_degree.specs.Tables.{AreMatrices, AreTables}
 
 -- tables of lower degrees, and for each generator the rows over a list of so many members of its products of
 -- the next degree
-pub record ArePairs (g : Generators) (tables : List Table) (width : ℕ) (forms : List MatrixValue) : Type 0 where
+pub record ArePairs (g : Generators) (tables : List Table) (width : ℕ)
+    (forms : List MatrixValue) : Type 0 where
   pub small : length tables ≤ GREATEST_DEGREE
   pub below : All (λ e. e < length tables) g.degrees
   pub tables_are : AreTables g tables

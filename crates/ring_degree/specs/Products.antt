@@ -24,6 +24,7 @@ IsProductIn q ds tables d m = (i : ℕ) × (i < length ds)
     × IsProductWith q ds i (standard_at tables (d - at_generator ds i)) m
 
 -- ms are all of these, in descending order
-pub record AreProductsIn (q : ℕ) (ds : List ℕ) (tables : List Table) (d : ℕ) (ms : List (List ℕ)) : Type 0 where
+pub record AreProductsIn (q : ℕ) (ds : List ℕ) (tables : List Table) (d : ℕ)
+    (ms : List (List ℕ)) : Type 0 where
   pub descending : IsDescending ms
   pub members : (m : List ℕ) → IsListed ms m ↔ IsProductIn q ds tables d m
