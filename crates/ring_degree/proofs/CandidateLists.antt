@@ -1,6 +1,6 @@
 -- The candidates of a list, one member after another.
-use Rattle.std.proofs.Common.{◌≡◌, ℕ, zero, suc, ◌+◌, ◌<◌, ◌≤◌, ◌↔◌, List, [], ◌∷◌, ◌++◌, ◌⊎◌, inl, inr, length}
-use Rattle.std.proofs.Common.{take, get_or, arith, ap, sym, subst, ◌∙◌, refl}
+use Rattle.std.proofs.Common.{◌≡◌, ℕ, ◌+◌, ◌<◌, ◌≤◌, List, [], ◌∷◌, ◌++◌, ◌⊎◌, inl, inr, length, take, get_or}
+use Rattle.std.proofs.Common.{arith, sym, subst, ◌∙◌, refl}
 use Rattle.std.specs.Prelude.{All}
 use Rattle.std.proofs.lemmas.Bool.{cases_lt}
 use Rattle.std.proofs.lemmas.List.{get_or-take, length-take, get_or_push, get_or_append_left, length_push}
@@ -8,7 +8,6 @@ use Rattle.std.proofs.lemmas.List.Elements.{All-from_get_or, All-get_or}
 use Rattle.graded_polynomials.specs.Monomials.{IsGreater}
 use Rattle.gc_poly.specs.Lists.{IsDescending}
 use Rattle.ring_completion.specs.Candidates.{IsListed}
-use Rattle.ring_degree.specs.Products.{Gains}
 use Rattle.ring_degree.specs.Rests.{HasQuotientsIn, AreCandidatesIn}
 use Rattle.ring_degree.specs.declared.table.Table.{Table}
 use Rattle.ring_degree.proofs.Gaining.{listed-more, gains-push}

@@ -1,13 +1,12 @@
 -- The rows of exchanges and squares over the products of the tables are critical rows.
-use Rattle.std.proofs.Common.{◌≡◌, ℕ, zero, suc, ◌+◌, ◌-◌, ◌*◌, ◌%◌, ◌<◌, ◌≤◌, ◌↔◌, ◌≢◌, List, [], ◌∷◌, length, map}
-use Rattle.std.proofs.Common.{true, false, ◌⊎◌, inl, inr, arith, ap, ap₂, sym, subst, ◌∙◌, refl}
+use Rattle.std.proofs.Common.{◌≡◌, ℕ, zero, suc, ◌+◌, ◌-◌, ◌*◌, ◌%◌, ◌<◌, ◌≤◌, ◌↔◌, ◌≢◌, List, [], ◌∷◌}
+use Rattle.std.proofs.Common.{length, map, true, false, ◌⊎◌, inl, inr, arith, ap, ap₂, sym, subst, ◌∙◌, refl}
 use Rattle.std.specs.Prelude.{slice_index_or}
 use Rattle.std.specs.List.{AllByRecursion as Each}
 use Rattle.std.proofs.lemmas.Bool.{cases_Bool}
 use Rattle.fp_rows.specs.Values.{MatrixValue}
 use Rattle.linear_algebra.specs.Rows.{entry, row, combination_row, IsInSpan}
 use Rattle.linear_algebra.proofs.Congruences.{congruent_mod, congruent_sym, congruent_trans, congruent_eq}
-use Rattle.linear_algebra.proofs.RowLemmas.{length-add_multiple}
 use Rattle.linear_algebra.proofs.Spans.{in_span_row, in_span_congruent}
 use Rattle.graded_polynomials.specs.Monomials.{IsMonomial, IsGreater, degree, exponent, fits, is_exterior}
 use Rattle.graded_polynomials.specs.Monomials.{joined, same, sign, swaps}
@@ -30,14 +29,11 @@ use Rattle.ring_completion.specs.Eliminations.{AreForms, AreCritical, IsExchange
 use Rattle.ring_completion.proofs.FormRows.{form-of-listed}
 use Rattle.ring_completion.proofs.ListedCandidates.{generator-at}
 use Rattle.ring_completion.proofs.Listings.{degree-power, within-length}
-use Rattle.ring_degree.specs.Critical.{form_of_product, exchange_row, IsExchangeRow, IsSquareRow}
-use Rattle.ring_degree.specs.Critical.{IsCriticalWith, IsCriticalRow}
-use Rattle.ring_degree.specs.Products.{AreProductsIn}
+use Rattle.ring_degree.specs.Critical.{form_of_product, exchange_row, IsCriticalRow}
 use Rattle.ring_degree.specs.Steps.{IsRingBelow}
-use Rattle.ring_degree.specs.Tables.{at_generator, lists, standard_at, rows_at, product_rows, product_in}
-use Rattle.ring_degree.specs.Tables.{place_of}
+use Rattle.ring_degree.specs.Tables.{at_generator, standard_at, rows_at, product_rows, product_in, place_of}
 use Rattle.ring_degree.specs.declared.table.Table.{Table}
-use Rattle.ring_degree.proofs.Degrees.{listed, rest, are-reached}
+use Rattle.ring_degree.proofs.Degrees.{listed}
 use Rattle.ring_degree.proofs.FormVectors.{vector-sum, vector-combination, length-combination}
 
 -- a member of a descending list stands at its place

@@ -1,8 +1,8 @@
 -- The standard monomials of the tables, and the monomials of the next degree with a standard quotient.
 use Rattle.std.proofs.Common.{◌≡◌, ℕ, zero, suc, ◌+◌, ◌-◌, ◌<◌, ◌≤◌, ◌↔◌, List, [], ◌∷◌, length, drop, arith}
-use Rattle.std.proofs.Common.{ap, sym, subst, ◌∙◌, refl}
+use Rattle.std.proofs.Common.{sym, subst, refl}
 use Rattle.std.specs.Prelude.{slice_index_or}
-use Rattle.graded_polynomials.specs.Monomials.{IsMonomial, joined}
+use Rattle.graded_polynomials.specs.Monomials.{IsMonomial}
 use Rattle.graded_polynomials.specs.Polynomials.{Polynomial}
 use Rattle.graded_polynomials.specs.Texts.{power}
 use Rattle.graded_polynomials.proofs.Monomials.{monomial-joined}

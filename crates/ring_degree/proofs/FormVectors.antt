@@ -1,12 +1,11 @@
 -- Rows of combinations as vectors.
-use Rattle.std.proofs.Common.{◌≡◌, ℕ, zero, suc, ◌+◌, ◌*◌, ◌%◌, ◌<◌, ◌≤◌, List, [], ◌∷◌, length, map, replicate}
-use Rattle.std.proofs.Common.{◌⊎◌, inl, inr, arith, ap, ap₂, sym, ◌∙◌, refl}
+use Rattle.std.proofs.Common.{◌≡◌, ℕ, zero, suc, ◌+◌, ◌*◌, ◌%◌, ◌<◌, ◌≤◌, List, [], ◌∷◌, length, map, ◌⊎◌}
+use Rattle.std.proofs.Common.{inl, inr, arith, ap, sym, ◌∙◌, refl}
 use Rattle.std.proofs.Math.Path.{fun_ext}
 use Rattle.std.proofs.lemmas.Bool.{cases_lt}
 use Rattle.std.proofs.lemmas.List.{get_or_past, length-replicate}
 use Rattle.fp_rows.proofs.SolvingLemmas.{entry_zeros}
-use Rattle.linear_algebra.specs.Modular.{IsCongruent}
-use Rattle.linear_algebra.specs.Rows.{entry, IsRow, add_multiple, combination_row}
+use Rattle.linear_algebra.specs.Rows.{entry, add_multiple, combination_row}
 use Rattle.linear_algebra.proofs.Congruences.{congruent_mod}
 use Rattle.linear_algebra.proofs.RowLemmas.{length-add_multiple, entry-add_multiple}
 use Rattle.graded_algebra.specs.Algebras.{linear, times}

@@ -1,10 +1,9 @@
 -- Products of generators with monomials, exponent by exponent.
-use Rattle.std.proofs.Common.{◌≡◌, ◌≢◌, ℕ, zero, suc, ◌+◌, ◌-◌, ◌*◌, ◌%◌, ◌<◌, ◌≤◌, max, Bool, true, false, not}
-use Rattle.std.proofs.Common.{◌&&◌, ◌||◌, eqb, leb, cond, List, [], ◌∷◌, ◌++◌, ◌⊎◌, inl, inr, length, take, get_or}
+use Rattle.std.proofs.Common.{◌≡◌, ◌≢◌, ℕ, zero, suc, ◌+◌, ◌*◌, ◌%◌, ◌<◌, ◌≤◌, max, Bool, true, false, not}
+use Rattle.std.proofs.Common.{◌&&◌, ◌||◌, eqb, leb, List, [], ◌∷◌, ◌++◌, ◌⊎◌, inl, inr, length, take, get_or}
 use Rattle.std.proofs.Common.{add-one, arith, ap, ap₂, sym, ◌∙◌, refl}
-use Rattle.std.proofs.lemmas.Bool.{cases_Bool, cases_eq, cases_lt, false≢true}
-use Rattle.std.proofs.lemmas.Bool.Decides.{nat_tests}
-use Rattle.std.proofs.lemmas.List.{get_or_push, get_or_append_left, get_or_past, length_push}
+use Rattle.std.proofs.lemmas.Bool.{cases_eq, cases_lt, false≢true}
+use Rattle.std.proofs.lemmas.List.{get_or_push, get_or_append_left, get_or_past}
 use Rattle.linear_algebra.specs.Modular.{IsCongruent}
 use Rattle.linear_algebra.proofs.Congruences.{congruent_add, congruent_mul_right, congruent_mod, congruent_eq}
 use Rattle.graded_polynomials.specs.Monomials.{exponent, degree, fits, is_exterior, joined, sign, swaps}
@@ -16,7 +15,7 @@ use Rattle.graded_polynomials.proofs.Terms.{eqb-true, eqb-false}
 use Rattle.graded_algebra.proofs.Ideals.{degree-nil, fits-nil, swaps-nil}
 use Rattle.gc_poly.proofs.Joining.{joined-step, joined-end, fits-not}
 use Rattle.ring_completion.specs.Listings.{without_factor}
-use Rattle.ring_completion.proofs.Factors.{joined-right, length-power, power-here, power-elsewhere}
+use Rattle.ring_completion.proofs.Factors.{joined-right, length-power, power-here}
 use Rattle.ring_completion.proofs.Listings.{degree-power, without-trimmed, without-joined}
 use Rattle.ring_completion.proofs.Quotients.{power-trimmed}
 

@@ -1,7 +1,6 @@
 -- Rows that are pushed at some of the places of a loop.
-use Rattle.std.proofs.Common.{◌≡◌, ℕ, suc, ◌+◌, ◌<◌, ◌≤◌, ◌↔◌, true, List, [], ◌⊎◌, inl, inr, length, arith}
-use Rattle.std.proofs.Common.{sym, subst}
-use Rattle.std.proofs.Common.{◌∙◌, refl}
+use Rattle.std.proofs.Common.{◌≡◌, ℕ, ◌+◌, ◌<◌, ◌↔◌, true, List, [], ◌⊎◌, inl, inr, length, arith, sym, subst}
+use Rattle.std.proofs.Common.{◌∙◌}
 use Rattle.std.specs.Prelude.{slice_index_or}
 use Rattle.std.proofs.lemmas.Bool.{cases_eq}
 use Rattle.graded_polynomials.specs.Monomials.{is_exterior}

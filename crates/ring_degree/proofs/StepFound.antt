@@ -1,6 +1,6 @@
 -- What the body has found of the next degree.
-use Rattle.std.proofs.Common.{◌≡◌, ℕ, zero, suc, ◌+◌, ◌-◌, ◌<◌, ◌≤◌, ◌↔◌, List, [], ◌∷◌, All, length, get_or, map}
-use Rattle.std.proofs.Common.{arith, ap, sym, subst, ◌∙◌, refl}
+use Rattle.std.proofs.Common.{◌≡◌, ℕ, suc, ◌-◌, ◌<◌, ◌≤◌, ◌↔◌, List, [], All, length, get_or, map, arith, ap}
+use Rattle.std.proofs.Common.{sym, subst, ◌∙◌, refl}
 use Rattle.std.proofs.lemmas.List.Elements.{All-from_get_or, All-get_or}
 use Rattle.fp_rows.specs.Values.{MatrixValue}
 use Rattle.linear_algebra.specs.Rows.{row, IsEchelonOf, IsMatrix}
@@ -26,7 +26,6 @@ use Rattle.ring_degree.specs.Steps.{IsRingBelow, IsStep}
 use Rattle.ring_degree.specs.Tables.{at_generator, standard_at, product_rows, rows_at, AreMatrices, AreTables}
 use Rattle.ring_degree.specs.declared.step.Step.{Step}
 use Rattle.ring_degree.specs.declared.table.Table.{Table}
-use Rattle.ring_degree.proofs.Degrees.{are-reached}
 use Rattle.ring_degree.proofs.LeftSome.{some-left}
 use Rattle.ring_degree.proofs.Lookups.{generator-below, rows-are}
 use Rattle.ring_degree.proofs.StepMeaning.{are-step}

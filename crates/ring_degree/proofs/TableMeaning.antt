@@ -1,6 +1,6 @@
 -- The table of the next degree is that of its standard monomials and their products.
-use Rattle.std.proofs.Common.{◌≡◌, ℕ, zero, suc, ◌+◌, ◌-◌, ◌<◌, ◌≤◌, List, [], ◌∷◌, ◌++◌, length, map, replicate, drop}
-use Rattle.std.proofs.Common.{◌⊎◌, inl, inr, arith, ap, sym, subst, ◌∙◌, refl}
+use Rattle.std.proofs.Common.{◌≡◌, ℕ, zero, suc, ◌+◌, ◌-◌, ◌<◌, ◌≤◌, List, [], ◌∷◌, ◌++◌, length, map}
+use Rattle.std.proofs.Common.{replicate, drop, ◌⊎◌, inl, inr, arith, ap, sym, subst, ◌∙◌, refl}
 use Rattle.std.specs.Prelude.{slice_index_or}
 use Rattle.std.specs.List.{AllByRecursion as Each}
 use Rattle.std.proofs.lemmas.Bool.{cases_lt}
@@ -8,7 +8,7 @@ use Rattle.std.proofs.lemmas.List.{length-append, length-map, length-replicate, 
 use Rattle.fp_rows.specs.Values.{MatrixValue}
 use Rattle.linear_algebra.specs.Kernels.{IsKernelOf}
 use Rattle.linear_algebra.specs.Rows.{row}
-use Rattle.graded_polynomials.specs.Monomials.{IsMonomial, degree, joined}
+use Rattle.graded_polynomials.specs.Monomials.{IsMonomial}
 use Rattle.graded_polynomials.specs.Polynomials.{Term, Polynomial, scaled}
 use Rattle.graded_polynomials.specs.Texts.{power}
 use Rattle.graded_polynomials.proofs.Monomials.{only-one}
@@ -23,8 +23,8 @@ use Rattle.presentation_rows.specs.RowPolynomials.{polynomial_of, row_of}
 use Rattle.presentation_rows.specs.Values.{AreValues}
 use Rattle.presentation_rows.proofs.RowTerms.{row-of-is-row}
 use Rattle.ring_completion.specs.Candidates.{AreSome, IsListed, AreLeft}
-use Rattle.ring_completion.specs.Completions.{degree_of, generator_times, IsGenerator, IsStandardOf, IsReduced}
-use Rattle.ring_completion.specs.Completions.{AreProducts}
+use Rattle.ring_completion.specs.Completions.{degree_of, generator_times, IsGenerator, IsStandardOf}
+use Rattle.ring_completion.specs.Completions.{IsReduced, AreProducts}
 use Rattle.ring_completion.specs.Listings.{AreStandardLists}
 use Rattle.ring_completion.specs.Left.{without_pivots}
 use Rattle.ring_completion.proofs.AddedGenerators.{ideal-up}
@@ -39,7 +39,7 @@ use Rattle.ring_completion.proofs.Stays.{monomial-up, monomial-down, standard-do
 use Rattle.ring_degree.specs.Rests.{IsRest, AreRests}
 use Rattle.ring_degree.specs.Steps.{IsRingBelow, IsStep}
 use Rattle.ring_degree.specs.Tables.{at_generator, lists, standard_at, rows_at, product_rows, product_in}
-use Rattle.ring_degree.specs.Tables.{products_at, place_of, AreTablesOf}
+use Rattle.ring_degree.specs.Tables.{place_of, AreTablesOf}
 use Rattle.ring_degree.specs.declared.step.Step.{Step}
 use Rattle.ring_degree.specs.declared.table.Table.{Table}
 use Rattle.ring_degree.proofs.AddedTable.{standard-old, standard-new, rows-old, rows-new, lists-drop}

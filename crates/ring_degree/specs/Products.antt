@@ -1,5 +1,5 @@
 -- The monomials of a degree that are products of a generator with a standard monomial of the tables.
-use Rattle.std.specs.Prelude.{◌≡◌, ℕ, ◌-◌, ◌<◌, ◌⊎◌, ◌↔◌, true, List, [], length, slice_index_or}
+use Rattle.std.specs.Prelude.{◌≡◌, ℕ, ◌-◌, ◌<◌, ◌⊎◌, ◌↔◌, true, List, length}
 use Rattle.graded_polynomials.specs.Monomials.{fits, joined}
 use Rattle.graded_polynomials.specs.Texts.{power}
 use Rattle.gc_poly.specs.Lists.{IsDescending}

@@ -1,4 +1,4 @@
-use Rattle.std.proofs.Common.{arith, ap, ◌∙◌, sym}
+use Rattle.std.proofs.Common.{arith, ap, ◌∙◌}
 use Rattle.graded_polynomials.specs.Monomials.{exponent}
 use Rattle.graded_polynomials.specs.Texts.{power}
 use Rattle.ring_completion.proofs.Factors.{power-here, power-elsewhere}

@@ -1,4 +1,4 @@
-use Rattle.std.proofs.Common.{◌-◌, arith, ap, sym, ◌∙◌}
+use Rattle.std.proofs.Common.{◌-◌, ap, sym, ◌∙◌}
 use Rattle.graded_polynomials.specs.Monomials.{swaps}
 use Rattle.graded_polynomials.specs.Texts.{power}
 use Rattle.ring_degree.proofs.Multiplying.{parity-of-swaps, sign-even, sign-odd}

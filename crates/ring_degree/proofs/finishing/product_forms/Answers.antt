@@ -1,4 +1,4 @@
-use Rattle.std.proofs.Common.{◌≡◌, ◌-◌, ◌<◌, ◌≤◌, ◌++◌, ◌∷◌, [], List, length, get_or, map, replicate, arith, ap, sym, subst, ◌∙◌}
+use Rattle.std.proofs.Common.{◌-◌, ◌<◌, ◌++◌, length, get_or, map, replicate, arith, ap, sym, subst, ◌∙◌}
 use Rattle.fp_rows.specs.Values.{MatrixValue}
 use Rattle.gc_poly.specs.Generators.{greatest}
 use Rattle.ring_completion.specs.Candidates.{AreSome}

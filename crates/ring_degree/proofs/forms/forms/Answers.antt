@@ -1,6 +1,5 @@
 use Rattle.std.proofs.Common.{◌≡◌, ℕ, ◌+◌, ◌-◌, ◌<◌, List, length, map, arith, sym, subst, ap, ◌∙◌}
 use Rattle.std.proofs.lemmas.List.{length_push}
-use Rattle.fp_rows.specs.Values.{MatrixValue}
 use Rattle.presentation_rows.specs.RowPolynomials.{row_of}
 use Rattle.ring_completion.specs.Candidates.{AreSome}
 use Rattle.ring_completion.specs.Completions.{generator_times}

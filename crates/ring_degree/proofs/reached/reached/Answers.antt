@@ -1,6 +1,6 @@
-use Rattle.std.proofs.Common.{◌≡◌, ℕ, ◌-◌, ◌<◌, ◌≤◌, ◌↔◌, List, length, get_or, [], arith, sym, subst, ap, refl, ◌∙◌}
+use Rattle.std.proofs.Common.{◌≡◌, ℕ, ◌-◌, ◌<◌, ◌↔◌, List, length, arith, sym, subst, ap, ◌∙◌}
 use Rattle.ring_completion.specs.Candidates.{AreSome, IsListed}
-use Rattle.ring_degree.specs.Products.{IsProductWith, IsProductIn}
+use Rattle.ring_degree.specs.Products.{IsProductWith}
 use Rattle.ring_degree.specs.Tables.{at_generator, standard_at}
 use Rattle.ring_degree.proofs.Gaining.{one-more}
 use Rattle.ring_degree.proofs.Lookups.{standard-is, generator-below}

@@ -1,10 +1,11 @@
-use Rattle.std.proofs.Common.{◌≡◌, ◌<◌, ◌+◌, ◌-◌, suc, arith, ap, sym, subst, length, get_or, ◌∙◌}
+use Rattle.std.proofs.Common.{◌<◌, ◌+◌, arith, ap, sym, length, get_or, ◌∙◌}
 use Rattle.fp_rows.specs.Refs.{entries_of}
 use Rattle.fp_rows.specs.Values.{RowValue}
 use Rattle.linear_algebra.specs.Rows.{row}
 use Rattle.ring_degree.specs.Tables.{at_generator}
-use Rattle.ring_degree.proofs.Lookups.{product-inside, product-matrix, product-row, product-length, form-matrix}
-use Rattle.ring_degree.proofs.Lookups.{form-count, form-prime, form-width, form-there, rows-are, combined, prime-is}
+use Rattle.ring_degree.proofs.Lookups.{product-inside, product-matrix, product-row, product-length}
+use Rattle.ring_degree.proofs.Lookups.{form-count, form-prime, form-width, form-there, rows-are, combined}
+use Rattle.ring_degree.proofs.Lookups.{prime-is}
 use Rattle.ring_degree.proofs.critical.Pairs.form_of_product.Goals as goal
 
 pub matrix_of-requires : goal.matrix_of-requires
