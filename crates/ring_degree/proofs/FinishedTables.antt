@@ -1,11 +1,11 @@
 -- The table of the next degree as it is found.
-use Rattle.std.proofs.Common.{◌≡◌, ℕ, zero, suc, ◌+◌, ◌-◌, ◌<◌, ◌≤◌, ◌⊎◌, inl, inr, List, [], ◌∷◌, ◌++◌, length, map, replicate}
-use Rattle.std.proofs.Common.{arith, ap, sym, subst, ◌∙◌, refl}
+use Rattle.std.proofs.Common.{◌≡◌, ℕ, zero, suc, ◌+◌, ◌-◌, ◌<◌, ◌≤◌, ◌⊎◌, inl, inr, List, [], ◌∷◌, ◌++◌}
+use Rattle.std.proofs.Common.{length, map, replicate, arith, ap, sym, subst, ◌∙◌}
 use Rattle.std.specs.Prelude.{slice_index_or, All}
 use Rattle.std.specs.List.{AllByRecursion as Each}
 use Rattle.std.proofs.lemmas.Bool.{cases_lt}
-use Rattle.std.proofs.lemmas.List.{get_or_append_left, get_or_push, length-map, length_push}
-use Rattle.std.proofs.lemmas.List.{get_or-append-add, length-append}
+use Rattle.std.proofs.lemmas.List.{get_or_append_left, get_or-append-add, length-append, length-map}
+use Rattle.std.proofs.lemmas.List.{length_push}
 use Rattle.std.proofs.lemmas.List.Elements.{All-get_or}
 use Rattle.fp_rows.specs.Values.{MatrixValue}
 use Rattle.linear_algebra.specs.Kernels.{IsKernelOf}
@@ -21,7 +21,6 @@ use Rattle.presentation_rows.specs.Values.{AreValues}
 use Rattle.ring_completion.specs.Candidates.{AreSome, AreLeft}
 use Rattle.ring_completion.specs.Completions.{generator_times}
 use Rattle.ring_completion.specs.Left.{without_pivots}
-use Rattle.ring_completion.proofs.LeftLists.{stood, left-descend}
 use Rattle.ring_completion.proofs.Stays.{monomial-down}
 use Rattle.ring_degree.specs.Finishing.{AreFormsBelow, HasNewGenerators, IsProductForm}
 use Rattle.ring_degree.specs.Rests.{AreRests}
@@ -30,28 +29,10 @@ use Rattle.ring_degree.specs.Tables.{AreMatrices, AreTables, AreTablesOf, at_gen
 use Rattle.ring_degree.specs.Tables.{products_at}
 use Rattle.ring_degree.specs.declared.step.Step.{Step}
 use Rattle.ring_degree.specs.declared.table.Table.{Table}
+use Rattle.ring_degree.proofs.LeftSome.{some-left}
 use Rattle.ring_degree.proofs.Lookups.{rows-are}
-use Rattle.ring_degree.proofs.TableMeaning.{standard-old, standard-new, products-old, products-new, tables-of}
-
--- what stands of a list at no pivots
-some-left : (q d : ℕ) (ds : List ℕ) (kernel ms : List (List ℕ)) → AreSome q ds d ms
-    → AreSome q ds d (without_pivots kernel 0 ms)
-some-left q d ds kernel ms S = record {
-  each = λ i l. let s = stood kernel 0 ms i l in subst (IsMonomial q ds d) (sym s.2) (S.each s.0 s.1);
-  descending = left-descend kernel 0 ms S.descending;
-}
-
--- one more member
-pub each-pushed : (P : ℕ → MatrixValue → Type 0) (old new : List MatrixValue) (i : ℕ) (x : MatrixValue)
-    → length old ≡ i → ((j : ℕ) (m : MatrixValue) → j < i → P j (slice_index_or old j m)) → P i x
-    → new ≡ old ++ x ∷ [] → (j : ℕ) (m : MatrixValue) → j < i + 1 → P j (slice_index_or new j m)
-each-pushed P old new i x c h p e j m l = subst (λ ms. P j (slice_index_or ms j m)) (sym e)
-    (go (cases_lt j i))
-  where
-    go : (j < i) ⊎ (i ≤ j) → P j (slice_index_or (old ++ x ∷ []) j m)
-    go (inl b) = subst (P j) (sym (get_or_append_left old (x ∷ []) m j (omega (arith, b, c)))) (h j m b)
-    go (inr b) = let s : i ≡ j = omega (arith, b, l) in
-        subst (P j) (sym (get_or_push old x m j (c ∙ s))) (subst (λ k. P k x) s p)
+use Rattle.ring_degree.proofs.AddedTable.{standard-old, standard-new, products-old, products-new}
+use Rattle.ring_degree.proofs.TableMeaning.{tables-of}
 
 module _ (g : Generators) (tables : List Table) (n : ℕ) (size : length tables ≡ suc n)
     (forms : List MatrixValue) (width : ℕ) (left kernel : List (List ℕ)) (T : AreTables g tables)
@@ -75,7 +56,8 @@ module _ (g : Generators) (tables : List Table) (n : ℕ) (size : length tables 
   none : MatrixValue
   none = record { p = 0; width = 0; rows = [] }
 
-  form : (i : ℕ) → i < length g.degrees → IsProductForm g tables forms left width i (slice_index_or wide i none)
+  form : (i : ℕ) → i < length g.degrees → IsProductForm g tables forms left width i
+      (slice_index_or wide i none)
   form i l = W i none l
 
   wide-rows : (i : ℕ) → i < length g.degrees → rows_at wide i ≡ (slice_index_or wide i none).rows
@@ -145,9 +127,11 @@ module _ (g : Generators) (tables : List Table) (n : ℕ) (size : length tables 
                 ∙ ap length (sym (counted i k));
           })))
         where
-          counted : (i : ℕ) → i < length g.degrees → standard_at all (length tables - at_generator g.degrees i)
+          counted : (i : ℕ) → i < length g.degrees
+              → standard_at all (length tables - at_generator g.degrees i)
               ≡ standard_at tables (length tables - at_generator g.degrees i)
-          counted i k = old (length tables - at_generator g.degrees i) (let z = low i k in omega (arith, z, size))
+          counted i k = old (length tables - at_generator g.degrees i)
+              (let z = low i k in omega (arith, z, size))
 
           prime-at : (i : ℕ) (m : MatrixValue) → i < length t.products.items
               → (slice_index_or t.products.items i m).p ≡ p
@@ -155,14 +139,20 @@ module _ (g : Generators) (tables : List Table) (n : ℕ) (size : length tables 
 
           width-at : (i : ℕ) (m : MatrixValue) → i < length t.products.items
               → (slice_index_or t.products.items i m).width ≡ length t.standard
-          width-at i m k = All-get_or (λ (m : MatrixValue). m.width ≡ length t.standard) t.products.items i m k
+          width-at i m k = All-get_or (λ (m : MatrixValue). m.width ≡ length t.standard)
+              t.products.items i m k
               widths
 
           matrix : (i : ℕ) → i < length t.products.items
               → IsMatrix g.prime (length t.standard) (rows_at t.products.items i)
-          matrix i k = rw (rows-are t.products.items i none k, sym (prime-at i none k ∙ prime),
-              sym (width-at i none k))
-              (All-get_or (λ (m : MatrixValue). IsMatrix m.p m.width m.rows) t.products.items i none k matrices)
+          matrix i k = subst (λ p. IsMatrix p (length t.standard) (rows_at t.products.items i))
+              (prime-at i none k ∙ prime)
+              (subst (λ w. IsMatrix (slice_index_or t.products.items i none).p w (rows_at t.products.items i))
+              (width-at i none k)
+              (subst (IsMatrix (slice_index_or t.products.items i none).p
+              (slice_index_or t.products.items i none).width) (sym (rows-are t.products.items i none k))
+              (All-get_or (λ (m : MatrixValue). IsMatrix m.p m.width m.rows) t.products.items i none k
+              matrices)))
 
   -- the table is that of any algebra with these tables, forms, values and kernel
   pub are-tables-of : (G : GradedAlgebra (greatest g)) (gs later : List (Generator (Vector (greatest g))))
@@ -180,7 +170,8 @@ module _ (g : Generators) (tables : List Table) (n : ℕ) (size : length tables 
       subst (λ k. AreTablesOf q G (gs ++ later) k all) (sym size)
       (tables-of q n G gs later rs tables B here' x X left extra values kernel em L V K
       (λ e b. down e b (T.monomials e (omega (arith, b, size)))) (length left - width) wide t standard-is
-      (λ i k b c. (form i (more i b)).lengths (under i b) k
+      (λ i k b c. ap (λ (fs : List MatrixValue). length (row (rows_at fs i) k)) ef
+      ∙ (form i (more i b)).lengths (under i b) k
       (subst (λ (fs : List MatrixValue). k < length (rows_at fs i)) ef c) ∙ sym el)
       (omega (arith, el, wider))
       (λ i b. subst (λ (fs : List MatrixValue). length (rows_at fs i)
@@ -189,7 +180,8 @@ module _ (g : Generators) (tables : List Table) (n : ℕ) (size : length tables 
       ∙ ap (λ k. length (standard_at tables (k - at_generator g.degrees i))) size
       ∙ ap (λ k. length (standard_at tables (suc n - k))) (same i b)))
       (λ i b. wide-rows i (more i b) ∙ (form i (more i b)).old (under i b)
-      ∙ ap (λ (fs : List MatrixValue). map (λ v. v ++ replicate (length left - width) 0) (rows_at fs i)) (sym ef))
+      ∙ ap (λ (fs : List MatrixValue). map (λ v. v ++ replicate (length left - width) 0) (rows_at fs i))
+      (sym ef))
       (λ i b c. (
         wide-rows i (inside i c) ∙ (form i (inside i c)).new (over i b c)
             ∙ ap (λ ds. row_of q left (generator_times q ds i []) ∷ []) (sym de),
@@ -198,7 +190,7 @@ module _ (g : Generators) (tables : List Table) (n : ℕ) (size : length tables 
       (λ i c. subst (λ p. AreRests p kernel (rows_at wide i) (rows_at t.products.items i)) (prime ∙ sym pe)
       (rests i (let z = inside i c in omega (arith, z, count)))))
     where
-      abbrev q : ℕ
+      q : ℕ
       q = greatest g
 
       at-n : length tables - 1 ≡ n
@@ -267,7 +259,9 @@ module _ (g : Generators) (tables : List Table) (n : ℕ) (size : length tables 
       down : (e : ℕ) → e ≤ n → AreSome q g.degrees e (standard_at tables e)
           → AreSome q (degrees gs) e (standard_at tables e)
       down e b s = record {
-        each = λ i l. monomial-down q (algebra q G) gs later n above e b (slice_index_or (standard_at tables e) i [])
-            (subst (λ ds. IsMonomial q ds e (slice_index_or (standard_at tables e) i [])) (sym de) (s.each i l));
+        each = λ i l. monomial-down q (algebra q G) gs later n above e b
+            (slice_index_or (standard_at tables e) i [])
+            (subst (λ ds. IsMonomial q ds e (slice_index_or (standard_at tables e) i [])) (sym de)
+            (s.each i l));
         descending = s.descending;
       }

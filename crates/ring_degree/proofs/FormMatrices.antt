@@ -1,9 +1,8 @@
 -- The matrices of products, one generator after another.
-use Rattle.std.proofs.Common.{◌≡◌, ℕ, zero, suc, ◌+◌, ◌-◌, ◌<◌, ◌≤◌, List, [], ◌∷◌, ◌++◌, ◌⊎◌, inl, inr, length}
-use Rattle.std.proofs.Common.{get_or, map, take, arith, ap, sym, subst, ◌∙◌, refl}
-use Rattle.std.proofs.lemmas.Bool.{cases_eq}
-use Rattle.std.proofs.lemmas.List.{get_or_push, get_or_append_left, length-map, take_more}
-use Rattle.linear_algebra.specs.Rows.{row, IsRow, IsMatrix}
+use Rattle.std.proofs.Common.{◌≡◌, ℕ, zero, suc, ◌+◌, ◌-◌, ◌<◌, List, [], ◌∷◌, ◌++◌, length, get_or, map}
+use Rattle.std.proofs.Common.{take, arith, ap, sym, subst, ◌∙◌}
+use Rattle.std.proofs.lemmas.List.{length-map, map-append, take_more}
+use Rattle.linear_algebra.specs.Rows.{IsRow, IsMatrix}
 use Rattle.fp_rows.specs.Values.{MatrixValue}
 use Rattle.gc_poly.specs.Generators.{Generators, greatest}
 use Rattle.presentation_rows.specs.RowPolynomials.{row_of}
@@ -12,10 +11,6 @@ use Rattle.ring_completion.specs.Completions.{generator_times}
 use Rattle.ring_degree.specs.Tables.{at_generator, standard_at, rows_at, AreMatrices}
 use Rattle.ring_degree.specs.declared.table.Table.{Table}
 use Rattle.ring_degree.proofs.Lookups.{rows-are}
-
-map-append : (f : List ℕ → List ℕ) (xs ys : List (List ℕ)) → map f (xs ++ ys) ≡ map f xs ++ map f ys
-map-append f [] ys = refl
-map-append f (x ∷ xs) ys = ap (λ zs. f x ∷ zs) (map-append f xs ys)
 
 -- one more row
 pub mapped-more : (f : List ℕ → List ℕ) (ss : List (List ℕ)) (k : ℕ) (s x : List ℕ) (old new : List (List ℕ))
@@ -34,18 +29,6 @@ module _ (g : Generators) (tables : List Table) (ms : List (List ℕ)) where
     pub prime : m.p ≡ g.prime
     pub width : m.width ≡ length ms
     pub rows : m.rows ≡ form_rows_of i
-
-  -- one more matrix
-  pub one-more-matrix : (F : List MatrixValue) (x : MatrixValue) (n : ℕ) → length F ≡ n
-      → ((i : ℕ) (m : MatrixValue) → i < n → IsFormMatrix i (get_or F i m)) → IsFormMatrix n x
-      → (i : ℕ) (m : MatrixValue) → i < n + 1 → IsFormMatrix i (get_or (F ++ x ∷ []) i m)
-  one-more-matrix F x n e h p i m l = go (cases_eq i n)
-    where
-      go : (i ≡ n) ⊎ (i ≡ n → ⊥) → IsFormMatrix i (get_or (F ++ x ∷ []) i m)
-      go (inl z) = subst (IsFormMatrix i) (sym (get_or_push F x m i (e ∙ sym z)))
-          (subst (λ a. IsFormMatrix a x) (sym z) p)
-      go (inr z) = subst (IsFormMatrix i)
-          (sym (get_or_append_left F (x ∷ []) m i (omega (arith, l, z, e)))) (h i m (omega (arith, l, z)))
 
   module _ (F : List MatrixValue) (e : length F ≡ length g.degrees) (positive : 0 < g.prime)
       (h : (i : ℕ) (m : MatrixValue) → i < length g.degrees → IsFormMatrix i (get_or F i m)) where

@@ -2,6 +2,7 @@ pub mod Degrees
 pub mod FormVectors
 pub mod CriticalMeaning
 pub mod StepMeaning
+pub mod AddedTable
 pub mod TableMeaning
 pub mod FinishedTables
 pub mod ProductForms
@@ -15,7 +16,10 @@ pub mod Places
 pub mod LeftPlaces
 pub mod LeftEntries
 pub mod Lookups
+pub mod Pushed
+pub mod LeftSome
 pub mod FormMatrices
 pub mod CandidateLists
 pub mod RestRows
 pub mod StepFound
+pub mod CriticalLists

@@ -2,7 +2,7 @@
 use Rattle.std.proofs.Common.{◌≡◌, ℕ, zero, suc, ◌-◌, ◌<◌, ◌≤◌, List, [], ◌∷◌, length, All}
 use Rattle.std.proofs.Common.{arith, ap, sym, subst, refl}
 use Rattle.std.specs.Prelude.{slice_index_or}
-use Rattle.std.proofs.lemmas.List.Elements.{All-get_or}
+use Rattle.std.proofs.lemmas.List.Elements.{All-get_or, All-from_recursion}
 use Rattle.fp_rows.specs.Values.{MatrixValue}
 use Rattle.graded_polynomials.specs.Monomials.{IsMonomial, IsGreater}
 use Rattle.graded_polynomials.specs.Texts.{power}
@@ -98,3 +98,24 @@ pub two-listed : (i : ℕ) → i < 2 → IsListed (power 0 1 ∷ power 1 1 ∷ [
 two-listed zero l = (0, omega arith, refl)
 two-listed (suc zero) l = (1, omega arith, refl)
 two-listed (suc (suc i)) l = absurd (omega (arith, l))
+
+-- the degree of the generators, at p = 2
+module _ (g : Generators) (two : g ≡ record { prime = 2; degrees = 1 ∷ 1 ∷ [] }) where
+  pub low-degrees : (i : ℕ) → i < length g.degrees → 1 ≤ at_generator g.degrees i
+  low-degrees = subst (λ (g : Generators). (i : ℕ) → i < length g.degrees → 1 ≤ at_generator g.degrees i)
+      (sym two) two-low
+
+  module _ (d : ℕ) (one : d ≡ 1) where
+    pub low-below : All (λ e. e ≤ d) g.degrees
+    low-below = subst (λ (g : Generators). All (λ e. e ≤ d) g.degrees) (sym two)
+        (All-from_recursion (λ e. e ≤ d) (1 ∷ 1 ∷ []) (omega (arith, one), omega (arith, one), tt))
+
+    module _ (ms : List (List ℕ)) (m : ms ≡ power 0 1 ∷ power 1 1 ∷ []) where
+      pub low-some : AreSome (greatest g) g.degrees d ms
+      low-some = subst (λ (g : Generators). AreSome (greatest g) g.degrees d ms) (sym two)
+          (subst (λ d. AreSome 1 (1 ∷ 1 ∷ []) d ms) (sym one)
+          (subst (AreSome 1 (1 ∷ 1 ∷ []) 1) (sym m) two-some))
+
+      pub low-new : HasNewGenerators g d ms
+      low-new i l b = subst (λ ms. IsListed ms (power i 1)) (sym m)
+          (two-listed i (subst (λ (g : Generators). i < length g.degrees) two l))

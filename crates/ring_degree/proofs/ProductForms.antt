@@ -1,5 +1,5 @@
 -- The products with a generator as rows, from its forms or, for a new generator, its own row.
-use Rattle.std.proofs.Common.{◌≡◌, ℕ, zero, suc, ◌+◌, ◌-◌, ◌<◌, ◌≤◌, true, List, [], ◌∷◌, ◌++◌, length, map}
+use Rattle.std.proofs.Common.{◌≡◌, ℕ, zero, suc, ◌-◌, ◌<◌, ◌≤◌, true, List, [], ◌∷◌, ◌++◌, length, map}
 use Rattle.std.proofs.Common.{replicate, All, arith, ap, sym, subst, ◌∙◌, refl}
 use Rattle.std.specs.Prelude.{slice_index_or}
 use Rattle.std.proofs.lemmas.List.Elements.{All-from_get_or, All-get_or}
@@ -13,12 +13,12 @@ use Rattle.gc_poly.specs.Generators.{Generators, greatest, AreOrdered}
 use Rattle.presentation_rows.specs.RowPolynomials.{row_of}
 use Rattle.ring_completion.specs.Candidates.{AreSome, IsListed}
 use Rattle.ring_completion.specs.Completions.{generator_times}
+use Rattle.ring_completion.proofs.Factors.{joined-right}
 use Rattle.ring_degree.specs.Finishing.{AreFormsBelow, HasNewGenerators, IsProductForm}
 use Rattle.ring_degree.specs.Products.{IsProductWith}
 use Rattle.ring_degree.specs.Tables.{at_generator, rows_at}
 use Rattle.ring_degree.specs.declared.table.Table.{Table}
 use Rattle.ring_degree.proofs.Lookups.{rows-are}
-use Rattle.ring_degree.proofs.TableMeaning.{joined-one}
 
 -- the monomials of degree 0
 pub one-some : (q : ℕ) (ds : List ℕ) → AreSome q ds 0 ([] ∷ [])
@@ -40,10 +40,10 @@ pub new-listed : (g : Generators) (d : ℕ) (left : List (List ℕ)) (i : ℕ) (
     → HasNewGenerators g d left → i < length g.degrees → d ≤ at_generator g.degrees i
     → IsProductWith (greatest g) g.degrees i ([] ∷ []) m → IsListed left m
 new-listed g d left i m new l b P = subst (IsListed left)
-    (sym (P.product ∙ ap (joined (power i 1)) (sym P.listed.2 ∙ only P.listed.0) ∙ joined-one (power i 1)))
+    (sym (P.product ∙ ap (joined (power i 1)) (sym P.listed.2 ∙ only P.listed.0) ∙ joined-right (power i 1)))
     (new i l b)
   where
-    only : (k : ℕ) → slice_index_or ([] ∷ []) k [] ≡ []
+    only : (k : ℕ) → ◌≡◌ {A = List ℕ} (slice_index_or ([] ∷ []) k []) []
     only zero = refl
     only (suc k) = refl
 

@@ -1,10 +1,11 @@
 -- What is found of the next degree is what is said of it.
-use Rattle.std.proofs.Common.{◌≡◌, ℕ, zero, suc, ◌+◌, ◌-◌, ◌<◌, ◌≤◌, ◌↔◌, List, [], ◌∷◌, ◌++◌, length, map, arith}
+use Rattle.std.proofs.Common.{◌≡◌, ℕ, zero, suc, ◌-◌, ◌<◌, ◌≤◌, ◌↔◌, List, [], ◌∷◌, ◌++◌, length, map, arith}
 use Rattle.std.proofs.Common.{ap, sym, subst, ◌∙◌, refl}
 use Rattle.std.specs.Prelude.{slice_index_or}
+use Rattle.std.proofs.lemmas.List.{length-map}
 use Rattle.fp_rows.specs.Values.{MatrixValue}
 use Rattle.linear_algebra.specs.Rows.{row, IsEchelonOf, IsReduced}
-use Rattle.graded_polynomials.specs.Monomials.{IsMonomial, exponent, degree, joined}
+use Rattle.graded_polynomials.specs.Monomials.{IsMonomial, degree}
 use Rattle.graded_polynomials.specs.Polynomials.{Polynomial, scaled}
 use Rattle.graded_polynomials.specs.Texts.{power}
 use Rattle.graded_polynomials.proofs.Exponents.{joined-cancel}
@@ -15,8 +16,8 @@ use Rattle.presentation_rows.specs.RowPolynomials.{polynomial_of, row_of}
 use Rattle.presentation_rows.proofs.RowTerms.{row-of-is-row}
 use Rattle.ring_completion.specs.Borders.{AreReached}
 use Rattle.ring_completion.specs.Candidates.{AreSome, IsListed, IsQuotient, AreLeft, AreCandidates}
-use Rattle.ring_completion.specs.Completions.{degree_of, generator_times, IsStandardOf}
-use Rattle.ring_completion.specs.Left.{without_pivots, entries_without}
+use Rattle.ring_completion.specs.Completions.{generator_times, IsStandardOf}
+use Rattle.ring_completion.specs.Left.{without_pivots}
 use Rattle.ring_completion.specs.Listings.{without_factor}
 use Rattle.ring_completion.proofs.Factors.{quotient-exists, quotient-divides}
 use Rattle.ring_completion.proofs.ListedCandidates.{generator-at}
@@ -40,16 +41,12 @@ mapped-at f [] k l = absurd (omega (arith, l))
 mapped-at f (s ∷ ss) zero l = refl
 mapped-at f (s ∷ ss) (suc k) l = mapped-at f ss k (omega (arith, l))
 
-length-mapped : (f : List ℕ → List ℕ) (ss : List (List ℕ)) → length (map f ss) ≡ length ss
-length-mapped f [] = refl
-length-mapped f (s ∷ ss) = omega (arith, length-mapped f ss)
-
 module _ (q n : ℕ) (G : GradedAlgebra q) (gs : List (Generator (Vector q))) (rs : List Polynomial)
     (tables : List Table) (B : IsRingBelow q G gs rs n tables)
     (low : (i : ℕ) → i < length (degrees gs) → (1 ≤ at_generator (degrees gs) i)
     × (at_generator (degrees gs) i ≤ n))
     (ms : List (List ℕ)) (P : AreProductsIn q (degrees gs) tables (suc n) ms) where
-  R : AreReached q (algebra q G) gs (suc n) ms
+  abbrev R : AreReached q (algebra q G) gs (suc n) ms
   R = are-reached q n G gs rs tables B low ms P
 
   -- the quotient by a generator
@@ -83,7 +80,8 @@ module _ (q n : ℕ) (G : GradedAlgebra q) (gs : List (Generator (Vector q))) (r
 
     each-standard : (k i e : ℕ) (r : List ℕ) → k < length cs
         → IsQuotient q (degrees gs) i e r (slice_index_or cs k []) → IsStandard q (algebra q G) gs e r
-    each-standard k i e r l Q = let x = quotient-is i e r (slice_index_or cs k []) (some-candidates.each k l) Q in
+    each-standard k i e r l Q = let x = quotient-is i e r (slice_index_or cs k [])
+        (some-candidates.each k l) Q in
         subst (λ a. IsStandard q (algebra q G) gs a r) (sym x.2)
         (subst (IsStandardOf q (algebra q G) gs (suc n - at_generator (degrees gs) i)) x.0
         ((listed q n G gs rs tables B (suc n - at_generator (degrees gs) i)
@@ -193,6 +191,6 @@ module _ (q n : ℕ) (G : GradedAlgebra q) (gs : List (Generator (Vector q))) (r
           (slice_index_or (standard_at tables (suc n - at_generator (degrees gs) i)) k [])
           ++ scaled q (polynomial_of ms (row (rows_at x.forms.items i) k)))) (sym l)
           (form-is i k (row (rows_at x.forms.items i) k) il kl ((f i il).each k
-          (let a = ap length (H i il) ∙ length-mapped (form q n G gs rs tables B low ms R i)
-          (standard_at tables (suc n - at_generator (degrees gs) i)) in omega (arith, kl, a))));
+          (let a = ap length (H i il) ∙ length-map (standard_at tables (suc n - at_generator (degrees gs) i))
+          (form q n G gs rs tables B low ms R i) in omega (arith, kl, a))));
     }

@@ -1,7 +1,7 @@
 //! The table of the next degree.
 
-ghost use Rattle.std.specs.Prelude.{◌≡◌, ℕ, suc, ◌-◌, ◌<◌, ◌≤◌, [], ◌∷◌, ◌++◌, List, length, map, replicate, All};
-ghost use Rattle.std.specs.Prelude.{IfOk};
+ghost use Rattle.std.specs.Prelude.{◌≡◌, ℕ, suc, ◌-◌, ◌<◌, ◌≤◌, [], ◌∷◌, ◌++◌, List, length, map};
+ghost use Rattle.std.specs.Prelude.{replicate, All, IfOk};
 ghost use Rattle.std.specs.List.{AllByRecursion as Each};
 ghost use Rattle.limits.specs.declared.TheConstants.{GREATEST_DEGREE};
 ghost use Rattle.linear_algebra.specs.Kernels.{IsKernelOf};
@@ -47,9 +47,10 @@ fn widened(alloc: Global, rows: &Matrix, width: usize) -> Result<Matrix, Memory>
         rows.now.rows) }
     ensures lengths { (k : ℕ) → k < length rows.now.rows → length (row rows.now.rows k) ≡ rows.now.width }
 {
+    let count = rows.rows();
     let mut wide = Matrix::new(alloc, rows.prime(), width);
     let mut out = Row::zero(alloc, rows.prime(), width)?;
-    for k in 0..rows.rows() {
+    for k in 0..count {
         write_widened(rows.row(k), &mut out);
         wide.push(out.view())?;
     }
@@ -76,11 +77,11 @@ fn product_forms(
     ensures { IfOk result (IsProductForm gens.now tables.now forms.now left.now width i) }
 {
     if (gens.degree(i) as usize) < tables.len() {
-        let old = widened(alloc, &forms[i], left.len())?;
-        Ok(old)
+        let wide = widened(alloc, &forms[i], left.len())?;
+        Ok(wide)
     } else {
-        let new = form_rows(alloc, gens, i, &tables[0].standard, left)?;
-        Ok(new)
+        let unit = form_rows(alloc, gens, i, &tables[0].standard, left)?;
+        Ok(unit)
     }
 }
 
@@ -116,7 +117,8 @@ pub fn finish(
         → x.forms.items ≡ forms.now → length x.left ≡ width → left.now ≡ x.left ++ extra
         → IsRingBelow (greatest gens.now) G gs rs (length tables.now - 1) tables.now
         → IsStep (greatest gens.now) G gs rs (length tables.now - 1) tables.now x
-        → AreLeft (greatest gens.now) (algebra (greatest gens.now) G) (gs ++ new) rs (length tables.now) left.now
+        → AreLeft (greatest gens.now) (algebra (greatest gens.now) G) (gs ++ new) rs (length tables.now)
+        left.now
         → AreValues (greatest gens.now) (algebra (greatest gens.now) G) (gs ++ new) left.now values
         → IsKernelOf (suc (greatest gens.now)) values kernel.now.rows
         → AreTablesOf (greatest gens.now) G (gs ++ new) (length tables.now) (tables.now ++ t ∷ [])) }

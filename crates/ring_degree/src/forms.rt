@@ -40,6 +40,7 @@ fn write_form(
     }) }
 {
     let _count = gens.len();
+    let _length = list.len();
     out.clear();
     match times(alloc, gens, i, s)? {
         Some(m) => match list.position(&m) {
@@ -89,7 +90,8 @@ pub(crate) fn forms(
     requires small { length tables.now ≤ GREATEST_DEGREE }
     requires below { All (λ e. e < length tables.now) gens.now.degrees }
     requires tables { AreTables gens.now tables.now }
-    requires list { AreProductsIn (greatest gens.now) gens.now.degrees tables.now (length tables.now) list.now }
+    requires list { AreProductsIn (greatest gens.now) gens.now.degrees tables.now (length tables.now)
+        list.now }
     ensures count { IfOk result (λ f. length f.items ≡ length gens.now.degrees) }
     ensures shape { IfOk result (λ f. AreMatrices gens.now tables.now (length tables.now) (length list.now)
         f.items) }
@@ -98,6 +100,7 @@ pub(crate) fn forms(
         (generator_times (greatest gens.now) gens.now.degrees i s))
         (standard_at tables.now (length tables.now - at_generator gens.now.degrees i))) }
 {
+    let _prime = gens.modulus();
     let mut forms = Vec::new(alloc);
     for i in 0..gens.len() {
         let low = &tables[tables.len() - gens.degree(i) as usize];

@@ -50,6 +50,7 @@ pub fn next_degree(alloc: Global, gens: &Gens, tables: &[Table]) -> Result<Step,
         → IsRingBelow (greatest gens.now) G gs rs (length tables.now - 1) tables.now
         → IsStep (greatest gens.now) G gs rs (length tables.now - 1) tables.now x) }
 {
+    let _prime = gens.modulus();
     let list = reached(alloc, gens, tables)?;
     let forms = forms(alloc, gens, tables, &list)?;
     let pairs = Pairs {

@@ -4,9 +4,10 @@ use Rattle.fp_rows.specs.Values.{MatrixValue}
 use Rattle.ring_degree.specs.Finishing.{IsProductForm}
 use Rattle.ring_degree.specs.Rests.{AreRests}
 use Rattle.ring_degree.specs.Tables.{rows_at}
-use Rattle.ring_degree.proofs.FinishedTables.{are-tables, are-tables-of, each-pushed}
+use Rattle.ring_degree.proofs.FinishedTables.{are-tables, are-tables-of}
 use Rattle.ring_degree.proofs.LeftEntries.{as-many}
 use Rattle.ring_degree.proofs.ProductForms.{all-primes, all-widths, positive-generators}
+use Rattle.ring_degree.proofs.Pushed.{each-pushed}
 use Rattle.ring_degree.proofs.finishing.finish.Goals as goal
 
 pub loop-i-preserved : goal.loop-i-preserved
@@ -15,9 +16,11 @@ loop-i-preserved c = record {
       ∙ length_push c.loop-i.wide.items c.in_ok-product_forms.field-0
       ∙ ap (λ n. n + 1) c.loop-i.invariant.count;
   each = each-pushed
-      (λ j m. IsProductForm c.args.gens.now c.args.tables.now c.args.forms.now c.args.left.now c.args.width j m)
+      (λ j m. IsProductForm c.args.gens.now c.args.tables.now c.args.forms.now c.args.left.now
+      c.args.width j m)
       c.loop-i.wide.items c.push.new.self.items c.loop-i.i c.in_ok-product_forms.field-0
-      c.loop-i.invariant.count c.loop-i.invariant.each c.in_ok-product_forms.ensures c.in_ok-push.ensures.items;
+      c.loop-i.invariant.count c.loop-i.invariant.each c.in_ok-product_forms.ensures
+      c.in_ok-push.ensures.items;
 }
 
 pub reduced_matrices-requires-clause-primes : goal.reduced_matrices-requires-clause-primes

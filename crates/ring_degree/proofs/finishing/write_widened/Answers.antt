@@ -1,9 +1,10 @@
-use Rattle.std.proofs.Common.{◌≡◌, ◌-◌, ◌++◌, List, ℕ, length, replicate, arith, ap, sym, subst, ◌∙◌}
-use Rattle.fp_rows.specs.Refs.{entries_of, modulus_of}
+use Rattle.std.proofs.Common.{ℕ, length, arith, ap, sym, subst, ◌∙◌}
+use Rattle.fp_rows.specs.Refs.{entries_of}
 use Rattle.fp_rows.specs.Parts.{GainsPart}
 use Rattle.fp_rows.specs.Values.{RowValue}
 use Rattle.fp_rows.proofs.Primes.{prime_above_one}
-use Rattle.ring_degree.proofs.Widening.{length-zeros, widened-is}
+use Rattle.std.proofs.lemmas.List.{length-replicate}
+use Rattle.ring_degree.proofs.Widening.{widened-is}
 use Rattle.ring_degree.proofs.finishing.write_widened.Goals as goal
 
 pub add_part-requires-clause-factor : goal.add_part-requires-clause-factor
@@ -17,7 +18,7 @@ add_part-requires-clause-same_prime c = sym (ap (λ (r : RowValue). r.p) c.clear
 pub add_part-requires-clause-within : goal.add_part-requires-clause-within
 add_part-requires-clause-within c =
     let e = ap (λ (r : RowValue). length r.entries) c.clear.ensures in
-    let z = length-zeros (length c.args.out.now.entries) in
+    let z = length-replicate {A = ℕ} (length c.args.out.now.entries) 0 in
     omega (arith, e, z, c.requires.length)
 
 pub returns : goal.returns
