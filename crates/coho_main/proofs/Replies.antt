@@ -92,9 +92,9 @@ module _ (P : Presentation) (n : ℕ) where
   resolve_refused s h = refused_settles lines_of (AnswerResolve P n) StageRefusal s h
       (λ r q files. inr (r, (q, refl), refl))
 
-  pub ring_too_many : (s : Stop) → IsRefused (λ refusal. ForGroupOf P (λ G. IsReportRefusal G n refusal)) s
+  pub ring_too_large : (s : Stop) → IsRefused (λ refusal. ForGroupOf P (λ G. IsReportRefusal G n refusal)) s
       → Settles lines_of (TellReport P n) (Err s)
-  ring_too_many s h =
+  ring_too_large s h =
       refused_settles lines_of (TellReport P n)
       (λ refusal. ForGroupOf P (λ G. IsReportRefusal G n refusal)) s h
       (λ r q files. inr (r, (q, refl), refl))
@@ -154,10 +154,10 @@ module _ (P : Presentation) (k : ℕ) where
       (λ r q files. inr (r, (q, refl), refl))
 
   module _ (fit : ForGroupOf P (λ G. Fit G 4)) where
-    pub sample_too_many : (s : Stop)
+    pub sample_too_large : (s : Stop)
         → IsRefused (λ refusal. ForGroupOf P (λ G. IsReportRefusal G 4 refusal)) s
         → Settles lines_of (AnswerSample P k) (Err s)
-    sample_too_many s h =
+    sample_too_large s h =
         refused_settles lines_of (AnswerSample P k)
         (λ refusal. ForGroupOf P (λ G. IsReportRefusal G 4 refusal)) s h
         (λ r q files. inl (tt, files, (fit, refl), inr (r, (q, refl), refl)))

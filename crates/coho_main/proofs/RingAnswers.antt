@@ -96,7 +96,6 @@ cause_not_answered (cause.Inconsistent name) e = cc
 cause_not_answered (cause.StageFile part) e = cc
 cause_not_answered (cause.Stage d X) e = cc
 cause_not_answered (cause.SubgroupStage i d X) e = cc
-cause_not_answered (cause.Monomials d X) e = cc
 cause_not_answered (cause.Element E n) e = cc
 cause_not_answered (cause.Class d b) e = cc
 

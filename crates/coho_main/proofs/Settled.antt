@@ -30,7 +30,6 @@ no_fault cause.Order = tt
 no_fault (cause.Inconsistent name) = tt
 no_fault (cause.StageFile part) = tt
 no_fault (cause.Stage d X) = tt
-no_fault (cause.Monomials d X) = tt
 no_fault (cause.Element E n) = tt
 no_fault (cause.Class d b) = tt
 no_fault (cause.SubgroupStage i d X) = tt

@@ -94,8 +94,7 @@ Layers P = OnGroup P (λ G dimensions. dimensions ≡ sizes G) (λ G refusal. �
 abbrev pub Stages : Presentation → ℕ → Step (List Summary)
 Stages P n = OnGroup P (λ G stages. AreStagesTo G n stages) (λ G refusal. IsStageRefusal G n refusal)
 
--- the report on the cohomology ring through degree n, or the first degree that has too many monomials, or the
--- first subgroup over which a stage is too large
+-- the report on the cohomology ring through degree n, or the first subgroup over which a stage is too large
 abbrev pub Report : Presentation → ℕ → Step ReportValue
 Report P n = OnGroup P (λ G report. IsReportTo G n report) (λ G refusal. IsReportRefusal G n refusal)
 

@@ -1,7 +1,6 @@
 -- The refusals of a run: the status, and the line on err.
 use Rattle.std.specs.Prelude.{ℕ, List, [], ◌∷◌, ◌++◌, codes, decimal}
 use Rattle.limits.specs.declared.TheConstants.{GREATEST_DIMENSION, GREATEST_ORDER, LONGEST_TEXT}
-use Rattle.limits.specs.declared.TheConstants.{MOST_MONOMIALS}
 use Rattle.power_commutator.specs.declared.TestName.{TestName}
 use Rattle.power_commutator.specs.declared.TestName.TheVariants as test
 use Rattle.pc_text.specs.Faults.{Fault}
@@ -81,16 +80,6 @@ stage_refused d X = record {
       codes "coho: limit: stage "
       ++ (decimal d ++ (codes " of the group has dimension "
       ++ (decimal X ++ (codes ", above " ++ (decimal GREATEST_DIMENSION ++ 10 ∷ [])))));
-}
-
--- degree d has X monomials in the generators of lower degree
-abbrev pub monomials_refused : ℕ → ℕ → Refusal
-monomials_refused d X = record {
-  status = status.Limit;
-  line =
-      codes "coho: limit: degree "
-      ++ (decimal d ++ (codes " has "
-      ++ (decimal X ++ (codes " monomials, above " ++ (decimal MOST_MONOMIALS ++ 10 ∷ [])))));
 }
 
 -- the stage of degree d of subgroup i, counted from 1, has a free module of dimension X

@@ -18,7 +18,7 @@ use Rattle.coho_main.specs.declared.stop.Stop.{Stop}
 use Rattle.coho_main.specs.declared.stop.Stop.TheVariants as stop
 use Rattle.coho_main.specs.Steps.{Refusal, Step}
 use Rattle.coho_main.specs.Refusals.{words_refused, read_refused, length_refused, text_refused, order_refused}
-use Rattle.coho_main.specs.Refusals.{test_refused, stage_refused, monomials_refused, subgroup_refused}
+use Rattle.coho_main.specs.Refusals.{test_refused, stage_refused, subgroup_refused}
 use Rattle.coho_main.specs.Refusals.{element_refused, class_refused, file_refused, write_refused}
 use Rattle.coho_main.specs.Refusals.{save_refused}
 use Rattle.coho_main.specs.Refusals.{memory_refused}
@@ -39,7 +39,6 @@ refusal_of cause.Order = order_refused
 refusal_of (cause.Inconsistent name) = test_refused name
 refusal_of (cause.StageFile part) = file_refused (fault_at part)
 refusal_of (cause.Stage d X) = stage_refused d X
-refusal_of (cause.Monomials d X) = monomials_refused d X
 refusal_of (cause.SubgroupStage i d X) = subgroup_refused i d X
 refusal_of (cause.Element E n) = element_refused E n
 refusal_of (cause.Class d b) = class_refused d b

@@ -3,7 +3,7 @@ ghost use Rattle.coho_main.specs.Refusals.{fault_words, test_words};
 ghost use Rattle.coho_main.specs.Stops.{fault_at, refusal_of};
 
 use crate::Status;
-use limits::{GREATEST_DIMENSION, GREATEST_ORDER, LONGEST_TEXT, MOST_MONOMIALS};
+use limits::{GREATEST_DIMENSION, GREATEST_ORDER, LONGEST_TEXT};
 use pc_group::TestName;
 use pc_text::Kind;
 use std::alloc::{AllocError, Global};
@@ -43,11 +43,6 @@ pub enum Cause {
         degree: u32,
         dimension: u64,
     },
-    /// This degree has more than `MOST_MONOMIALS` monomials in generators of lower degree.
-    Monomials {
-        degree: u32,
-        count: u64,
-    },
     /// The free module of the stage of this degree of a listed subgroup, counted from 1, has a dimension
     /// above `GREATEST_DIMENSION`.
     SubgroupStage {
@@ -79,7 +74,6 @@ impl Cause {
             Cause::Inconsistent(_) => Status::Inconsistent,
             Cause::StageFile(_) => Status::Stage,
             Cause::Stage { .. } => Status::Limit,
-            Cause::Monomials { .. } => Status::Limit,
             Cause::SubgroupStage { .. } => Status::Limit,
             Cause::Element { .. } => Status::Usage,
             Cause::Class { .. } => Status::Usage,
@@ -114,11 +108,6 @@ impl Cause {
                 format!(in alloc;
                     "coho: limit: stage {degree} of the group has dimension {dimension}, \
                         above {GREATEST_DIMENSION}\n"
-                )
-            }
-            Cause::Monomials { degree, count } => {
-                format!(in alloc;
-                    "coho: limit: degree {degree} has {count} monomials, above {MOST_MONOMIALS}\n"
                 )
             }
             Cause::SubgroupStage {

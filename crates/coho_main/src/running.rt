@@ -26,7 +26,7 @@ use crate::{
 };
 use coho_io::{Files, Sink};
 use coho_report::{compose, report_lines};
-use limits::{GREATEST_DEGREE, GREATEST_DIMENSION, MOST_MONOMIALS};
+use limits::{GREATEST_DEGREE, GREATEST_DIMENSION};
 use min_res::Resolution;
 use pc_group::Consistent;
 use std::alloc::Global;
@@ -63,7 +63,7 @@ fn ring_lines<'a>(alloc: Global, resolution: &Resolution, n: u32) -> Result<Vec<
     ensures { (P : Presentation) → IsResolutionTo P n resolution.now
         → Settles (λ lines. contents lines.items) (TellReport P n) result }
 {
-    let report = compose(alloc, resolution, n, MOST_MONOMIALS, GREATEST_DIMENSION)?;
+    let report = compose(alloc, resolution, n, GREATEST_DIMENSION)?;
     Ok(report_lines(alloc, &report)?)
 }
 
@@ -139,13 +139,7 @@ fn answer_sample<'a>(
     ensures { Settles (λ lines. contents lines.items) (AnswerSample consistent.now k) result }
 {
     let resolution = resolution_of(alloc, consistent, SAMPLE_DEGREE)?;
-    let report = compose(
-        alloc,
-        &resolution,
-        SAMPLE_DEGREE,
-        MOST_MONOMIALS,
-        GREATEST_DIMENSION,
-    )?;
+    let report = compose(alloc, &resolution, SAMPLE_DEGREE, GREATEST_DIMENSION)?;
     Ok(sample_lines(alloc, k, &report)?)
 }
 

@@ -80,9 +80,6 @@ impl<'a> From<ReportFault> for Stop<'a> {
 
     fn from(fault: ReportFault) -> Self {
         match fault {
-            ReportFault::TooManyMonomials { degree, count } => {
-                Stop::Refused(Cause::Monomials { degree, count })
-            }
             ReportFault::TooLarge {
                 subgroup,
                 degree,

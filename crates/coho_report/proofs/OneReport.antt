@@ -1,11 +1,8 @@
 -- A report is one.
-use Rattle.std.proofs.Common.{◌≡◌, ◌∙◌, ℕ, ◌-◌, ◌<◌, min, List, length, sym, ap, subst, arith}
-use Rattle.limits.specs.declared.TheConstants.{GREATEST_COUNT}
+use Rattle.std.proofs.Common.{◌≡◌, ◌∙◌, ℕ, List, length, sym, ap, subst}
 use Rattle.p_groups.specs.PGroups.{PGroup, largest_residue}
 use Rattle.elementary_subgroups.specs.Bases.{NumberedSubgroup}
 use Rattle.elementary_subgroups.proofs.NumberedLists.{subgroups_are_one}
-use Rattle.graded_polynomials.specs.Monomials.{IsMonomials}
-use Rattle.graded_polynomials.proofs.MonomialLists.{monomials-unique}
 use Rattle.graded_polynomials.specs.Polynomials.{Polynomial}
 use Rattle.graded_algebra.specs.Algebras.{Generator, degrees}
 use Rattle.graded_algebra.specs.Presentations.{IsRelations}
@@ -15,10 +12,10 @@ use Rattle.graded_algebra.proofs.Unique.{relations-unique}
 use Rattle.graded_algebra.proofs.VectorLemmas.{vector-space}
 use Rattle.chain_lift.specs.Embeddings.{elementary}
 use Rattle.chain_lift.specs.Products.{multiply}
-use Rattle.ring_present.specs.Rings.{cohomology, dual_basis, IsPresentation, IsTooMany}
+use Rattle.ring_present.specs.Rings.{cohomology, dual_basis, IsPresentation}
 use Rattle.coho_report.specs.Parameters.{AreParameters}
 use Rattle.coho_report.specs.Related.{AreRelated}
-use Rattle.coho_report.specs.Reports.{IsReport, IsFirstTooMany}
+use Rattle.coho_report.specs.Reports.{IsReport}
 use Rattle.coho_report.specs.Subgroups.{IsImage, IsToldOf}
 use Rattle.coho_report.specs.Values.{ReportValue, SubgroupValue}
 use Rattle.coho_report.proofs.OneImages.{one_image}
@@ -90,23 +87,3 @@ module _ (G : PGroup) where
         subgroups = subgroups i;
         parameters = parameters i;
       }
-
-  one_count : (d cap x y : ℕ) → IsTooMany G d cap x → IsTooMany G d cap y → x ≡ y
-  one_count d cap x y a b =
-      let same = span-generators-unique (largest_residue G) (cohomology G) (dual_basis G)
-      (d - 1) a.generators b.generators a.generators_are b.generators_are in
-      let monomials = monomials-unique (largest_residue G) (degrees b.generators) d a.monomials b.monomials
-      (subst (λ gs. IsMonomials (largest_residue G)
-      (degrees gs) d a.monomials) same a.monomials_are) b.monomials_are in
-      a.count_is ∙ ap (λ ms. min (length ms) GREATEST_COUNT) monomials ∙ sym b.count_is
-
-  not_less : (n cap d x e y : ℕ) → IsFirstTooMany G n cap d x → IsFirstTooMany G n cap e y → d < e → ⊥
-  not_less n cap d x e y a b less = b.first d a.from less x a.is
-
-  pub one_refusal : (n cap d x e y : ℕ) → IsFirstTooMany G n cap d x → IsFirstTooMany G n cap e y → (d ≡ e)
-      × (x ≡ y)
-  one_refusal n cap d x e y a b =
-      let left = not_less n cap d x e y a b in
-      let right = not_less n cap e y d x b a in
-      let same : d ≡ e = grind (arith, left, right) in
-      (same, one_count e cap x y (subst (λ d. IsTooMany G d cap x) same a.is) b.is)

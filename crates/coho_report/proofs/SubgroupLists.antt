@@ -11,7 +11,7 @@ use Rattle.min_res.specs.declared.fault.ResFault.{ResFault}
 use Rattle.min_res.specs.declared.fault.ResFault.TheVariants as fault
 use Rattle.chain_lift.specs.Embeddings.{elementary}
 use Rattle.coho_report.specs.Limits.{IsSmall}
-use Rattle.coho_report.specs.Refusals.{IsStageRefusal, IsSubgroupRefusal, of_subgroup}
+use Rattle.coho_report.specs.Refusals.{IsRefusal, IsStageRefusal, of_subgroup}
 use Rattle.coho_report.proofs.LineLists.{get-take}
 
 module _ {X : Type 0} where
@@ -63,7 +63,7 @@ module _ (G : PGroup) (ss : List NumberedSubgroup) (i : ℕ) (s : NumberedSubgro
   pub refused_at : (n limit : ℕ) (e : ResFault)
       → ((t : NumberedSubgroup) → IsIn t (take i ss) → IsSmall G n limit t)
       → IsStageRefusal (elementary G (length s.basis)) n limit e
-      → IsSubgroupRefusal G n limit (of_subgroup (min (suc i) 4294967295) e)
+      → IsRefusal G n limit (of_subgroup (min (suc i) 4294967295) e)
   refused_at n limit (fault.TooLarge d X) small large = record {
     before = take i ss;
     subgroup = s;

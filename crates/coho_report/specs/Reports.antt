@@ -1,11 +1,11 @@
 -- The report on the cohomology ring of a p-group through a degree.
-use Rattle.std.specs.Prelude.{◌≡◌, ℕ, zero, suc, ◌<◌, ◌≤◌, List, [], ◌∷◌, ◌++◌}
+use Rattle.std.specs.Prelude.{◌≡◌, ℕ, zero, suc, List, [], ◌∷◌, ◌++◌}
 use Rattle.p_groups.specs.PGroups.{PGroup, largest_residue, order_of, prime_of}
 use Rattle.elementary_subgroups.specs.Bases.{NumberedSubgroup, IsSubgroupList}
 use Rattle.min_res.specs.Stages.{rank_of}
 use Rattle.graded_algebra.specs.Algebras.{Generator, degrees}
 use Rattle.graded_algebra.specs.Vectors.{Vector}
-use Rattle.ring_present.specs.Rings.{IsPresentation, IsTooMany}
+use Rattle.ring_present.specs.Rings.{IsPresentation}
 use Rattle.coho_report.specs.Parameters.{AreParameters}
 use Rattle.coho_report.specs.Related.{AreRelated}
 use Rattle.coho_report.specs.Subgroups.{IsToldOf}
@@ -32,15 +32,3 @@ module _ (G : PGroup) where
     pub subgroups_are : IsSubgroupList G.table subgroups
     pub told : AreRelated (IsToldOf G n generators) subgroups r.subgroups
     pub parameters : AreParameters G n generators r.subgroups r.parameters
-
-  -- no degree from 1 to n has more than cap monomials in generators of lower degree
-  abbrev pub HasFewMonomials : ℕ → ℕ → Type 0
-  HasFewMonomials n cap = (d : ℕ) → 1 ≤ d → d ≤ n → (count : ℕ) → IsTooMany G d cap count → ⊥
-
-  -- d is the first degree from 1 to n that has more, and count is their number, or the greatest count where
-  -- there are more
-  pub record IsFirstTooMany (n cap d count : ℕ) : Type 0 where
-    pub from : 1 ≤ d
-    pub to : d ≤ n
-    pub is : IsTooMany G d cap count
-    pub first : (c : ℕ) → 1 ≤ c → c < d → (other : ℕ) → IsTooMany G c cap other → ⊥

@@ -5,7 +5,7 @@ ghost use Rattle.limits.specs.declared.TheConstants.{GREATEST_DEGREE};
 ghost use Rattle.min_res.specs.Stages.{rank_of};
 ghost use Rattle.coho_report.specs.Cohomology.{IsCohomologyReport};
 ghost use Rattle.coho_report.specs.Limits.{AreSmall};
-ghost use Rattle.coho_report.specs.Reports.{IsReport, HasFewMonomials, ranks_below};
+ghost use Rattle.coho_report.specs.Reports.{IsReport, ranks_below};
 ghost use Rattle.coho_report.specs.Refusals.{IsRefusal};
 
 use crate::parameters::find_parameters;
@@ -36,15 +36,13 @@ fn ranks_below(alloc: Global, res: &Resolution, c: u32) -> Result<Vec<usize>, Al
 }
 
 /// The report on the ring of the resolution's group through degree n, with the restrictions of the generators
-/// to the maximal elementary abelian subgroups, and the parameters. `TooManyMonomials` comes exactly where a
-/// degree from 1 to n has more than `cap` monomials in generators of lower degree, and names the first.
-/// `TooLarge` comes exactly where no degree has, and over a listed subgroup a dimension of degrees 1 to n is
-/// above the limit: it names the first such subgroup and its first such degree.
+/// to the maximal elementary abelian subgroups, and the parameters. `TooLarge` comes exactly where over a
+/// listed subgroup a dimension of degrees 1 to n is above the limit: it names the first such subgroup and its
+/// first such degree.
 pub fn compose(
     alloc: Global,
     res: &Resolution,
     n: u32,
-    cap: u64,
     limit: u64,
 ) -> Result<Report, ReportFault>
     requires from { 1 ≤ n }
@@ -53,11 +51,10 @@ pub fn compose(
     requires limit { limit ≤ 2 ^ 28 }
     ensures report { IfOk result (λ report. IsReport res.now.group n report) }
     ensures cohomology { IfOk result (λ report. IsCohomologyReport res.now.group n report) }
-    ensures few { IfOk result (λ report. HasFewMonomials res.now.group n cap) }
     ensures small { IfOk result (λ report. AreSmall res.now.group n limit) }
-    ensures refused { IfErr result (IsRefusal res.now.group n cap limit) }
+    ensures refused { IfErr result (IsRefusal res.now.group n limit) }
 {
-    let ring = ring_through(alloc, res, n, cap)?;
+    let ring = ring_through(alloc, res, n)?;
     let ranks = ranks_below(alloc, res, n + 1)?;
     let order = res.algebra().group().order();
     let told = subgroup_reports(alloc, res, &ring, limit)?;

@@ -2,25 +2,16 @@
 
 ghost use Rattle.std.specs.Prelude.{◌≡◌, ◌+◌, ◌<◌, ◌^◌, min, suc};
 ghost use Rattle.coho_report.specs.declared.fault.ReportFault.TheVariants as fault;
-ghost use Rattle.coho_report.specs.Refusals.{of_subgroup, passed_up};
+ghost use Rattle.coho_report.specs.Refusals.{of_subgroup};
 
 use group_table::Memory as OutOfMemory;
 use min_res::ResFault;
-use ring_present::RingFault;
 use std::alloc::{AllocError, AllocFailed};
 use thiserror::Error;
 
 /// Why a report is not composed.
 #[derive(Clone, Copy, Debug, PartialEq, Eq, Error)]
 pub enum ReportFault {
-    /// A degree has too many monomials in the generators of lower degree.
-    #[error("degree {degree} has {count} monomials")]
-    TooManyMonomials {
-        /// The degree.
-        degree: u32,
-        /// The number of the monomials, or `GREATEST_COUNT` where there are more.
-        count: u64,
-    },
     /// The free module of this degree over a listed subgroup has a dimension above the limit.
     #[error("the free module of degree {degree} of subgroup {subgroup} has dimension {dimension}")]
     TooLarge {
@@ -34,19 +25,6 @@ pub enum ReportFault {
     /// Want of memory.
     #[error("out of memory")]
     Memory,
-}
-
-impl From<RingFault> for ReportFault {
-    ghost from_gives = { λ fault e. e ≡ passed_up fault };
-
-    fn from(fault: RingFault) -> Self {
-        match fault {
-            RingFault::TooManyMonomials { degree, count } => {
-                ReportFault::TooManyMonomials { degree, count }
-            }
-            RingFault::Memory => ReportFault::Memory,
-        }
-    }
 }
 
 /// The fault of the stages of the subgroup at a place of the list, counted from 0.

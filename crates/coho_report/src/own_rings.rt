@@ -10,7 +10,7 @@ ghost use Rattle.coho_report.specs.Limits.{HasSmallStages};
 ghost use Rattle.coho_report.specs.OwnRings.{IsKnownRing, IsOwnRing};
 ghost use Rattle.coho_report.specs.Refusals.{IsStageRefusal};
 
-use crate::rings::whole_ring;
+use crate::rings::ring_through;
 use group_algebra::Algebra;
 use group_table::Memory;
 use min_res::{ResFault, Resolution};
@@ -73,7 +73,7 @@ fn own_ring(
         (IsStageRefusal (elementary res.now.group (length e.now.basis)) n limit) }
 {
     let resolution = own_resolution(alloc, e, res, n, limit)?;
-    let ring = whole_ring(alloc, &resolution, n)?;
+    let ring = ring_through(alloc, &resolution, n)?;
     let rank = e.rank();
     Ok(Rc::new(
         alloc,

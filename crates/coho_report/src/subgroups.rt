@@ -13,7 +13,7 @@ ghost use Rattle.elementary_subgroups.specs.Sets.{IsIn};
 ghost use Rattle.ring_present.specs.Values.{generators_of};
 ghost use Rattle.coho_report.specs.Limits.{AreSmall, IsSmall};
 ghost use Rattle.coho_report.specs.OwnRings.{IsOwnRing, IsRingThrough};
-ghost use Rattle.coho_report.specs.Refusals.{IsSubgroupRefusal};
+ghost use Rattle.coho_report.specs.Refusals.{IsRefusal};
 ghost use Rattle.coho_report.specs.Related.{AreRelated};
 ghost use Rattle.coho_report.specs.Restrictors.{IsRestrictorOf};
 ghost use Rattle.coho_report.specs.Subgroups.{IsImage, IsToldOf};
@@ -179,7 +179,7 @@ fn told_of_each(
         (IsRestrictorOf res.now.group ring.now.degree) list.now v.restrictors.items) }
     ensures small { IfOk result (λ v. (s : NumberedSubgroup) → IsIn s list.now
         → IsSmall res.now.group ring.now.degree limit s) }
-    ensures refused { IfErr result (IsSubgroupRefusal res.now.group ring.now.degree limit) }
+    ensures refused { IfErr result (IsRefusal res.now.group ring.now.degree limit) }
 {
     let n = ring.degree();
     let mut known = Vec::new(alloc);
@@ -219,7 +219,7 @@ pub(crate) fn subgroup_reports(
         (generators_of (largest_residue res.now.group) ring.now.generators)) ss v.reports.items
         × AreRelated (IsRestrictorOf res.now.group ring.now.degree) ss v.restrictors.items) }
     ensures small { IfOk result (λ v. AreSmall res.now.group ring.now.degree limit) }
-    ensures refused { IfErr result (IsSubgroupRefusal res.now.group ring.now.degree limit) }
+    ensures refused { IfErr result (IsRefusal res.now.group ring.now.degree limit) }
 {
     let list = max_elementary(alloc, res.algebra().group().as_group())?;
     told_of_each(alloc, &list, res, ring, limit)

@@ -5,7 +5,7 @@ ghost use Rattle.limits.specs.declared.TheConstants.{GREATEST_DEGREE};
 
 use super::*;
 use group_algebra::Algebra;
-use limits::{GREATEST_DEGREE, GREATEST_DIMENSION, MOST_MONOMIALS};
+use limits::{GREATEST_DEGREE, GREATEST_DIMENSION};
 use min_res::Resolution;
 use small_groups::SmallGroup;
 use std::alloc::Global;
@@ -51,7 +51,6 @@ fn reported(rt: &impl Abort, alloc: Global, kind: SmallGroup, degree: u32) -> Re
         alloc,
         &resolution,
         degree,
-        MOST_MONOMIALS,
         GREATEST_DIMENSION,
     )?;
     Ok(report)
@@ -164,34 +163,22 @@ fn reports_on_groups(rt: HostRuntime) -> Result<(), Fail> {
     Ok(())
 }
 
-// The third degree has four monomials; over the subgroup, which is the group, the stages have dimensions 4, 8
-// and 12.
+// Over the subgroup, which is the group, the stages have dimensions 4, 8 and 12.
 #[test]
 fn names_the_first_refusal(rt: HostRuntime) -> Result<(), Fail> {
     let alloc = rt.alloc();
     let resolution = resolved(&rt, alloc, SmallGroup::Klein, 3)?;
-    let monomials = ReportFault::TooManyMonomials {
-        degree: 3,
-        count: 4,
-    };
-    assert_eq!(rt; compose(alloc, &resolution, 3, 3, 7).err(), Some(monomials));
     let first = ReportFault::TooLarge {
         subgroup: 1,
         degree: 1,
         dimension: 8,
     };
-    assert_eq!(rt;
-        compose(alloc, &resolution, 1, MOST_MONOMIALS, 7).err(),
-        Some(first)
-    );
+    assert_eq!(rt; compose(alloc, &resolution, 1, 7).err(), Some(first));
     let second = ReportFault::TooLarge {
         subgroup: 1,
         degree: 2,
         dimension: 12,
     };
-    assert_eq!(rt;
-        compose(alloc, &resolution, 3, MOST_MONOMIALS, 8).err(),
-        Some(second)
-    );
+    assert_eq!(rt; compose(alloc, &resolution, 3, 8).err(), Some(second));
     Ok(())
 }

@@ -126,7 +126,7 @@ module _ (q n : ℕ) (ds es : List ℕ) (above : Each (λ e. n < e) es) (rs : Li
         rw (total-more i.multiples (each-down i.multiples i.each)) at i.sum;
   }
 
-single-is-power : (ds : List ℕ) → single ds ≡ power (length ds) 1
+pub single-is-power : (ds : List ℕ) → single ds ≡ power (length ds) 1
 single-is-power [] = refl
 single-is-power (d ∷ ds) = ap (λ m. 0 ∷ m) (single-is-power ds)
 
@@ -134,7 +134,7 @@ not-within : (ds : List ℕ) → IsWithin ds (power (length ds) 1) → ⊥
 not-within [] w = w
 not-within (d ∷ ds) w = not-within ds w
 
-greater-than-last : (ds m : List ℕ) → IsWithin ds m → 0 < degree ds m → IsGreater m (power (length ds) 1)
+pub greater-than-last : (ds m : List ℕ) → IsWithin ds m → 0 < degree ds m → IsGreater m (power (length ds) 1)
 greater-than-last ds [] w l = absurd (omega (arith, l, degree-nil ds))
 greater-than-last [] (x ∷ m) w l = absurd w
 greater-than-last (d ∷ ds) (suc x ∷ m) w l =

@@ -25,6 +25,7 @@ pub mod Smaller
 pub mod ReducedForms
 pub mod SpanRows
 pub mod AddedGenerators
+pub mod AddedCandidates
 pub mod Stays
 pub mod DescendingLists
 pub mod Listings

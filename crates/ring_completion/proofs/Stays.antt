@@ -9,7 +9,7 @@ use Rattle.graded_polynomials.specs.Texts.{power}
 use Rattle.graded_polynomials.proofs.Monomials.{over-multiple}
 use Rattle.graded_polynomials.proofs.Terms.{each-map}
 use Rattle.graded_algebra.specs.Algebras.{Algebra, Generator, degrees, value}
-use Rattle.graded_algebra.specs.Presentations.{IsStandard, IsNormalForm}
+use Rattle.graded_algebra.specs.Presentations.{IsLeading, IsRelation, IsStandard, IsNormalForm}
 use Rattle.graded_algebra.proofs.MoreGenerators.{degrees-append, value-more}
 use Rattle.graded_polynomials.proofs.MoreGenerators.{monomial-more}
 use Rattle.presentation_rows.specs.RowPolynomials.{polynomial_of}
@@ -44,9 +44,10 @@ module _ (q : ℕ) {V : Type 0} (A : Algebra V) (gs new : List (Generator V)) wh
   times-more i d s I M = rw (degrees-append gs new)
       (multiple-more q (degrees gs) (degrees new) d 1 (power i 1) (alone s) I.within (M, tt))
 
-  -- what is standard with more generators is standard
-  pub standard-down : (d : ℕ) (m : List ℕ) → IsStandard q A more d m → IsStandard q A gs d m
-  standard-down d m s l = s record {
+  -- what leads leads with more generators
+  pub leading-up : (d : ℕ) (m : List ℕ) → IsLeading q A (IsRelation q A gs d) m
+      → IsLeading q A (IsRelation q A more d) m
+  leading-up d m l = record {
     member = l.member;
     is_member = record {
       over = over-up d l.member l.is_member.over;
@@ -56,6 +57,10 @@ module _ (q : ℕ) {V : Type 0} (A : Algebra V) (gs new : List (Generator V)) wh
     here = l.here;
     above = l.above;
   }
+
+  -- what is standard with more generators is standard
+  pub standard-down : (d : ℕ) (m : List ℕ) → IsStandard q A more d m → IsStandard q A gs d m
+  standard-down d m s l = s (leading-up d m l)
 
   module _ (n : ℕ) (above : Each (λ e. n < e) (degrees new)) where
     pub monomial-down : (d : ℕ) → d ≤ n → (m : List ℕ) → IsMonomial q (degrees more) d m

@@ -6,8 +6,10 @@
 //! chapter 4).
 #![tactic(auto)]
 
-ghost use Rattle.std.specs.Prelude.{◌≡◌, ◌≢◌, ℕ, suc, ◌+◌, ◌*◌, ◌<◌, ◌≤◌, ◌↔◌, false, true, List, [], ◌∷◌};
-ghost use Rattle.std.specs.Prelude.{◌++◌, length, map, slice_index_or};
+mod more_generators;
+
+ghost use Rattle.std.specs.Prelude.{◌≡◌, ◌≢◌, ℕ, suc, ◌+◌, ◌*◌, ◌<◌, ◌≤◌, ◌↔◌, false, true, List, [], ◌++◌};
+ghost use Rattle.std.specs.Prelude.{length, map, slice_index_or};
 ghost use Rattle.std.specs.List.{AllByRecursion as Each};
 ghost use Rattle.linear_algebra.specs.Modular.{IsFieldModulo};
 ghost use Rattle.linear_algebra.specs.Rows.{IsRow, IsEchelonOf, IsReduced as IsRowReduced, IsPivot};
@@ -20,8 +22,7 @@ ghost use Rattle.graded_polynomials.specs.Texts.{power};
 ghost use Rattle.graded_algebra.specs.Algebras.{Generator, degrees, evaluate, times, value};
 ghost use Rattle.graded_algebra.specs.Presentations.{IsLeading, IsConsequence, IsRelations, IsStandard};
 ghost use Rattle.graded_algebra.specs.Presentations.{IsNormalForm, IsSpanGenerators, generators_of};
-ghost use Rattle.graded_algebra.specs.Vectors.{Vector, GradedAlgebra, IsOfDegree, algebra, basis, unit};
-ghost use Rattle.graded_algebra.specs.Vectors.{vectors};
+ghost use Rattle.graded_algebra.specs.Vectors.{Vector, GradedAlgebra, algebra, basis, unit, vectors};
 ghost use Rattle.presentation_rows.specs.Pivots.{new_relations};
 ghost use Rattle.presentation_rows.specs.RowPolynomials.{polynomial_of, row_of};
 ghost use Rattle.presentation_rows.specs.Values.{vector, AreValues, AreUnitRows};
@@ -33,6 +34,12 @@ ghost use Rattle.ring_completion.specs.Eliminations.{AreForms, AreCritical, exch
 ghost use Rattle.ring_completion.specs.Left.{without_pivots, entries_without, IsCompletion};
 ghost use Rattle.ring_completion.specs.Listings.{AreStandardLists, candidates_of, is_clear_before, is_listed};
 ghost use Rattle.ring_completion.specs.Listings.{standard_of};
+
+pub use more_generators::{
+    candidates_with_one_more_generator, forms_with_one_more_generator,
+    left_monomials_with_one_more_generator, products_with_more_generators,
+    standard_lists_with_next_degree,
+};
 
 /// The standard monomials of a degree are among its candidates.
 pub fn standard_monomials_are_candidates()
@@ -275,56 +282,6 @@ pub fn generators_after_left_monomials()
         (gs ++ generators_of q (algebra q G) (suc n) (map (unit q) positions)) }
 {}
 
-/// One more generator of the degree adds its monomial behind those that lead in no consequence, and its class
-/// behind their values.
-pub fn left_monomials_with_one_more_generator()
-    ensures monomials { (q n : ℕ) (G : GradedAlgebra q) (gs : List (Generator (Vector q)))
-        (g : Generator (Vector q)) (rs : List Polynomial) (ms : List (List ℕ))
-        → IsFieldModulo (suc q) → Each (λ e. 0 < e) (degrees gs) → IsRelations q (algebra q G) gs n rs
-        → g.degree ≡ suc n
-        → AreLeft q (algebra q G) gs rs (suc n) ms
-        → AreLeft q (algebra q G) (gs ++ g ∷ []) rs (suc n) (ms ++ power (length (degrees gs)) 1 ∷ []) }
-    ensures values { (q n : ℕ) (G : GradedAlgebra q) (gs : List (Generator (Vector q)))
-        (g : Generator (Vector q)) (rs : List Polynomial)
-        (ms values : List (List ℕ)) (w : List ℕ)
-        → IsFieldModulo (suc q) → Each (λ e. 0 < e) (degrees gs) → IsRelations q (algebra q G) gs n rs
-        → g.degree ≡ suc n
-        → AreLeft q (algebra q G) gs rs (suc n) ms → AreValues q (algebra q G) gs ms values
-        → vector q w ≡ g.class → IsOfDegree q G g.degree g.class
-        → AreValues q (algebra q G) (gs ++ g ∷ []) (ms ++ power (length (degrees gs)) 1 ∷ [])
-        (values ++ w ∷ []) }
-{}
-
-/// One more generator of the degree leaves the forms as they are, with a 0 behind.
-pub fn forms_with_one_more_generator()
-    ensures { (q n i e : ℕ) (G : GradedAlgebra q) (gs : List (Generator (Vector q)))
-        (g : Generator (Vector q)) (rs : List Polynomial)
-        (ms : List (List ℕ)) (s u : List ℕ)
-        → IsFieldModulo (suc q) → Each (λ e. 0 < e) (degrees gs) → IsRelations q (algebra q G) gs n rs
-        → g.degree ≡ suc n
-        → AreLeft q (algebra q G) gs rs (suc n) ms → IsGenerator q (degrees gs) i
-        → IsMonomial q (degrees gs) e s → length u ≡ length ms
-        → IsConsequence q (algebra q G) gs rs (suc n)
-        (generator_times q (degrees gs) i s ++ scaled q (polynomial_of ms u))
-        → IsConsequence q (algebra q G) (gs ++ g ∷ []) rs (suc n)
-        (generator_times q (degrees (gs ++ g ∷ [])) i s
-        ++ scaled q (polynomial_of (ms ++ power (length (degrees gs)) 1 ∷ []) (u ++ 0 ∷ []))) }
-{}
-
-/// Products of degrees to n stay where generators of higher degree are added, and normal forms of those of
-/// degree n + 1 join them, whatever the product of vectors is.
-pub fn products_with_more_generators()
-    ensures { (q n : ℕ) (mul : ℕ → ℕ → Vector q → Vector q → Vector q) (gs new : List (Generator (Vector q)))
-        (products : ℕ → List ℕ → List Term)
-        → Each (λ e. n < e) (degrees new) → AreProducts q (vectors q mul) gs (suc n) products
-        → ((i e : ℕ) (s : List ℕ) → IsGenerator q (degrees (gs ++ new)) i
-        → IsStandardOf q (vectors q mul) (gs ++ new) e s
-        → degree_of (degrees (gs ++ new)) i + e ≡ suc n
-        → IsNormalForm q (vectors q mul) (gs ++ new) (suc n)
-        (value (vectors q mul) (gs ++ new) (generator_times q (degrees (gs ++ new)) i s)) (products i s))
-        → AreProducts q (vectors q mul) (gs ++ new) (suc (suc n)) products }
-{}
-
 /// Monomials by their first factor: each of positive degree is a generator times a monomial with no factor
 /// before it, and the earlier generator gives the greater product.
 pub fn monomials_by_first_factor()
@@ -356,19 +313,6 @@ pub fn candidates_as_listed()
         → IsFieldModulo (suc q) → Each (λ e. 0 < e) (degrees gs) → IsRelations q (algebra q G) gs n rs
         → AreStandardLists q (algebra q G) gs n lists
         → AreCandidates q (algebra q G) gs (suc n) (candidates_of q (degrees gs) lists (suc n)) }
-{}
-
-/// The lists of standard monomials with those of the next degree, where generators of that degree are added.
-pub fn standard_lists_with_next_degree()
-    ensures { (q n : ℕ) (G : GradedAlgebra q) (gs new : List (Generator (Vector q))) (rs : List Polynomial)
-        (lists : List (List (List ℕ)))
-        (ms values kernel : List (List ℕ)) → IsFieldModulo (suc q) → Each (λ e. 0 < e) (degrees (gs ++ new))
-        → Each (λ e. n < e) (degrees new)
-        → length lists ≡ n → AreStandardLists q (algebra q G) gs n lists
-        → IsRelations q (algebra q G) (gs ++ new) n rs
-        → AreLeft q (algebra q G) (gs ++ new) rs (suc n) ms → AreValues q (algebra q G) (gs ++ new) ms values
-        → IsKernelOf (suc q) values kernel
-        → AreStandardLists q (algebra q G) (gs ++ new) (suc n) (lists ++ without_pivots kernel 0 ms ∷ []) }
 {}
 
 /// What loops over lists of generators and of standard monomials see: a generator is a place in the list of

@@ -21,7 +21,7 @@ use Rattle.gc_poly.proofs.Writing.{within-length}
 use Rattle.chain_lift.specs.Values.{LiftValue}
 use Rattle.chain_lift.specs.Products.{multiply, product_row}
 use Rattle.ring_present.specs.Rings.{cohomology}
-use Rattle.ring_present.specs.Degrees.{classes, degrees_of, IsLiftBelow, AreAll}
+use Rattle.ring_present.specs.Degrees.{classes, degrees_of, IsLiftBelow, AreValued}
 use Rattle.ring_present.specs.declared.degree.Valued.{Valued}
 use Rattle.ring_present.proofs.Products.{product-vector}
 
@@ -83,7 +83,7 @@ module _ (G : PGroup) (lifts : List LiftValue) where
       ∙ ap (evaluate (cohomology G) gs) (sym (only-one q (degrees gs) m (positive-degrees G n lifts b) M))
 
   -- a monomial of a list with values
-  pub value-of-listed : (d : ℕ) (m a : List ℕ) (v : Valued) → AreAll G d lifts v → (i : ℕ)
+  pub value-of-listed : (d : ℕ) (m a : List ℕ) (v : Valued) → AreValued G d lifts v → (i : ℕ)
       → i < length v.monomials → slice_index_or v.monomials i [] ≡ m → a ≡ row v.values.rows i
       → vector q a ≡ evaluate (cohomology G) gs m
   value-of-listed d m a v A i l e ea = ap (vector q) ea ∙ A.values.each i l

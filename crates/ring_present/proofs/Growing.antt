@@ -3,32 +3,25 @@ use Rattle.std.proofs.Common.{◌≡◌, ℕ, suc, ◌<◌, ◌≤◌, List, [],
 use Rattle.std.proofs.Common.{refl, append_assoc}
 use Rattle.std.specs.Prelude.{slice_index_or, All}
 use Rattle.std.specs.List.{AllByRecursion as Each}
-use Rattle.std.proofs.lemmas.List.{get_or_past, get_or_push, get_or_append_left, length_push, get_or_default}
 use Rattle.std.proofs.lemmas.List.Elements.{All-append, All-weaker, All-map}
 use mathlib.Core.Path.{subst}
 use Rattle.p_groups.specs.PGroups.{PGroup, largest_residue}
 use Rattle.linear_algebra.specs.Rows.{row}
-use Rattle.fp_rows.specs.Values.{MatrixValue}
-use Rattle.graded_polynomials.specs.Monomials.{IsMonomials, IsGreater}
-use Rattle.graded_polynomials.specs.Texts.{power}
 use Rattle.graded_algebra.specs.Algebras.{Generator, degrees}
 use Rattle.graded_algebra.specs.Presentations as presentations
-use Rattle.graded_algebra.specs.Vectors.{Vector, residue, unit}
-use Rattle.graded_algebra.proofs.MoreGenerators.{degrees-append}
+use Rattle.graded_algebra.specs.Vectors.{Vector, unit}
+use Rattle.graded_algebra.proofs.MoreGenerators.{from-more}
 use Rattle.gc_poly.specs.Generators.{Generators}
 use Rattle.presentation_rows.specs.Values.{vector, AreValues, AreUnitRows}
 use Rattle.presentation_rows.proofs.UnitRows.{unit-vector}
-use Rattle.presentation_rows.proofs.MoreMonomials.{monomials-with-last, values-with-last, monomials-stay}
-use Rattle.presentation_rows.proofs.MoreMonomials.{values-stay}
-use Rattle.min_res.specs.Stages.{rank_of}
 use Rattle.chain_lift.specs.Values.{LiftValue}
-use Rattle.chain_lift.specs.Products.{multiply}
+use Rattle.ring_completion.specs.Candidates.{AreSome}
+use Rattle.ring_completion.proofs.Stays.{monomial-up, monomial-down, standard-up, standard-down}
 use Rattle.ring_present.specs.Rings.{cohomology}
-use Rattle.ring_present.specs.Degrees.{classes, degrees_of, new_lift, IsLiftBelow, AreAll, IsDegree}
+use Rattle.ring_present.specs.Degrees.{classes, degrees_of, new_lift, IsLiftBelow, AreValued, IsDegree}
+use Rattle.ring_present.specs.Standard.{AreStandard}
 use Rattle.ring_present.specs.declared.degree.Valued.{Valued}
 use Rattle.ring_present.specs.declared.degree.Degree.{Degree}
-use Rattle.ring_present.proofs.Products.{one-times}
-use Rattle.ring_present.proofs.Factors.{degrees-are, positive-degrees}
 
 pub degrees-of-append : (xs ys : List LiftValue) → degrees_of (xs ++ ys) ≡ degrees_of xs ++ degrees_of ys
 degrees-of-append [] ys = refl
@@ -41,74 +34,6 @@ classes-append G (x ∷ xs) ys = ap (λ gs. record {
   degree = x.degree;
   class = vector (largest_residue G) x.class;
 } ∷ gs) (classes-append G xs ys)
-
--- the monomials of the degree stand before that of one more generator
-pub greater-than-new : (G : PGroup) (d n : ℕ) (lifts : List LiftValue) (v : Valued) → 0 < d
-    → Each (λ a. 0 < a) (degrees (classes G lifts)) → AreAll G d lifts v
-    → n ≡ length (degrees_of lifts) → All (λ m. IsGreater m (power n 1)) v.monomials
-greater-than-new G d n lifts v p pos A e k m l =
-    subst (λ x. IsGreater x (power n 1)) (get_or_append_left v.monomials last m k l ∙ refl)
-    (subst (λ x. IsGreater (slice_index_or (v.monomials ++ last) k m) x) (ap (λ j. power j 1) (sym same))
-    (subst (λ x. IsGreater (slice_index_or (v.monomials ++ last) k m) x)
-    (get_or_push v.monomials (power (length ds) 1) [] (length v.monomials) refl)
-    (subst (λ x. IsGreater x (slice_index_or (v.monomials ++ last) (length v.monomials) []))
-    (get_or_default (v.monomials ++ last) k [] m inside)
-    ((monomials-with-last (largest_residue G) d ds v.monomials p pos A.monomials).descending k
-    (length v.monomials) l
-    (let c = length_push v.monomials (power (length ds) 1) in omega (arith, c))))))
-  where
-    ds : List ℕ
-    ds = degrees (classes G lifts)
-
-    last : List (List ℕ)
-    last = power (length ds) 1 ∷ []
-
-    same : n ≡ length ds
-    same = e ∙ ap (λ (x : List ℕ). length x) (sym (degrees-are G lifts))
-
-    inside : k < length (v.monomials ++ last)
-    inside = let c = length_push v.monomials (power (length ds) 1) in omega (arith, c, l)
-
-module _ (G : PGroup) (d : ℕ) (lifts : List LiftValue) (class : List ℕ) where
-  abbrev q : ℕ
-  q = largest_residue G
-
-  abbrev gs : List (Generator (Vector (largest_residue G)))
-  gs = classes G lifts
-
-  abbrev g : Generator (Vector (largest_residue G))
-  g = record { degree = d; class = vector (largest_residue G) class }
-
-  -- all monomials and their values, with one more generator
-  pub all-more : (v w : Valued) → 0 < d → Each (λ a. 0 < a) (degrees gs) → length class ≡ rank_of G d
-      → AreAll G d lifts v
-      → w.monomials ≡ v.monomials ++ power (length (degrees_of lifts)) 1 ∷ []
-      → w.values ≡ record v.values { rows = v.values.rows ++ class ∷ [] }
-      → AreAll G d (lifts ++ new_lift G d class ∷ []) w
-  all-more v w p pos n A em ev = record {
-    prime = ap (λ (m : MatrixValue). m.p) ev ∙ A.prime;
-    width = ap (λ (m : MatrixValue). m.width) ev ∙ A.width;
-    monomials = subst (λ hs. IsMonomials q (degrees hs) d w.monomials) (sym more)
-        (subst (λ ms. IsMonomials q (degrees (gs ++ g ∷ [])) d ms) (sym monomials-are)
-        (subst (λ ds. IsMonomials q ds d (v.monomials ++ power (length (degrees gs)) 1 ∷ []))
-        (sym (degrees-append gs (g ∷ [])))
-        (monomials-with-last q d (degrees gs) v.monomials p pos A.monomials)));
-    values = subst (λ hs. AreValues q (cohomology G) hs w.monomials w.values.rows) (sym more)
-        (subst (λ ms. AreValues q (cohomology G) (gs ++ g ∷ []) ms w.values.rows) (sym monomials-are)
-        (subst (λ rows. AreValues q (cohomology G) (gs ++ g ∷ [])
-        (v.monomials ++ power (length (degrees gs)) 1 ∷ []) rows)
-        (sym (ap (λ (m : MatrixValue). m.rows) ev))
-        (values-with-last q (multiply G) gs g v.monomials v.values.rows class A.monomials A.values refl
-        (one-times G d (vector q class) (λ k l. ap (residue q)
-        (get_or_past class k 0 (omega (arith, n, l))))))));
-  }
-    where
-      more : classes G (lifts ++ new_lift G d class ∷ []) ≡ gs ++ g ∷ []
-      more = classes-append G lifts (new_lift G d class ∷ [])
-
-      monomials-are : w.monomials ≡ v.monomials ++ power (length (degrees gs)) 1 ∷ []
-      monomials-are = em ∙ ap (λ n. v.monomials ++ power n 1 ∷ [])
-          (ap (λ (x : List ℕ). length x) (sym (degrees-are G lifts)))
 
 -- the new generators have the unit vectors as classes
 pub new-classes : (G : PGroup) (d b : ℕ) (basis : List (List ℕ)) (places : List ℕ) → AreUnitRows b basis
@@ -129,39 +54,61 @@ new-classes G d b basis (k ∷ places) U a =
     inside = let z : k < length basis = a 0 k (omega arith) in let n = U.count in omega (arith, z, n)
 
 -- generators of higher degree leave what is kept of a degree
-pub all-stays : (G : PGroup) (d : ℕ) (lifts new : List LiftValue) (v : Valued)
-    → Each (λ e. d < e) (degrees (classes G new)) → AreAll G d lifts v → AreAll G d (lifts ++ new) v
-all-stays G d lifts new v above A = record {
-  prime = A.prime;
-  width = A.width;
-  monomials = subst (λ hs. IsMonomials (largest_residue G) (degrees hs) d v.monomials)
-      (sym (classes-append G lifts new))
-      (subst (λ ds. IsMonomials (largest_residue G) ds d v.monomials)
-      (sym (degrees-append (classes G lifts) (classes G new)))
-      (monomials-stay (largest_residue G) d (degrees (classes G lifts))
-      (degrees (classes G new)) v.monomials above A.monomials));
-  values = subst (λ hs. AreValues (largest_residue G) (cohomology G) hs v.monomials v.values.rows)
-      (sym (classes-append G lifts new))
-      (values-stay (largest_residue G) d (multiply G) (classes G lifts)
-      (classes G new) v.monomials v.values.rows A.monomials A.values);
-}
+module _ (G : PGroup) (d : ℕ) (lifts new : List LiftValue)
+    (above : Each (λ e. d < e) (degrees (classes G new))) where
+  abbrev q : ℕ
+  q = largest_residue G
 
-pub degree-stays : (G : PGroup) (d : ℕ) (lifts new : List LiftValue) (D : Degree)
-    → Each (λ e. d < e) (degrees (classes G new)) → IsDegree G d lifts D → IsDegree G d (lifts ++ new) D
-degree-stays G d lifts new D above I = record {
-  all = all-stays G d lifts new D.all above I.all;
-  kernel = I.kernel;
-  kernel_is = I.kernel_is;
-  standard = I.standard;
-  standard_prime = I.standard_prime;
-  standard_width = I.standard_width;
-  standard_values = I.standard_values;
-  preimages_prime = I.preimages_prime;
-  preimages_width = I.preimages_width;
-  basis = I.basis;
-  basis_is = I.basis_is;
-  preimages = I.preimages;
-}
+  abbrev gs : List (Generator (Vector (largest_residue G)))
+  gs = classes G lifts
+
+  abbrev hs : List (Generator (Vector (largest_residue G)))
+  hs = classes G new
+
+  pub valued-stays : (v : Valued) → AreValued G d lifts v → AreValued G d (lifts ++ new) v
+  valued-stays v A = record {
+    prime = A.prime;
+    width = A.width;
+    some = subst (λ ks. AreSome q (degrees ks) d v.monomials) (sym (classes-append G lifts new)) (record {
+      each = λ i l. monomial-up q (cohomology G) gs hs d (slice_index_or v.monomials i []) (A.some.each i l);
+      descending = A.some.descending;
+    });
+    values = subst (λ ks. AreValues q (cohomology G) ks v.monomials v.values.rows)
+        (sym (classes-append G lifts new)) (record {
+          count = A.values.count;
+          each = λ i l. A.values.each i l
+              ∙ sym (from-more (cohomology G) 0 (unit q 0) gs hs (slice_index_or v.monomials i [])
+              (A.some.each i l).within);
+        });
+  }
+
+  standard-stays : (ms : List (List ℕ)) → AreStandard q (cohomology G) gs d ms
+      → AreStandard q (cohomology G) (classes G (lifts ++ new)) d ms
+  standard-stays ms A = subst (λ ks. AreStandard q (cohomology G) ks d ms) (sym (classes-append G lifts new))
+      (record {
+        each = λ i l. (
+          monomial-up q (cohomology G) gs hs d (slice_index_or ms i []) (A.each i l).0,
+          standard-up q (cohomology G) gs hs d above d (omega arith) (slice_index_or ms i []) (A.each i l).1,
+        );
+        all = λ m M s. A.all m (monomial-down q (cohomology G) gs hs d above d (omega arith) m M)
+            (standard-down q (cohomology G) gs hs d m s);
+        descending = A.descending;
+      })
+
+  pub degree-stays : (D : Degree) → IsDegree G d lifts D → IsDegree G d (lifts ++ new) D
+  degree-stays D I = record {
+    left = valued-stays D.left I.left;
+    kernel = I.kernel;
+    kernel_is = I.kernel_is;
+    standard = valued-stays D.standard I.standard;
+    others = I.others;
+    all = standard-stays D.standard.monomials I.all;
+    preimages_prime = I.preimages_prime;
+    preimages_width = I.preimages_width;
+    basis = I.basis;
+    basis_is = I.basis_is;
+    preimages = I.preimages;
+  }
 
 pub lifts-below : (G : PGroup) (n : ℕ) (lifts new : List LiftValue) (basis : List (List ℕ)) (places : List ℕ)
     → All (IsLiftBelow G n) lifts
@@ -182,17 +129,6 @@ pub degrees-bounded : (G : PGroup) (m : ℕ) (xs : List LiftValue) (ds : List �
     → ds ≡ degrees_of xs → All (λ e. e ≤ m) ds
 degrees-bounded G m xs ds a e = subst (All (λ e. e ≤ m)) (sym e)
     (All-map (λ e. e ≤ m) (λ (l : LiftValue). l.degree) xs (λ k d l. (a k d l).to_n))
-
--- one more lift behind those that were added before
-pub all-added : (G : PGroup) (d : ℕ) (lifts old new : List LiftValue) (class : List ℕ) (v w : Valued) → 0 < d
-    → All (IsLiftBelow G d) (lifts ++ old)
-    → length class ≡ rank_of G d → AreAll G d (lifts ++ old) v → new ≡ old ++ new_lift G d class ∷ []
-    → w.monomials ≡ v.monomials ++ power (length (degrees_of (lifts ++ old))) 1 ∷ []
-    → w.values ≡ record v.values { rows = v.values.rows ++ class ∷ [] } → AreAll G d (lifts ++ new) w
-all-added G d lifts old new class v w p b n A en em ev =
-    subst (λ ls. AreAll G d ls w) (append_assoc lifts old (new_lift G d class ∷ [])
-    ∙ ap (λ xs. lifts ++ xs) (sym en))
-    (all-more G d (lifts ++ old) class v w p (positive-degrees G d (lifts ++ old) b) n A em ev)
 
 pub gens-added : (p d : ℕ) (lifts old new : List LiftValue) (l : LiftValue) (g k : Generators)
     → g ≡ record { prime = p; degrees = degrees_of (lifts ++ old) } → l.degree ≡ d

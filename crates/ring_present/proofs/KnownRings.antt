@@ -19,26 +19,28 @@ use Rattle.ring_present.proofs.RelationsOver.{relations-over}
 use Rattle.ring_present.proofs.Shown.{ring-at}
 
 -- what is seen of a ring
-abbrev pub seen : Option PGroup → Generators → List LiftValue → List Polynomial → List Degree → RingValue
-seen group gens lifts rs Ds = record {
+abbrev pub seen : Option PGroup → Generators → List LiftValue → List Polynomial → List Degree
+    → List (List ℕ) → RingValue
+seen group gens lifts rs Ds cs = record {
   prime = gens.prime;
   group = group;
   degree = length Ds;
   generators = lifted lifts;
   relations = rs;
   standard = map (λ d. d.standard.monomials) Ds;
+  candidates = cs;
 }
 
 known-store : (group : Option PGroup) (gens : Generators) (lifts : List LiftValue) (rs : List Polynomial)
-    (Ds : List Degree)
-    → IsRingStore group gens lifts rs Ds → IsKnown (seen group gens lifts rs Ds)
-known-store None gens lifts rs Ds S = record {
+    (Ds : List Degree) (cs : List (List ℕ))
+    → IsRingStore group gens lifts rs Ds → IsKnown (seen group gens lifts rs Ds cs)
+known-store None gens lifts rs Ds cs S = record {
   degree_is = ap (λ (Ds : List Degree). length Ds) S.through.no_degrees;
   no_generators = ap lifted S.through.no_generators;
   no_relations = S.through.no_relations;
   no_standard = ap (map (λ (d : Degree). d.standard.monomials)) S.through.no_degrees;
 }
-known-store (Some G) gens lifts rs Ds S = record {
+known-store (Some G) gens lifts rs Ds cs S = record {
   prime_is = S.through.prime;
   high = S.through.high;
   presentation = S.through.presentation;
@@ -46,9 +48,9 @@ known-store (Some G) gens lifts rs Ds S = record {
 }
 
 pub known-ring : (R : RingValue) (group : Option PGroup) (gens : Generators) (lifts : List LiftValue)
-    (rs : List Polynomial) (Ds : List Degree)
-    → IsRingStore group gens lifts rs Ds → seen group gens lifts rs Ds ≡ R → IsKnown R
-known-ring R group gens lifts rs Ds S e = subst IsKnown e (known-store group gens lifts rs Ds S)
+    (rs : List Polynomial) (Ds : List Degree) {cs : List (List ℕ)}
+    → IsRingStore group gens lifts rs Ds → seen group gens lifts rs Ds cs ≡ R → IsKnown R
+known-ring R group gens lifts rs Ds {cs} S e = subst IsKnown e (known-store group gens lifts rs Ds cs S)
 
 over-store : (group : Option PGroup) (gens : Generators) (lifts : List LiftValue) (rs : List Polynomial)
     (Ds : List Degree) → IsRingStore group gens lifts rs Ds
@@ -63,8 +65,8 @@ over-store (Some G) gens lifts rs Ds S i f l e =
 
 -- a relation is a polynomial over the generators
 pub relation-over : (R : RingValue) (group : Option PGroup) (gens : Generators) (lifts : List LiftValue)
-    (rs : List Polynomial) (Ds : List Degree) → IsRingStore group gens lifts rs Ds
-    → seen group gens lifts rs Ds ≡ R → (i : ℕ) (f : Polynomial) → i < length R.relations
+    (rs : List Polynomial) (Ds : List Degree) {cs : List (List ℕ)} → IsRingStore group gens lifts rs Ds
+    → seen group gens lifts rs Ds cs ≡ R → (i : ℕ) (f : Polynomial) → i < length R.relations
     → f ≡ slice_index_or rs i f
     → IsOverGenerators (record { prime = R.prime; degrees = map (λ g. g.degree) R.generators }) f
 relation-over R group gens lifts rs Ds S e i f l at =
@@ -81,8 +83,8 @@ lifted-at lifts i L g l e = ap (λ (l : LiftValue). record { degree = l.degree; 
 
 -- the class of a generator has the rank of its degree as its length
 pub class-length : (R : RingValue) (group : Option PGroup) (gens : Generators) (lifts : List LiftValue)
-    (rs : List Polynomial) (Ds : List Degree) → IsRingStore group gens lifts rs Ds
-    → seen group gens lifts rs Ds ≡ R → (i : ℕ) (L : LiftValue) (n : ℕ) → i < length R.generators
+    (rs : List Polynomial) (Ds : List Degree) {cs : List (List ℕ)} → IsRingStore group gens lifts rs Ds
+    → seen group gens lifts rs Ds cs ≡ R → (i : ℕ) (L : LiftValue) (n : ℕ) → i < length R.generators
     → L ≡ slice_index_or lifts i L → n ≡ rank_of L.group L.degree
     → (G : PGroup) → R.group ≡ Some G → (g : GeneratorValue)
     → n ≡ rank_of G (slice_index_or R.generators i g).degree

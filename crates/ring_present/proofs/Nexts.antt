@@ -1,46 +1,45 @@
 -- The generators, the relations and the standard monomials of the next degree.
 use Rattle.std.proofs.Common.{◌≡◌, ℕ, suc, ◌<◌, ◌≤◌, List, [], ◌∷◌, ◌++◌, length, map, arith, ap, sym, ◌∙◌}
 use Rattle.std.proofs.Common.{refl}
-use Rattle.std.specs.Prelude.{slice_index_or, All}
+use Rattle.std.specs.Prelude.{All}
 use Rattle.std.specs.List.{AllByRecursion as Each}
-use Rattle.std.proofs.lemmas.List.Elements.{All-weaker, All-map}
+use Rattle.std.proofs.lemmas.List.Elements.{All-append, All-map, All-weaker}
 use mathlib.Core.Path.{subst}
 use Rattle.p_groups.specs.PGroups.{PGroup, largest_residue}
-use Rattle.p_groups.proofs.Fields.{field, residues}
+use Rattle.p_groups.proofs.Fields.{field}
 use Rattle.linear_algebra.specs.Rows.{entry, row, IsEchelonOf, IsInSpan, AreInSpan}
 use Rattle.linear_algebra.specs.Kernels.{IsKernelOf}
 use Rattle.linear_algebra.specs.Choices.{IsGreedy, rows_at, ArePreimages}
 use Rattle.linear_algebra.proofs.Spans.{in_span_trans}
 use Rattle.linear_algebra.proofs.GreedyChoice.{greedy-spans}
 use Rattle.fp_rows.specs.Values.{MatrixValue}
-use Rattle.graded_polynomials.specs.Monomials.{IsMonomials}
-use Rattle.graded_polynomials.specs.Polynomials.{Polynomial, IsPolynomial}
+use Rattle.graded_polynomials.specs.Polynomials.{Polynomial}
 use Rattle.graded_algebra.specs.Algebras.{Generator, degrees}
 use Rattle.graded_algebra.specs.Presentations.{IsSpanGenerators, IsRelations}
-use Rattle.graded_algebra.specs.Vectors.{Vector, vectors, unit}
-use Rattle.graded_algebra.proofs.Relations.{defining}
+use Rattle.graded_algebra.specs.Vectors.{Vector}
 use Rattle.graded_algebra.proofs.Stability.{relations-up}
 use Rattle.gc_poly.specs.Generators.{Generators, greatest}
-use Rattle.presentation_rows.specs.Values.{AreUnitRows}
+use Rattle.presentation_rows.specs.Values.{AreValues, AreUnitRows}
 use Rattle.presentation_rows.specs.Pivots.{new_relations}
-use Rattle.presentation_rows.specs.Multiples.{AreMultiples}
 use Rattle.presentation_rows.proofs.Combinations.{span-with}
-use Rattle.presentation_rows.proofs.NewGenerators.{chosen-units}
-use Rattle.presentation_rows.proofs.NewRelations.{relations-from}
-use Rattle.presentation_rows.proofs.MultipleRows.{consequence-pivots}
 use Rattle.min_res.specs.Stages.{rank_of}
 use Rattle.chain_lift.specs.Values.{LiftValue}
 use Rattle.chain_lift.specs.Products.{multiply}
+use Rattle.ring_completion.specs.Candidates.{AreSome}
+use Rattle.ring_completion.proofs.Results.{generators-of-left, relations-of-list, separates-left}
+use Rattle.ring_completion.proofs.Results.{nothing-leads}
+use Rattle.ring_completion.proofs.Results.{standard-of-list, all-standard}
 use Rattle.ring_present.specs.Rings.{cohomology, dual_basis}
-use Rattle.ring_present.specs.Degrees.{classes, degrees_of, new_lift, AreAll, IsDegree, AreDegrees}
+use Rattle.ring_present.specs.Degrees.{classes, degrees_of, new_lift, AreLeftOf, AreValued, IsDegree}
+use Rattle.ring_present.specs.Degrees.{IsLiftBelow}
 use Rattle.ring_present.specs.Nexts.{IsLiftOf}
-use Rattle.ring_present.specs.Standard.{without_pivots}
-use Rattle.ring_present.specs.Multiples.{IsRelationBelow, HaveMonomials, AreNewRelations}
+use Rattle.ring_present.specs.Standard.{AreStandard, without_pivots}
 use Rattle.ring_present.specs.declared.degree.Valued.{Valued}
 use Rattle.ring_present.specs.declared.degree.Degree.{Degree}
 use Rattle.ring_present.proofs.Factors.{degrees-are}
-use Rattle.ring_present.proofs.Growing.{classes-append, new-classes, all-stays}
-use Rattle.ring_present.proofs.Kept.{IsStoredTo, relations-stored}
+use Rattle.ring_present.specs.Graded.{graded_classes}
+use Rattle.ring_present.proofs.Growing.{classes-append, new-classes}
+use Rattle.ring_present.proofs.StandardMonomials.{standard-among, values-left}
 
 -- the dual basis is in the span of the values and of the rows that are chosen
 pub basis-in-span : (p width : ℕ) (rows span basis all : List (List ℕ)) (places : List ℕ)
@@ -54,25 +53,20 @@ basis-in-span p width rows span basis all places E g e i l =
 -- the generators of the next degree
 pub chosen-generators : (G : PGroup) (n : ℕ) (lifts new : List LiftValue) (basis : List (List ℕ))
     (places : List ℕ) → new ≡ map (λ k. new_lift G (suc n) (row basis k)) places
-    → (v : Valued) (span : List (List ℕ))
+    → (v : Valued) (span : List (List ℕ)) (rs : List Polynomial)
+    → Each (λ d. 0 < d) (degrees (classes G lifts))
     → IsSpanGenerators (largest_residue G) (cohomology G) (dual_basis G) n (classes G lifts)
-    → AreAll G (suc n) lifts v → AreUnitRows (rank_of G (suc n)) basis
+    → IsRelations (largest_residue G) (cohomology G) (classes G lifts) n rs
+    → AreLeftOf G rs (suc n) lifts v → AreUnitRows (rank_of G (suc n)) basis
     → IsEchelonOf (suc (largest_residue G)) (rank_of G (suc n)) v.values.rows span
     → IsGreedy (suc (largest_residue G)) basis span places → All (λ k. k < length basis) places
     → IsSpanGenerators (largest_residue G) (cohomology G) (dual_basis G) (suc n) (classes G (lifts ++ new))
-chosen-generators G n lifts new basis places en v span P A U E g inside =
+chosen-generators G n lifts new basis places en v span rs positive P R A U E g inside =
     subst (λ gs. IsSpanGenerators (largest_residue G) (cohomology G) (dual_basis G) (suc n) gs)
     (sym (classes-append G lifts new ∙ ap (λ gs. classes G lifts ++ gs) (ap (classes G) en
-    ∙ new-classes G (suc n) (rank_of G (suc n)) basis places U inside))) (
-      classes G lifts,
-      v.monomials,
-      map (unit (largest_residue G)) places,
-      P,
-      A.monomials,
-      chosen-units (largest_residue G) (rank_of G (suc n)) (multiply G)
-          (classes G lifts) v.monomials v.values.rows span basis A.values E U places g,
-      refl,
-    )
+    ∙ new-classes G (suc n) (rank_of G (suc n)) basis places U inside)))
+    (generators-of-left (largest_residue G) n (field G) (graded_classes G) (classes G lifts) positive rs R
+    v.monomials v.values.rows span basis places A.left A.valued.values P E U g)
 
 pub above-new : (G : PGroup) (n e : ℕ) (new : List LiftValue) → e ≤ n → All (IsLiftOf G (suc n)) new
     → Each (λ d. e < d) (degrees (classes G new))
@@ -82,105 +76,40 @@ above-new G n e (x ∷ new) l a = (
   above-new G n e new l (λ k y b. a (suc k) y (omega (arith, b))),
 )
 
-module _ (G : PGroup) (n : ℕ) (lifts new : List LiftValue) (relations : List Polynomial)
-    (P : IsRelations (largest_residue G) (cohomology G) (classes G lifts) n relations)
-    (are : All (IsLiftOf G (suc n)) new) where
-  abbrev q : ℕ
-  q = largest_residue G
+-- the lifts through the next degree
+pub all-below : (G : PGroup) (n : ℕ) (lifts new : List LiftValue) → All (IsLiftBelow G n) lifts
+    → All (IsLiftOf G (suc n)) new → All (IsLiftBelow G (suc n)) (lifts ++ new)
+all-below G n lifts new a b = All-append (IsLiftBelow G (suc n)) lifts new
+    (All-weaker (IsLiftBelow G n) (IsLiftBelow G (suc n))
+    (λ l h. record {
+      group_is = h.group_is;
+      from_one = h.from_one;
+      to_n = (let z = h.to_n in omega (arith, z));
+    }) lifts a)
+    (All-weaker (IsLiftOf G (suc n)) (IsLiftBelow G (suc n))
+    (λ l h. record {
+      group_is = h.group_is;
+      from_one = (let z = h.degree_is in omega (arith, z));
+      to_n = (let z = h.degree_is in omega (arith, z));
+    }) new b)
 
-  abbrev hs : List (Generator (Vector (largest_residue G)))
-  hs = classes G (lifts ++ new)
-
-  -- the old relations, with the new generators
-  pub old-relations : IsRelations q (cohomology G) hs n relations
-  old-relations = subst (λ gs. IsRelations q (cohomology G) gs n relations) (sym (classes-append G lifts new))
-      (relations-up q (Vector q) (cohomology G) (classes G lifts) (classes G new) n
-      (above-new G n n new (omega arith) are) n (omega arith) relations P)
-
-  pub next-relations : (w : Valued) (list leading kernel : List (List ℕ)) (rs : List Polynomial)
-      → AreAll G (suc n) (lifts ++ new) w
-      → AreMultiples q (degrees hs) relations (suc n) w.monomials list
-      → IsEchelonOf (suc q) (length w.monomials) list leading
-      → IsKernelOf (suc q) w.values.rows kernel → rs ≡ new_relations (suc n) w.monomials leading kernel
-      → IsRelations q (cohomology G) hs (suc n) (relations ++ rs)
-  next-relations w list leading kernel rs A R E K e =
-      subst (λ rs. IsRelations q (cohomology G) hs (suc n) (relations ++ rs)) (sym e) (
-        relations,
-        new_relations (suc n) w.monomials leading kernel,
-        w.monomials,
-        old-relations,
-        A.monomials,
-        relations-from q (suc n) (multiply G) hs relations w.monomials w.values.rows kernel leading
-            (field G).above_one A.monomials A.values K
-            (consequence-pivots q (suc n) (Vector q)
-            (vectors q (multiply G)) hs relations w.monomials list leading
-            (λ r o. (defining q (Vector q)
-            (vectors q (multiply G)) hs n relations old-relations r o).vanishes.over) A.monomials R E
-            (field G).above_one),
-        refl,
-      )
-
-  module _ (gens : Generators) (eg : gens ≡ record {
-    prime = G.table.p;
-    degrees = degrees_of (lifts ++ new);
-  }) where
-    pub greatest-is : greatest gens ≡ q
-    greatest-is = ap greatest eg
-
-    pub gens-degrees : gens.degrees ≡ degrees hs
-    gens-degrees = ap (λ (g : Generators). g.degrees) eg ∙ sym (degrees-are G (lifts ++ new))
-
-    -- the old relations over the new generators
-    pub relations-below : All (IsRelationBelow gens (suc n)) relations
-    relations-below = All-weaker (IsStoredTo q (degrees hs) n) (IsRelationBelow gens (suc n))
-        (λ r s. record {
-          over = subst (λ ds. IsPolynomial (greatest gens) ds r.degree r.terms) (sym gens-degrees)
-              (subst (λ m. IsPolynomial m (degrees hs) r.degree r.terms) (sym greatest-is) s.over);
-          low = s.low;
-          high = (let z = s.high in omega (arith, z));
-        }) relations (relations-stored q (Vector q) (cohomology G) hs n relations old-relations)
-
-    -- the monomials of lower degree in the new generators
-    pub monomials-below : (Ds : List Degree) → length Ds ≡ n → AreDegrees G n lifts Ds → HaveMonomials gens Ds
-    monomials-below Ds c D e x l =
-        subst (λ ds. IsMonomials (greatest gens) ds (suc e) (slice_index_or Ds e x).all.monomials)
-        (sym gens-degrees)
-        (subst (λ m. IsMonomials m (degrees hs) (suc e) (slice_index_or Ds e x).all.monomials)
-        (sym greatest-is)
-        (all-stays G (suc e) lifts new (slice_index_or Ds e x).all
-        (above-new G n (suc e) new (omega (arith, l, c)) are)
-        (D.each e x (omega (arith, l, c))).all).monomials)
-
-    -- the new relations, from what was computed over the new generators
-    pub relations-next : (w : Valued) (kernel : List (List ℕ)) (rs : List Polynomial)
-        → AreAll G (suc n) (lifts ++ new) w
-        → AreNewRelations gens relations (suc n) w.monomials kernel rs
-        → IsKernelOf w.values.p w.values.rows kernel
-        → IsRelations q (cohomology G) hs (suc n) (relations ++ rs)
-    relations-next w kernel rs A f K =
-        next-relations w f.0 f.1 kernel rs A
-        (subst (λ ds. AreMultiples q ds relations (suc n) w.monomials f.0) gens-degrees
-        (subst (λ m. AreMultiples m gens.degrees relations (suc n) w.monomials f.0) greatest-is f.2))
-        (subst (λ p. IsEchelonOf p (length w.monomials) f.0 f.1) (ap (λ (g : Generators). g.prime) eg
-        ∙ sym (residues G)) f.3)
-        (subst (λ p. IsKernelOf p w.values.rows kernel) A.prime K) f.4
+-- the old relations, with the new generators
+pub old-relations : (G : PGroup) (n : ℕ) (lifts new : List LiftValue) (rs : List Polynomial)
+    → IsRelations (largest_residue G) (cohomology G) (classes G lifts) n rs → All (IsLiftOf G (suc n)) new
+    → IsRelations (largest_residue G) (cohomology G) (classes G (lifts ++ new)) n rs
+old-relations G n lifts new rs P are =
+    subst (λ gs. IsRelations (largest_residue G) (cohomology G) gs n rs) (sym (classes-append G lifts new))
+    (relations-up (largest_residue G) (Vector (largest_residue G)) (cohomology G) (classes G lifts)
+    (classes G new) n (above-new G n n new (omega arith) are) n (omega arith) rs P)
 
 -- monomials in the generators of the lifts
-pub gens-monomials : (G : PGroup) (lifts : List LiftValue) (gens : Generators) (d : ℕ) (ms : List (List ℕ))
+pub some-of-gens : (G : PGroup) (lifts : List LiftValue) (gens : Generators) (d : ℕ) (ms : List (List ℕ))
     → gens ≡ record { prime = G.table.p; degrees = degrees_of lifts }
-    → IsMonomials (greatest gens) gens.degrees d ms
-    → IsMonomials (largest_residue G) (degrees (classes G lifts)) d ms
-gens-monomials G lifts gens d ms e M =
-    subst (λ ds. IsMonomials (largest_residue G) ds d ms) (sym (degrees-are G lifts))
-    (subst (λ (g : Generators). IsMonomials (greatest g) g.degrees d ms) e M)
-
-pub monomials-of-gens : (G : PGroup) (lifts : List LiftValue) (gens : Generators) (d : ℕ) (ms : List (List ℕ))
-    → gens ≡ record { prime = G.table.p; degrees = degrees_of lifts }
-    → IsMonomials (largest_residue G) (degrees (classes G lifts)) d ms
-    → IsMonomials (greatest gens) gens.degrees d ms
-monomials-of-gens G lifts gens d ms e M =
-    subst (λ (g : Generators). IsMonomials (greatest g) g.degrees d ms) (sym e)
-    (subst (λ ds. IsMonomials (largest_residue G) ds d ms) (degrees-are G lifts) M)
+    → AreSome (largest_residue G) (degrees (classes G lifts)) d ms
+    → AreSome (greatest gens) gens.degrees d ms
+some-of-gens G lifts gens d ms e S =
+    subst (λ (g : Generators). AreSome (greatest g) g.degrees d ms) (sym e)
+    (subst (λ ds. AreSome (largest_residue G) ds d ms) (degrees-are G lifts) S)
 
 pub new-lifts-are : (G : PGroup) (n : ℕ) (basis : List (List ℕ)) (places : List ℕ) (new : List LiftValue)
     → new ≡ map (λ k. new_lift G (suc n) (row basis k)) places → All (IsLiftOf G (suc n)) new
@@ -189,28 +118,69 @@ new-lifts-are G n basis places new e =
     (All-map (IsLiftOf G (suc n)) (λ k. new_lift G (suc n) (row basis k)) places
     (λ k d l. record { group_is = refl; degree_is = refl }))
 
--- what is kept of the next degree
-pub next-degree-is : (G : PGroup) (d : ℕ) (lifts : List LiftValue) (w : Valued) (D : Degree)
-    (kernel basis : List (List ℕ)) → AreAll G d lifts w
-    → IsKernelOf w.values.p w.values.rows kernel → AreUnitRows (rank_of G d) basis → D.all ≡ w
-    → D.standard.monomials ≡ without_pivots kernel 0 w.monomials
-    → D.standard.values ≡ record w.values { rows = without_pivots kernel 0 w.values.rows }
-    → D.preimages.p ≡ w.values.p → D.preimages.width ≡ length w.values.rows
-    → ArePreimages w.values.p w.values.rows kernel basis D.preimages.rows → IsDegree G d lifts D
-next-degree-is G d lifts w D kernel basis A K U ew em ev ep en P = record {
-  all = subst (AreAll G d lifts) (sym ew) A;
-  kernel = kernel;
-  kernel_is = subst (λ v. IsKernelOf (suc (largest_residue G)) v.values.rows kernel) (sym ew)
-      (subst (λ p. IsKernelOf p w.values.rows kernel) A.prime K);
-  standard = subst (λ v. D.standard.monomials ≡ without_pivots kernel 0 v.monomials) (sym ew) em;
-  standard_prime = ap (λ (m : MatrixValue). m.p) ev ∙ A.prime;
-  standard_width = ap (λ (m : MatrixValue). m.width) ev ∙ A.width;
-  standard_values = subst (λ v. D.standard.values.rows ≡ without_pivots kernel 0 v.values.rows) (sym ew)
-      (ap (λ (m : MatrixValue). m.rows) ev);
-  preimages_prime = ep ∙ A.prime;
-  preimages_width = subst (λ v. D.preimages.width ≡ length v.monomials) (sym ew) (en ∙ A.values.count);
-  basis = basis;
-  basis_is = U;
-  preimages = subst (λ v. ArePreimages (suc (largest_residue G)) v.values.rows kernel basis D.preimages.rows)
-      (sym ew) (subst (λ p. ArePreimages p w.values.rows kernel basis D.preimages.rows) A.prime P);
-}
+-- of the next degree, with all its generators: what is left, and the kernel of its values
+module _ (G : PGroup) (n : ℕ) (lifts : List LiftValue) (rs : List Polynomial)
+    (positive : Each (λ d. 0 < d) (degrees (classes G lifts)))
+    (R : IsRelations (largest_residue G) (cohomology G) (classes G lifts) n rs)
+    (w : Valued) (A : AreLeftOf G rs (suc n) lifts w) (kernel : List (List ℕ))
+    (K : IsKernelOf w.values.p w.values.rows kernel) where
+  abbrev q : ℕ
+  q = largest_residue G
+
+  abbrev gs : List (Generator (Vector (largest_residue G)))
+  gs = classes G lifts
+
+  kernel-is : IsKernelOf (suc (largest_residue G)) w.values.rows kernel
+  kernel-is = subst (λ p. IsKernelOf p w.values.rows kernel) A.valued.prime K
+
+  pub next-relations : (new : List Polynomial) → new ≡ new_relations (suc n) w.monomials [] kernel
+      → IsRelations q (cohomology G) gs (suc n) (rs ++ new)
+  next-relations new e = subst (λ new. IsRelations q (cohomology G) gs (suc n) (rs ++ new)) (sym e)
+      (relations-of-list q n (field G) (graded_classes G) gs positive rs R w.monomials w.values.rows kernel
+      A.left.some (separates-left q n (field G) (graded_classes G) gs positive rs R w.monomials A.left)
+      A.valued.values kernel-is []
+      (nothing-leads q n (field G) (graded_classes G) gs positive rs R w.monomials A.left))
+
+  standard : AreStandard q (cohomology G) gs (suc n) (without_pivots kernel 0 w.monomials)
+  standard = standard-among q (suc n) (cohomology G) gs w.monomials kernel A.left.some
+      (standard-of-list q n (field G) (graded_classes G) gs positive rs R w.monomials w.values.rows kernel
+      A.left.some (separates-left q n (field G) (graded_classes G) gs positive rs R w.monomials A.left)
+      A.valued.values kernel-is)
+      (all-standard q n (field G) (graded_classes G) gs positive rs R w.monomials w.values.rows kernel
+      A.left.some (separates-left q n (field G) (graded_classes G) gs positive rs R w.monomials A.left)
+      A.valued.values kernel-is)
+
+  -- what is kept of the degree
+  pub next-degree-is : (D : Degree) (basis : List (List ℕ)) → AreUnitRows (rank_of G (suc n)) basis
+      → D.left ≡ w
+      → D.standard.monomials ≡ without_pivots kernel 0 w.monomials
+      → D.standard.values ≡ record w.values { rows = without_pivots kernel 0 w.values.rows }
+      → D.preimages.p ≡ w.values.p → D.preimages.width ≡ length w.values.rows
+      → ArePreimages w.values.p w.values.rows kernel basis D.preimages.rows → IsDegree G (suc n) lifts D
+  next-degree-is D basis U ew em ev ep en P = record {
+    left = subst (AreValued G (suc n) lifts) (sym ew) A.valued;
+    kernel = kernel;
+    kernel_is = subst (λ v. IsKernelOf (suc (largest_residue G)) v.values.rows kernel) (sym ew) kernel-is;
+    standard = record {
+      prime = ap (λ (m : MatrixValue). m.p) ev ∙ A.valued.prime;
+      width = ap (λ (m : MatrixValue). m.width) ev ∙ A.valued.width;
+      some = record { each = λ i l. (all.each i l).0; descending = all.descending };
+      values = subst (λ ms. AreValues q (cohomology G) gs ms D.standard.values.rows) (sym em)
+          (subst (λ rows. AreValues q (cohomology G) gs (without_pivots kernel 0 w.monomials) rows)
+          (sym (ap (λ (m : MatrixValue). m.rows) ev))
+          (values-left q (multiply G) gs w.monomials w.values.rows kernel A.valued.values));
+    };
+    others = subst (λ v. D.standard.monomials ≡ without_pivots kernel 0 v.monomials) (sym ew) em;
+    all = all;
+    preimages_prime = ep ∙ A.valued.prime;
+    preimages_width = subst (λ v. D.preimages.width ≡ length v.monomials) (sym ew)
+        (en ∙ A.valued.values.count);
+    basis = basis;
+    basis_is = U;
+    preimages = subst (λ v. ArePreimages (suc (largest_residue G)) v.values.rows kernel basis
+        D.preimages.rows) (sym ew)
+        (subst (λ p. ArePreimages p w.values.rows kernel basis D.preimages.rows) A.valued.prime P);
+  }
+    where
+      all : AreStandard q (cohomology G) gs (suc n) D.standard.monomials
+      all = subst (AreStandard q (cohomology G) gs (suc n)) (sym em) standard

@@ -1,10 +1,10 @@
 -- Polynomials and relations of rows, one place or row after another.
 use Rattle.std.proofs.Common.{◌≡◌, ℕ, zero, suc, ◌+◌, ◌<◌, ◌≤◌, Bool, true, false, cond, List, [], ◌∷◌, ◌++◌}
 use Rattle.std.proofs.Common.{length, get_or, take, add-one, arith, ap, ap₂, sym, ◌∙◌, refl}
-use Rattle.std.proofs.lemmas.List.{take_more, take_all, append-nil}
-use Rattle.linear_algebra.specs.Rows.{entry, row, pivot, IsRow, is_pivot}
+use Rattle.std.proofs.lemmas.List.{take_more, take_all}
+use Rattle.linear_algebra.specs.Rows.{entry, row, IsRow}
 use Rattle.linear_algebra.proofs.Congruences.{congruent_eq}
-use Rattle.graded_polynomials.specs.Monomials.{IsMonomials, same}
+use Rattle.graded_polynomials.specs.Monomials.{same}
 use Rattle.graded_polynomials.specs.Polynomials.{Polynomial, IsSame, coefficient}
 use Rattle.graded_polynomials.proofs.Stored.{polynomial-unique}
 use Rattle.graded_polynomials.proofs.Terms.{coefficient-append, same-refl}
@@ -13,7 +13,8 @@ use Rattle.gc_poly.specs.Polynomials.{IsSumOf}
 use Rattle.gc_poly.proofs.SumLemmas.{more-sum, same-sum}
 use Rattle.presentation_rows.specs.Pivots.{new_relations}
 use Rattle.presentation_rows.specs.RowPolynomials.{polynomial_of}
-use Rattle.presentation_rows.proofs.RowTerms.{polynomial-of-row}
+use Rattle.ring_completion.specs.Candidates.{AreSome}
+use Rattle.ring_completion.proofs.ListRows.{polynomial-of-list}
 
 nothing : (b : Bool) → 0 ≡ 0 + cond b 0 0
 nothing true = refl
@@ -53,57 +54,27 @@ term-added g d i c ms u m f h l k e n F H =
     (same-more ms u i c m l k e n)
 
 pub polynomial-is : (g : Generators) (d i : ℕ) (ms : List (List ℕ)) (u : List ℕ) (f : Polynomial)
-    → IsMonomials (greatest g) g.degrees d ms
+    → AreSome (greatest g) g.degrees d ms
     → IsRow (suc (greatest g)) (length ms) u
     → length ms ≤ i → IsSumOf g d (polynomial_of (take i ms) u) f
     → f ≡ record { degree = d; terms = polynomial_of ms u }
 polynomial-is g d i ms u f M R l F = ap₂ (λ e ts. record { degree = e; terms = ts }) F.degree_is
     (polynomial-unique (greatest g) g.degrees f.degree d f.terms (polynomial_of ms u) F.over
-    (polynomial-of-row M u R)
+    (polynomial-of-list M u R)
     (rw (take_all i ms l) at F.same))
 
 -- one more row of the kernel
-relations-append : (d : ℕ) (ms multiples K L : List (List ℕ))
-    → new_relations d ms multiples (K ++ L) ≡ new_relations d ms multiples K ++ new_relations d ms multiples L
-relations-append d ms multiples [] L = refl
-relations-append d ms multiples (u ∷ K) L =
-    go (is_pivot multiples (pivot u)) (relations-append d ms multiples K L)
-  where
-    go : (b : Bool) → new_relations d ms multiples
-        (K ++ L) ≡ new_relations d ms multiples K ++ new_relations d ms multiples L
-        → cond b (new_relations d ms multiples (K ++ L))
-        (record { degree = d; terms = polynomial_of ms u } ∷ new_relations d ms multiples (K ++ L))
-        ≡ cond b (new_relations d ms multiples K)
-        (record { degree = d; terms = polynomial_of ms u } ∷ new_relations d ms multiples K) ++
-        new_relations d ms multiples L
-    go true e = e
-    go false e = ap (λ (rs : List Polynomial). record { degree = d; terms = polynomial_of ms u } ∷ rs) e
+relations-append : (d : ℕ) (ms K L : List (List ℕ))
+    → new_relations d ms [] (K ++ L) ≡ new_relations d ms [] K ++ new_relations d ms [] L
+relations-append d ms [] L = refl
+relations-append d ms (u ∷ K) L =
+    ap (λ (rs : List Polynomial). record { degree = d; terms = polynomial_of ms u } ∷ rs)
+    (relations-append d ms K L)
 
-relations-more : (d : ℕ) (ms multiples kernel : List (List ℕ)) (i k : ℕ) → i < length kernel
-    → k ≡ pivot (row kernel i) → (b : Bool)
-    → is_pivot multiples k ≡ b
-    → new_relations d ms multiples (take (i + 1) kernel)
-    ≡ new_relations d ms multiples (take i kernel) ++ cond b []
-    (record { degree = d; terms = polynomial_of ms (row kernel i) } ∷ [])
-relations-more d ms multiples kernel i k l e b p =
-    ap (new_relations d ms multiples) (take_more kernel i [] l)
-    ∙ relations-append d ms multiples (take i kernel) (row kernel i ∷ [])
-    ∙ ap (λ c. new_relations d ms multiples (take i kernel) ++ cond c []
-    (record { degree = d; terms = polynomial_of ms (row kernel i) } ∷ []))
-    (ap (is_pivot multiples) (sym e) ∙ p)
-
-pub relation-taken : (d : ℕ) (ms multiples kernel : List (List ℕ)) (i k : ℕ) (old new : List Polynomial)
-    (f : Polynomial) → i < length kernel
-    → k ≡ pivot (row kernel i)
-    → is_pivot multiples k ≡ false → f ≡ record { degree = d; terms = polynomial_of ms (row kernel i) }
-    → old ≡ new_relations d ms multiples (take i kernel)
-    → new ≡ old ++ f ∷ [] → new ≡ new_relations d ms multiples (take (i + 1) kernel)
-relation-taken d ms multiples kernel i k old new f l e p h o n = n
-    ∙ rw (o, h) (sym (relations-more d ms multiples kernel i k l e false p))
-
-pub row-left-out : (d : ℕ) (ms multiples kernel : List (List ℕ)) (i k : ℕ) (old : List Polynomial)
-    → i < length kernel → k ≡ pivot (row kernel i)
-    → is_pivot multiples k ≡ true → old ≡ new_relations d ms multiples (take i kernel)
-    → old ≡ new_relations d ms multiples (take (i + 1) kernel)
-row-left-out d ms multiples kernel i k old l e p o = o ∙ sym (append-nil _)
-    ∙ sym (relations-more d ms multiples kernel i k l e true p)
+pub relation-taken : (d : ℕ) (ms kernel : List (List ℕ)) (i : ℕ) (old new : List Polynomial) (f : Polynomial)
+    → i < length kernel → f ≡ record { degree = d; terms = polynomial_of ms (row kernel i) }
+    → old ≡ new_relations d ms [] (take i kernel) → new ≡ old ++ f ∷ []
+    → new ≡ new_relations d ms [] (take (i + 1) kernel)
+relation-taken d ms kernel i old new f l h o n = n ∙ rw (o, h)
+    (sym (ap (new_relations d ms []) (take_more kernel i [] l)
+    ∙ relations-append d ms (take i kernel) (row kernel i ∷ [])))

@@ -8,25 +8,25 @@ use Rattle.p_groups.proofs.Fields.{field, residues}
 use Rattle.linear_algebra.specs.Rows.{entry, row, combination_row, IsRow, IsMatrix, IsCombination}
 use Rattle.linear_algebra.proofs.CombinationRows.{combination_row-is_row, combination_row-each}
 use Rattle.linear_algebra.proofs.Congruences.{congruent_sym}
-use Rattle.graded_polynomials.specs.Monomials.{IsMonomials}
 use Rattle.graded_polynomials.specs.Polynomials.{Polynomial}
 use Rattle.graded_algebra.specs.Algebras.{degrees, evaluate}
 use Rattle.graded_algebra.specs.Presentations.{IsNormalForm}
 use Rattle.gc_poly.specs.Generators.{Generators, greatest}
 use Rattle.presentation_rows.specs.RowPolynomials.{polynomial_of}
 use Rattle.presentation_rows.specs.Values.{vector, AreValues}
-use Rattle.presentation_rows.proofs.NormalFormRows.{normal-form-of, preimage-of-combination}
+use Rattle.presentation_rows.proofs.NormalFormRows.{preimage-of-combination}
 use Rattle.min_res.specs.Stages.{rank_of}
 use Rattle.chain_lift.specs.Values.{LiftValue}
 use Rattle.chain_lift.specs.Products.{multiply}
+use Rattle.ring_completion.specs.Candidates.{AreSome}
 use Rattle.ring_present.specs.Rings.{cohomology}
 use Rattle.ring_present.specs.Values.{RingValue, generators_of, standard_of}
-use Rattle.ring_present.specs.Standard.{AreStandard, without_pivots}
+use Rattle.ring_present.specs.Standard.{AreStandard}
 use Rattle.ring_present.specs.Degrees.{classes, degrees_of, lifted, IsDegree, IsLiftBelow}
 use Rattle.ring_present.specs.Stores.{IsRingOf, IsRingStore}
 use Rattle.ring_present.specs.declared.degree.Degree.{Degree}
 use Rattle.ring_present.proofs.Factors.{all-at, degrees-are}
-use Rattle.ring_present.proofs.StandardMonomials.{standard-left, values-left}
+use Rattle.ring_present.proofs.StandardMonomials.{normal-form-among}
 
 pub ring-at : (group : Option PGroup) (gens : Generators) (lifts : List LiftValue) (rs : List Polynomial)
     (Ds : List Degree) (G : PGroup) → IsRingStore group gens lifts rs Ds
@@ -68,13 +68,14 @@ pub record IsSeen (R : RingValue) (group : Option PGroup) (gens : Generators) (l
 
 pub seen-of : (R : RingValue) (group : Option PGroup) (gens : Generators) (lifts : List LiftValue)
     (rs : List Polynomial) (Ds : List Degree)
-    → record {
+    {cs : List (List ℕ)} → record {
       prime = gens.prime;
       group = group;
       degree = length Ds;
       generators = lifted lifts;
       relations = rs;
       standard = map (λ d. d.standard.monomials) Ds;
+      candidates = cs;
     } ≡ R → IsSeen R group gens lifts rs Ds
 seen-of R group gens lifts rs Ds e = record {
   prime_is = ap (λ (x : RingValue). x.prime) (sym e);
@@ -120,35 +121,25 @@ module _ (R : RingValue) (group : Option PGroup) (gens : Generators) (lifts : Li
 
     pub standard-seen : AreStandard q (cohomology G) (generators_of q R.generators) d at.standard.monomials
     standard-seen =
-        subst (λ ms. AreStandard q (cohomology G) (generators_of q R.generators) d ms) (sym degree.standard)
-        (subst (λ k. AreStandard q (cohomology G) (generators_of q R.generators) k
-        (without_pivots degree.kernel 0 at.all.monomials)) (sym step)
-        (subst (λ gs. AreStandard q (cohomology G) gs (suc (d - 1))
-        (without_pivots degree.kernel 0 at.all.monomials)) classes-are
-        (standard-left q (suc (d - 1)) (multiply G)
-        (classes G lifts) at.all.monomials at.all.values.rows degree.kernel
-        (field G).above_one degree.all.monomials degree.all.values degree.kernel_is)))
+        subst (λ k. AreStandard q (cohomology G) (generators_of q R.generators) k at.standard.monomials)
+        (sym step)
+        (subst (λ gs. AreStandard q (cohomology G) gs (suc (d - 1)) at.standard.monomials) classes-are
+        degree.all)
 
     values : AreValues q (cohomology G) (generators_of q R.generators) at.standard.monomials
         at.standard.values.rows
-    values =
-        subst (λ ms. AreValues q (cohomology G) (generators_of q R.generators) ms at.standard.values.rows)
-        (sym degree.standard)
-        (subst (λ vs. AreValues q (cohomology G) (generators_of q R.generators)
-        (without_pivots degree.kernel 0 at.all.monomials) vs) (sym degree.standard_values)
-        (subst (λ gs. AreValues q (cohomology G) gs (without_pivots degree.kernel 0 at.all.monomials)
-        (without_pivots degree.kernel 0 at.all.values.rows)) classes-are
-        (values-left q (multiply G) (classes G lifts) at.all.monomials at.all.values.rows degree.kernel
-        degree.all.values)))
+    values = subst (λ gs. AreValues q (cohomology G) gs at.standard.monomials at.standard.values.rows)
+        classes-are
+        degree.standard.values
 
     pub count-seen : length at.standard.values.rows ≡ length (standard_of R d)
     count-seen = values.count ∙ ap (λ (x : List (List ℕ)). length x) standard-is
 
     pub width-seen : at.standard.values.width ≡ rank_of G d
-    width-seen = degree.standard_width ∙ ap (rank_of G) (sym step)
+    width-seen = degree.standard.width ∙ ap (rank_of G) (sym step)
 
     pub modulus-seen : at.standard.values.p ≡ R.prime
-    modulus-seen = degree.standard_prime ∙ residues G ∙ sym (seen.prime_is ∙ ring.prime)
+    modulus-seen = degree.standard.prime ∙ residues G ∙ sym (seen.prime_is ∙ ring.prime)
 
     pub value-seen : (i : ℕ) (r : List ℕ) → i < length (standard_of R d) → r ≡ row at.standard.values.rows i
         → vector q r ≡ evaluate (cohomology G) (generators_of q R.generators)
@@ -168,7 +159,7 @@ module _ (R : RingValue) (group : Option PGroup) (gens : Generators) (lifts : Li
     forms-matrix : IsMatrix at.preimages.p at.preimages.width at.preimages.rows
     forms-matrix i l =
         subst (λ p. IsRow p at.preimages.width (row at.preimages.rows i)) (sym degree.preimages_prime)
-        (subst (λ n. IsRow (suc q) n (row at.preimages.rows i)) (degree.all.values.count
+        (subst (λ n. IsRow (suc q) n (row at.preimages.rows i)) (degree.left.values.count
         ∙ sym degree.preimages_width)
         (degree.preimages.each i (let n = degree.preimages.count in omega (arith, n, l))).is_row)
 
@@ -183,19 +174,18 @@ module _ (R : RingValue) (group : Option PGroup) (gens : Generators) (lifts : Li
     combined-row w = combination_row-is_row at.preimages.p at.preimages.width some-prime
         (entry w) at.preimages.rows forms-matrix
 
-    pub width-of-forms : (w u : List ℕ) → u ≡ combined w → length u ≡ length at.all.monomials
+    pub width-of-forms : (w u : List ℕ) → u ≡ combined w → length u ≡ length at.left.monomials
     width-of-forms w u e = ap length e ∙ (combined-row w).length_is ∙ degree.preimages_width
 
-    pub monomials-seen : IsMonomials (greatest gens) gens.degrees d at.all.monomials
+    pub monomials-seen : AreSome (greatest gens) gens.degrees d at.left.monomials
     monomials-seen =
-        subst (λ m. IsMonomials m gens.degrees d at.all.monomials) (sym (ap (λ p. p - 1) ring.prime))
-        (subst (λ ds. IsMonomials q ds d at.all.monomials) (degrees-are G lifts ∙ sym S.degrees_of_gens)
-        (subst (λ k. IsMonomials q (degrees (classes G lifts)) k at.all.monomials)
-        (sym step) degree.all.monomials))
+        subst (λ m. AreSome m gens.degrees d at.left.monomials) (sym (ap (λ p. p - 1) ring.prime))
+        (subst (λ ds. AreSome q ds d at.left.monomials) (degrees-are G lifts ∙ sym S.degrees_of_gens)
+        (subst (λ k. AreSome q (degrees (classes G lifts)) k at.left.monomials) (sym step) degree.left.some))
 
     pub form-seen : (w u : List ℕ) → IsRow at.preimages.p (rank_of G d) w → u ≡ combined w
         → IsNormalForm q (cohomology G) (generators_of q R.generators) d (vector q w)
-        (polynomial_of at.all.monomials u)
+        (polynomial_of at.left.monomials u)
     form-seen w u W e =
         let U : IsRow at.preimages.p at.preimages.width u =
         subst (IsRow at.preimages.p at.preimages.width) (sym e) (combined-row w) in
@@ -207,16 +197,17 @@ module _ (R : RingValue) (group : Option PGroup) (gens : Generators) (lifts : Li
               (entry w) at.preimages.rows forms-matrix j);
         }) in
         subst (λ k. IsNormalForm q (cohomology G) (generators_of q R.generators) k (vector q w)
-        (polynomial_of at.all.monomials u)) (sym step)
+        (polynomial_of at.left.monomials u)) (sym step)
         (subst (λ gs. IsNormalForm q (cohomology G) gs (suc (d - 1)) (vector q w)
-        (polynomial_of at.all.monomials u)) classes-are
-        (normal-form-of q (suc (d - 1)) (multiply G)
-        (classes G lifts) at.all.monomials at.all.values.rows degree.kernel
-        (field G).above_one degree.all.monomials degree.all.values degree.kernel_is w u
+        (polynomial_of at.left.monomials u)) classes-are
+        (normal-form-among q (suc (d - 1)) (multiply G) (classes G lifts) at.left.monomials
+        at.left.values.rows
+        degree.kernel degree.left.some degree.left.values
+        (subst (AreStandard q (cohomology G) (classes G lifts) (suc (d - 1))) degree.others degree.all) w u
         (preimage-of-combination (field G).above_one degree.basis_is degree.preimages degree.kernel_is w u
         (subst (λ n. IsRow (suc q) n w) (ap (rank_of G) step)
         (subst (λ p. IsRow p (rank_of G d) w) degree.preimages_prime W))
         (subst (λ n. IsRow (suc q) n u) (degree.preimages_width
-        ∙ sym degree.all.values.count)
+        ∙ sym degree.left.values.count)
         (subst (λ p. IsRow p at.preimages.width u) degree.preimages_prime U))
         (subst (λ p. IsCombination p (entry w) at.preimages.rows (entry u)) degree.preimages_prime C))))

@@ -8,14 +8,15 @@ use Rattle.std.proofs.lemmas.List.Elements.{All-append, All-weaker}
 use mathlib.Core.Path.{subst}
 use Rattle.limits.specs.declared.TheConstants.{GREATEST_DEGREE}
 use Rattle.p_groups.specs.PGroups.{PGroup, largest_residue}
-use Rattle.graded_polynomials.specs.Monomials.{IsMonomials}
 use Rattle.graded_polynomials.specs.Polynomials.{Polynomial}
 use Rattle.graded_algebra.specs.Algebras.{degrees}
 use Rattle.gc_poly.specs.Generators.{Generators}
 use Rattle.presentation_rows.specs.Values.{vector, AreValues}
 use Rattle.chain_lift.specs.Values.{LiftValue}
+use Rattle.ring_completion.specs.Candidates.{AreSome}
 use Rattle.ring_present.specs.Rings.{cohomology, IsPresentation}
-use Rattle.ring_present.specs.Degrees.{classes, degrees_of, lifted, kept, IsLiftBelow, AreAll, IsDegree}
+use Rattle.ring_present.specs.Standard.{AreStandard}
+use Rattle.ring_present.specs.Degrees.{classes, degrees_of, lifted, kept, IsLiftBelow, AreValued, IsDegree}
 use Rattle.ring_present.specs.Degrees.{IsLower}
 use Rattle.ring_present.specs.Nexts.{IsNext, IsLiftOf}
 use Rattle.ring_present.specs.Stores.{IsRingOf, IsRingStore}
@@ -50,25 +51,24 @@ classes-kept G xs ys e = ap (map (λ g. record {
   class = vector (largest_residue G) g.class;
 })) (lifted-kept xs ys e)
 
-all-kept : (G : PGroup) (d : ℕ) (xs ys : List LiftValue) (v : Valued) → classes G ys ≡ classes G xs
-    → AreAll G d ys v → AreAll G d xs v
-all-kept G d xs ys v e A = record {
+valued-kept : (G : PGroup) (d : ℕ) (xs ys : List LiftValue) (v : Valued) → classes G ys ≡ classes G xs
+    → AreValued G d ys v → AreValued G d xs v
+valued-kept G d xs ys v e A = record {
   prime = A.prime;
   width = A.width;
-  monomials = subst (λ gs. IsMonomials (largest_residue G) (degrees gs) d v.monomials) e A.monomials;
+  some = subst (λ gs. AreSome (largest_residue G) (degrees gs) d v.monomials) e A.some;
   values = subst (λ gs. AreValues (largest_residue G) (cohomology G) gs v.monomials v.values.rows) e A.values;
 }
 
 degree-kept : (G : PGroup) (d : ℕ) (xs ys : List LiftValue) (D : Degree) → classes G ys ≡ classes G xs
     → IsDegree G d ys D → IsDegree G d xs D
 degree-kept G d xs ys D e I = record {
-  all = all-kept G d xs ys D.all e I.all;
+  left = valued-kept G d xs ys D.left e I.left;
   kernel = I.kernel;
   kernel_is = I.kernel_is;
-  standard = I.standard;
-  standard_prime = I.standard_prime;
-  standard_width = I.standard_width;
-  standard_values = I.standard_values;
+  standard = valued-kept G d xs ys D.standard e I.standard;
+  others = I.others;
+  all = subst (λ gs. AreStandard (largest_residue G) (cohomology G) gs d D.standard.monomials) e I.all;
   preimages_prime = I.preimages_prime;
   preimages_width = I.preimages_width;
   basis = I.basis;
@@ -185,8 +185,8 @@ ring-next G gens lifts all rs total Ds grown x B s N eg el er ed =
         → IsDegree G (suc e) (lifts ++ x.lifts.items) (slice_index_or (Ds ++ x.degree ∷ []) e D)
     each e D (inl b) l = subst (λ d. IsDegree G (suc e) (lifts ++ x.lifts.items) d)
         (sym (get_or_append_left Ds (x.degree ∷ []) D e b))
-        (degree-stays G (suc e) lifts x.lifts.items (slice_index_or Ds e D)
-        (above-new G (length Ds) (suc e) x.lifts.items (omega (arith, b)) N.lifts_are)
+        (degree-stays G (suc e) lifts x.lifts.items
+        (above-new G (length Ds) (suc e) x.lifts.items (omega (arith, b)) N.lifts_are) (slice_index_or Ds e D)
         (B.lower.degrees_are.each e D b))
     each e D (inr b) l =
         let s : length Ds ≡ e = omega (arith, b, l) in
@@ -241,13 +241,18 @@ pub on-err : {T E P : Type 0} (r : Result T E) → P → OnErr r P
 on-err (Ok x) p = tt
 on-err (Err e) p = p
 
-pub on-err-five : {T E A B C D F P : Type 0} (r : Result T E) → OnErr r A → OnErr r B → OnErr r C → OnErr r D
-    → OnErr r F → (A → B → C → D → F → P) → OnErr r P
-on-err-five (Ok x) a b c d f g = tt
-on-err-five (Err e) a b c d f g = g a b c d f
+pub on-err-six : {T E A B C D F H P : Type 0} (r : Result T E) → OnErr r A → OnErr r B → OnErr r C → OnErr r D
+    → OnErr r F → OnErr r H → (A → B → C → D → F → H → P) → OnErr r P
+on-err-six (Ok x) a b c d f h g = tt
+on-err-six (Err e) a b c d f h g = g a b c d f h
 
 pub after : {T E P Q R A B C D F S : Type 0} (r : Result T E) → OnOk r P → OnOk r Q → OnOk r R
     → (P → Q → R → S)
     → OnErr r A → OnErr r B → OnErr r C → OnErr r D → OnErr r F → (A → B → C → D → F → S) → S
 after (Ok x) p q r f a b c d e g = f p q r
 after (Err x) p q r f a b c d e g = g a b c d e
+
+pub after-four : {T E P Q A B C D S : Type 0} (r : Result T E) → OnOk r P → OnOk r Q → (P → Q → S)
+    → OnErr r A → OnErr r B → OnErr r C → OnErr r D → (A → B → C → D → S) → S
+after-four (Ok x) p q f a b c d g = f p q
+after-four (Err x) p q f a b c d g = g a b c d

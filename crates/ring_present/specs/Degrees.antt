@@ -3,15 +3,17 @@ use Rattle.std.specs.Prelude.{◌≡◌, ℕ, suc, ◌*◌, ◌^◌, ◌<◌, �
 use Rattle.linear_algebra.specs.Kernels.{IsKernelOf}
 use Rattle.linear_algebra.specs.Choices.{ArePreimages}
 use Rattle.p_groups.specs.PGroups.{PGroup, largest_residue}
-use Rattle.graded_polynomials.specs.Monomials.{IsMonomials}
+use Rattle.graded_polynomials.specs.Polynomials.{Polynomial}
 use Rattle.graded_algebra.specs.Algebras.{Generator, degrees}
+use Rattle.graded_algebra.specs.Presentations.{IsStandard}
 use Rattle.graded_algebra.specs.Vectors.{Vector}
 use Rattle.presentation_rows.specs.Values.{AreValues, AreUnitRows}
 use Rattle.min_res.specs.Stages.{rank_of}
 use Rattle.chain_lift.specs.Values.{LiftValue}
 use Rattle.ring_present.specs.Rings.{cohomology}
 use Rattle.ring_present.specs.Values.{GeneratorValue, generators_of}
-use Rattle.ring_present.specs.Standard.{without_pivots}
+use Rattle.ring_completion.specs.Candidates.{AreSome, AreLeft, IsQuotient}
+use Rattle.ring_present.specs.Standard.{AreStandard, without_pivots}
 use Rattle.ring_present.specs.declared.degree.Valued.{Valued}
 use Rattle.ring_present.specs.declared.degree.Degree.{Degree}
 
@@ -41,28 +43,38 @@ module _ (G : PGroup) where
   abbrev pub classes : List LiftValue → List (Generator (Vector (largest_residue G)))
   classes lifts = generators_of (largest_residue G) (lifted lifts)
 
-  -- all monomials of degree d in the generators, with their values
-  pub record AreAll (d : ℕ) (lifts : List LiftValue) (v : Valued) : Type 0 where
+  -- monomials of degree d in the generators, in descending order, with their values
+  pub record AreValued (d : ℕ) (lifts : List LiftValue) (v : Valued) : Type 0 where
     pub prime : v.values.p ≡ suc (largest_residue G)
     pub width : v.values.width ≡ rank_of G d
-    pub monomials : IsMonomials (largest_residue G) (degrees (classes lifts)) d v.monomials
+    pub some : AreSome (largest_residue G) (degrees (classes lifts)) d v.monomials
     pub values : AreValues (largest_residue G) (cohomology G) (classes lifts) v.monomials v.values.rows
 
-  -- what is kept of degree d: the kernel of the values tells the standard monomials, and the preimages of the
-  -- dual basis are 0 at its pivots
+  -- those that lead in no consequence of the relations rs
+  pub record AreLeftOf (rs : List Polynomial) (d : ℕ) (lifts : List LiftValue) (v : Valued) : Type 0 where
+    pub valued : AreValued d lifts v
+    pub left : AreLeft (largest_residue G) (cohomology G) (classes lifts) rs d v.monomials
+
+  -- each quotient of m by a generator is standard
+  abbrev pub HasStandardQuotients : List LiftValue → List ℕ → Type 0
+  HasStandardQuotients lifts m =
+      (i e : ℕ) (n : List ℕ) → IsQuotient (largest_residue G) (degrees (classes lifts)) i e n m
+      → IsStandard (largest_residue G) (cohomology G) (classes lifts) e n
+
+  -- what is kept of degree d: of the monomials that are left the kernel of the values tells the standard
+  -- ones, and the preimages of the dual basis over them are 0 at its pivots
   pub record IsDegree (d : ℕ) (lifts : List LiftValue) (D : Degree) : Type 0 where
-    pub all : AreAll d lifts D.all
+    pub left : AreValued d lifts D.left
     pub kernel : List (List ℕ)
-    pub kernel_is : IsKernelOf (suc (largest_residue G)) D.all.values.rows kernel
-    pub standard : D.standard.monomials ≡ without_pivots kernel 0 D.all.monomials
-    pub standard_prime : D.standard.values.p ≡ suc (largest_residue G)
-    pub standard_width : D.standard.values.width ≡ rank_of G d
-    pub standard_values : D.standard.values.rows ≡ without_pivots kernel 0 D.all.values.rows
+    pub kernel_is : IsKernelOf (suc (largest_residue G)) D.left.values.rows kernel
+    pub standard : AreValued d lifts D.standard
+    pub others : D.standard.monomials ≡ without_pivots kernel 0 D.left.monomials
+    pub all : AreStandard (largest_residue G) (cohomology G) (classes lifts) d D.standard.monomials
     pub preimages_prime : D.preimages.p ≡ suc (largest_residue G)
-    pub preimages_width : D.preimages.width ≡ length D.all.monomials
+    pub preimages_width : D.preimages.width ≡ length D.left.monomials
     pub basis : List (List ℕ)
     pub basis_is : AreUnitRows (rank_of G d) basis
-    pub preimages : ArePreimages (suc (largest_residue G)) D.all.values.rows kernel basis D.preimages.rows
+    pub preimages : ArePreimages (suc (largest_residue G)) D.left.values.rows kernel basis D.preimages.rows
 
   -- the degrees 1 to n
   pub record AreDegrees (n : ℕ) (lifts : List LiftValue) (Ds : List Degree) : Type 0 where

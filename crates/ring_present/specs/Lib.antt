@@ -1,10 +1,10 @@
 pub mod Rings
+pub mod Graded
+pub mod KnownTables
 pub mod Values
 pub mod Prefixes
-pub mod Refusals
 pub mod Standard
 pub mod Degrees
-pub mod Multiples
 pub mod Nexts
 pub mod Stores
 pub mod Known

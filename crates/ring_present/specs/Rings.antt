@@ -2,13 +2,11 @@
 -- Valeri-Elizondo and Zhang, "Cohomology Rings of
 -- Finite Groups"). Classes are vectors over the dual bases of the minimal resolution, and products are those
 -- by chain lifts.
-use Rattle.std.specs.Prelude.{◌≡◌, ℕ, ◌-◌, ◌<◌, min, List, length}
-use Rattle.limits.specs.declared.TheConstants.{GREATEST_COUNT}
+use Rattle.std.specs.Prelude.{ℕ, List}
 use Rattle.p_groups.specs.PGroups.{PGroup, largest_residue}
 use Rattle.min_res.specs.Stages.{rank_of}
-use Rattle.graded_polynomials.specs.Monomials.{IsMonomials}
 use Rattle.graded_polynomials.specs.Polynomials.{Polynomial}
-use Rattle.graded_algebra.specs.Algebras.{Algebra, Generator, degrees}
+use Rattle.graded_algebra.specs.Algebras.{Algebra, Generator}
 use Rattle.graded_algebra.specs.Presentations.{IsSpanGenerators, IsRelations}
 use Rattle.graded_algebra.specs.Vectors.{Vector, vectors, units}
 use Rattle.chain_lift.specs.Products.{multiply}
@@ -27,13 +25,3 @@ module _ (G : PGroup) where
       (rs : List Polynomial) : Type 0 where
     pub generators_are : IsSpanGenerators (largest_residue G) cohomology dual_basis n gs
     pub relations_are : IsRelations (largest_residue G) cohomology gs n rs
-
-  -- count is the number of monomials of degree d in the generators of lower degree, or the greatest count
-  -- where there are more, and it is above cap
-  pub record IsTooMany (d cap count : ℕ) : Type 0 where
-    pub generators : List (Generator (Vector (largest_residue G)))
-    pub monomials : List (List ℕ)
-    pub generators_are : IsSpanGenerators (largest_residue G) cohomology dual_basis (d - 1) generators
-    pub monomials_are : IsMonomials (largest_residue G) (degrees generators) d monomials
-    pub count_is : count ≡ min (length monomials) GREATEST_COUNT
-    pub above : cap < count

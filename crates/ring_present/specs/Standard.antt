@@ -1,9 +1,9 @@
 -- Standard monomials, in order.
-use Rattle.std.specs.Prelude.{◌≡◌, ℕ, suc, ◌<◌, cond, List, [], ◌∷◌, length, slice_index_or}
+use Rattle.std.specs.Prelude.{◌≡◌, ℕ, ◌<◌, List, [], length, slice_index_or}
 use Rattle.graded_polynomials.specs.Monomials.{IsMonomial, IsGreater}
 use Rattle.graded_algebra.specs.Algebras.{Algebra, Generator, degrees}
 use Rattle.graded_algebra.specs.Presentations.{IsStandard}
-use Rattle.linear_algebra.specs.Rows.{is_pivot}
+pub use Rattle.ring_completion.specs.Left.{without_pivots}
 
 -- ms are all standard monomials of degree d, in descending order
 pub record AreStandard (q : ℕ) {V : Type 0} (A : Algebra V) (gs : List (Generator V)) (d : ℕ)
@@ -14,9 +14,3 @@ pub record AreStandard (q : ℕ) {V : Type 0} (A : Algebra V) (gs : List (Genera
       × (slice_index_or ms i [] ≡ m)
   pub descending : (i j : ℕ) → i < j → j < length ms
       → IsGreater (slice_index_or ms i []) (slice_index_or ms j [])
-
--- the members of a list, counted from k on, whose place is the pivot of none of the rows
-abbrev pub without_pivots : List (List ℕ) → ℕ → List (List ℕ) → List (List ℕ)
-without_pivots rows k [] = []
-without_pivots rows k (x ∷ xs) = cond (is_pivot rows k) (without_pivots rows (suc k) xs)
-    (x ∷ without_pivots rows (suc k) xs)

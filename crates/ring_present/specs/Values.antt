@@ -23,6 +23,8 @@ pub record RingValue : Type 0 where
   pub relations : List Polynomial
   -- the standard monomials of degrees 1, 2, ..
   pub standard : List (List (List ℕ))
+  -- the candidates of the last degree
+  pub candidates : List (List ℕ)
 
 -- how these are stored
 abbrev coded_generator : Coded GeneratorValue
@@ -44,18 +46,21 @@ coded_polynomial =
 
 abbrev pub coded_ring : Coded RingValue
 coded_ring =
-    code_by (((ℕ × Option PGroup) × (ℕ × List GeneratorValue)) × (List Polynomial × List (List (List ℕ))))
+    code_by (((ℕ × Option PGroup) × (ℕ × List GeneratorValue))
+    × (List Polynomial × (List (List (List ℕ)) × List (List ℕ))))
     (coded× (coded× (coded× coded_ℕ (coded_option coded_p_group))
     (coded× coded_ℕ (coded_list coded_generator)))
-    (coded× (coded_list coded_polynomial) (coded_list (coded_list (coded_list coded_ℕ)))))
-    (λ r. (((r.prime, r.group), (r.degree, r.generators)), (r.relations, r.standard)))
+    (coded× (coded_list coded_polynomial)
+    (coded× (coded_list (coded_list (coded_list coded_ℕ))) (coded_list (coded_list coded_ℕ)))))
+    (λ r. (((r.prime, r.group), (r.degree, r.generators)), (r.relations, (r.standard, r.candidates))))
     (λ t. record {
       prime = t.0.0.0;
       group = t.0.0.1;
       degree = t.0.1.0;
       generators = t.0.1.1;
       relations = t.1.0;
-      standard = t.1.1;
+      standard = t.1.1.0;
+      candidates = t.1.1.1;
     }) (λ _. refl)
 
 -- the generators with their classes as vectors

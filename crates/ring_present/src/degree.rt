@@ -10,11 +10,11 @@ pub(crate) struct Valued {
     pub(crate) values: Matrix,
 }
 
-/// All monomials of a degree, the standard ones among them, and for each class of the dual basis the row over
-/// all monomials of its normal form.
+/// The monomials of a degree that lead in no consequence of the relations before, the standard ones among
+/// them, and for each class of the dual basis the row over the former of its normal form.
 #[derive(Drop)]
 pub(crate) struct Degree {
-    pub(crate) all: Valued,
+    pub(crate) left: Valued,
     pub(crate) standard: Valued,
     pub(crate) preimages: Matrix,
 }

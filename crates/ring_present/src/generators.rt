@@ -8,11 +8,14 @@ ghost use Rattle.group_table.specs.Prime.{prime_value};
 ghost use Rattle.fp_rows.specs.Refs.{entries_of, modulus_of};
 ghost use Rattle.graded_polynomials.specs.Monomials.{IsGreater};
 ghost use Rattle.graded_polynomials.specs.Texts.{power};
+ghost use Rattle.graded_algebra.specs.Presentations.{IsRelations};
 ghost use Rattle.presentation_rows.specs.Values.{AreUnitRows};
 ghost use Rattle.min_res.specs.Stages.{rank_of};
-ghost use Rattle.ring_present.specs.Degrees.{AreAll, IsLower, degrees_of, new_lift, kept};
+ghost use Rattle.ring_present.specs.Rings.{cohomology};
+ghost use Rattle.ring_present.specs.KnownTables.{generators_from};
+ghost use Rattle.ring_present.specs.Degrees.{AreLeftOf, IsLower, classes, degrees_of, new_lift, kept};
 ghost use Rattle.limits.specs.declared.TheConstants.{GREATEST_DEGREE};
-ghost use Rattle.p_groups.specs.PGroups.{prime_of};
+ghost use Rattle.p_groups.specs.PGroups.{largest_residue, prime_of};
 
 use crate::degree::Valued;
 use crate::values::Lower;
@@ -104,8 +107,8 @@ fn zeros(alloc: Global, count: usize) -> Result<Vec<u8>, Memory>
     Ok(zeros)
 }
 
-// The generator i as a monomial.
-fn generator_monomial(alloc: Global, i: usize) -> Result<Mono, Memory>
+/// The generator i as a monomial.
+pub(crate) fn generator_monomial(alloc: Global, i: usize) -> Result<Mono, Memory>
     ensures { IfOk result (λ m. m ≡ power i 1) }
 {
     let mut exponents = zeros(alloc, i)?;
@@ -114,7 +117,7 @@ fn generator_monomial(alloc: Global, i: usize) -> Result<Mono, Memory>
     Ok(monomial)
 }
 
-// Adds a generator of degree d with this class, and its monomial to those of degree d.
+// Adds a generator of degree d with this class, and its monomial to those that are left.
 fn add_generator(
     alloc: Global,
     res: &Resolution,
@@ -122,7 +125,7 @@ fn add_generator(
     class: RowRef<'_>,
     gens: &mut Gens,
     lifts: &mut Vec<Lift>,
-    all: &mut Valued,
+    left: &mut Valued,
 ) -> Result<(), Memory>
     requires within { d ≤ res.now.last }
     requires low { 1 ≤ d }
@@ -131,20 +134,20 @@ fn add_generator(
     requires prime { modulus_of class ≡ prime_of res.now.group }
     requires length { length (entries_of class) ≡ rank_of res.now.group d }
     requires order { All (λ e. e ≤ d) gens.old.degrees }
-    requires values_prime { all.old.values.p ≡ prime_of res.now.group }
-    requires values_width { all.old.values.width ≡ length (entries_of class) }
-    requires greater { All (λ m. IsGreater m (power (length gens.old.degrees) 1)) all.old.monomials }
+    requires values_prime { left.old.values.p ≡ prime_of res.now.group }
+    requires values_width { left.old.values.width ≡ length (entries_of class) }
+    requires greater { All (λ m. IsGreater m (power (length gens.old.degrees) 1)) left.old.monomials }
     ensures lifts { OnOk result (lifts.new.items ≡ lifts.old.items ++ new_lift res.now.group d
         (entries_of class.entry) ∷ []) }
     ensures gens { OnOk result (gens.new ≡ record gens.old { degrees = gens.old.degrees ++ d ∷ [] }) }
-    ensures monomials { OnOk result (all.new.monomials ≡ all.old.monomials ++ power
+    ensures monomials { OnOk result (left.new.monomials ≡ left.old.monomials ++ power
         (length gens.old.degrees) 1 ∷ []) }
-    ensures values { OnOk result (all.new.values
-        ≡ record all.old.values { rows = all.old.values.rows ++ entries_of class.entry ∷ [] }) }
+    ensures values { OnOk result (left.new.values
+        ≡ record left.old.values { rows = left.old.values.rows ++ entries_of class.entry ∷ [] }) }
 {
     let lift = Lift::new(alloc, res, d, class)?;
-    all.monomials.push(generator_monomial(alloc, gens.len())?)?;
-    all.values.push(class)?;
+    left.monomials.push(generator_monomial(alloc, gens.len())?)?;
+    left.values.push(class)?;
     gens.push(d)?;
     lifts.push(lift)?;
     Ok(())
@@ -152,8 +155,7 @@ fn add_generator(
 
 impl<'a> Lower<'a> {
     /// Adds the generators of degree d, the next one, with the classes at these places of the dual basis, and
-    /// their monomials to all of
-    /// degree d.
+    /// their monomials to those of the degree that are left.
     pub(crate) fn new_generators(
         &self,
         alloc: Global,
@@ -161,7 +163,7 @@ impl<'a> Lower<'a> {
         basis: &Echelon,
         places: &Positions,
         gens: &mut Gens,
-        all: &mut Valued,
+        left: &mut Valued,
     ) -> Result<Vec<Lift>, Memory>
         requires group { self.now.group.now ≡ res.now.group }
         requires lower { IsLower self.now.group.now self.now.lifts.now self.now.degrees.now }
@@ -177,7 +179,10 @@ impl<'a> Lower<'a> {
           prime = prime_of res.now.group;
           degrees = degrees_of self.now.lifts.now;
         } }
-        requires all { AreAll res.now.group (suc (length self.now.degrees.now)) self.now.lifts.now all.old }
+        requires relations { IsRelations (largest_residue res.now.group) (cohomology res.now.group)
+            (classes res.now.group self.now.lifts.now) (length self.now.degrees.now) self.now.relations.now }
+        requires left { AreLeftOf res.now.group self.now.relations.now (suc (length self.now.degrees.now))
+            self.now.lifts.now left.old }
         ensures lifts { IfOk result (λ lifts. lifts.items
             ≡ map (λ k. new_lift res.now.group (suc (length self.now.degrees.now))
             (row basis.now.rows k)) places.now) }
@@ -186,16 +191,18 @@ impl<'a> Lower<'a> {
               prime = prime_of res.now.group;
               degrees = degrees_of (self.now.lifts.now ++ lifts.items);
             }) }
-        ensures all { IfOk result (λ lifts. AreAll res.now.group (suc (length self.now.degrees.now))
-            (self.now.lifts.now ++ lifts.items) all.new) }
-        ensures rows { IfOk result (λ lifts. all.new.values.rows
-            ≡ all.old.values.rows ++ rows_at basis.now.rows places.now) }
+        ensures left { IfOk result (λ lifts. AreLeftOf res.now.group self.now.relations.now
+            (suc (length self.now.degrees.now)) (self.now.lifts.now ++ lifts.items) left.new) }
+        ensures monomials { IfOk result (λ lifts. left.new.monomials ≡ left.old.monomials
+            ++ generators_from (length self.now.lifts.now) (length lifts.items)) }
+        ensures rows { IfOk result (λ lifts. left.new.values.rows
+            ≡ left.old.values.rows ++ rows_at basis.now.rows places.now) }
     {
         let d = self.degrees.len() as u32 + 1;
         let mut lifts = Vec::new(alloc);
         for i in 0..places.len() {
             let class = basis.row(places.get(i) as usize);
-            add_generator(alloc, res, d, class, gens, &mut lifts, all)?;
+            add_generator(alloc, res, d, class, gens, &mut lifts, left)?;
         }
         Ok(lifts)
     }

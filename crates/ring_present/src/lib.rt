@@ -3,7 +3,6 @@
 #![tactic(auto)]
 
 mod degree;
-mod fault;
 mod generators;
 mod next;
 mod normal_forms;
@@ -13,7 +12,6 @@ mod ring_parts;
 mod standard;
 mod values;
 
-pub use fault::RingFault;
 pub use ring::Ring;
 
 #[cfg(test)]

@@ -1,12 +1,11 @@
 //! The ring through a degree.
 
-ghost use Rattle.std.specs.Prelude.{◌≡◌, ℕ, suc, ◌<◌, ◌≤◌, [], List, length, map, min, slice_get};
+ghost use Rattle.std.specs.Prelude.{◌≡◌, ℕ, suc, ◌<◌, ◌≤◌, [], List, length, map, slice_get};
 ghost use Rattle.std.specs.Prelude.{slice_index_or};
-ghost use Rattle.std.specs.Prelude.{OnOk, OnErr, IfOk, IfErr, IfSome, Some, None};
-ghost use Rattle.limits.specs.declared.TheConstants.{GREATEST_COUNT, GREATEST_DEGREE};
+ghost use Rattle.std.specs.Prelude.{OnOk, OnErr, IfOk, IfSome, Some, None};
+ghost use Rattle.limits.specs.declared.TheConstants.{GREATEST_DEGREE};
 ghost use Rattle.group_table.specs.Prime.{prime_value};
 ghost use Rattle.p_groups.specs.PGroups.{PGroup, largest_residue, prime_of};
-ghost use Rattle.graded_polynomials.specs.Monomials.{IsMonomials};
 ghost use Rattle.graded_algebra.specs.Algebras.{evaluate};
 ghost use Rattle.graded_algebra.specs.Presentations.{IsNormalForm};
 ghost use Rattle.gc_poly.specs.Polynomials.{IsOverGenerators};
@@ -18,10 +17,9 @@ ghost use Rattle.ring_present.specs.Rings.{cohomology, IsPresentation};
 ghost use Rattle.ring_present.specs.Values.{GeneratorValue, generators_of, standard_of};
 ghost use Rattle.ring_present.specs.Standard.{AreStandard};
 ghost use Rattle.ring_present.specs.Known.{IsKnown};
-ghost use Rattle.ring_present.specs.Refusals.{IsRefusal};
+ghost use Rattle.ring_completion.specs.Candidates.{AreCandidates};
 ghost use Rattle.ring_present.specs.Prefixes.{IsPrefix};
 
-use crate::fault::RingFault;
 use crate::normal_forms::combination;
 use crate::relations::polynomial_of;
 use crate::ring_parts::RingParts;
@@ -68,10 +66,15 @@ impl Model for Ring {
       generators = lifted r.known.lifts.items;
       relations = r.known.relations.items;
       standard = map (λ d. d.standard.monomials) r.known.degrees.items;
+      candidates = r.known.candidates;
     } };
 
+    ghost use Rattle.ring_present.specs.KnownTables.{IsCandidateStore, IsTableStore};
+
     ghost invariant = { λ r. IsRingStore r.known.group r.known.gens r.known.lifts.items
-        r.known.relations.items r.known.degrees.items };
+        r.known.relations.items r.known.degrees.items
+        × IsTableStore r.known.group r.known.lifts.items r.known.degrees.items r.known.tables.items
+        × IsCandidateStore r.known.group r.known.lifts.items r.known.degrees.items r.known.candidates };
 }
 
 impl Ring {
@@ -84,6 +87,7 @@ impl Ring {
           generators = [];
           relations = [];
           standard = [];
+          candidates = [];
         } }
     {
         Ring {
@@ -94,14 +98,14 @@ impl Ring {
                 lifts: Vec::new(alloc),
                 relations: Vec::new(alloc),
                 degrees: Vec::new(alloc),
+                tables: Vec::new(alloc),
+                candidates: Monos::new(alloc),
             },
         }
     }
 
-    /// Adds the next degree, from a resolution of the same group. `TooManyMonomials` comes exactly where that
-    /// degree has more than `cap`
-    /// monomials in the generators of lower degree. After an error the ring is as before.
-    pub fn add_degree(&mut self, res: &Resolution, cap: u64) -> Result<(), RingFault>
+    /// Adds the next degree, from a resolution of the same group. After an error the ring is as before.
+    pub fn add_degree(&mut self, res: &Resolution) -> Result<(), Memory>
         requires within { suc self.old.degree ≤ res.now.last }
         requires high { self.old.degree < GREATEST_DEGREE }
         requires same_group { IfSome self.old.group (λ G. G ≡ res.now.group) }
@@ -116,14 +120,9 @@ impl Ring {
         ensures generators_kept { OnOk result (IsPrefix self.old.generators self.new.generators) }
         ensures relations_kept { OnOk result (IsPrefix self.old.relations self.new.relations) }
         ensures standard_kept { OnOk result (IsPrefix self.old.standard self.new.standard) }
-        ensures counted { OnOk result ((ms : List (List ℕ))
-            → IsMonomials (largest_residue res.now.group) (map (λ g. g.degree) self.old.generators)
-            (suc self.old.degree) ms
-            → min (length ms) GREATEST_COUNT ≤ cap) }
-        ensures refused { IfErr result (λ e. IsRefusal res.now.group (suc self.old.degree) cap e) }
         ensures kept { OnErr result (self.new ≡ self.old) }
     {
-        self.known.add_degree(self.alloc, res, cap)
+        self.known.add_degree(self.alloc, res)
     }
 
     /// The degree through which the ring is known: 0 for that of no group, and else it has the generators and
@@ -177,6 +176,19 @@ impl Ring {
         &self.known.relations[i]
     }
 
+    /// The candidates of the last degree, in descending order: the monomials of which each quotient by a
+    /// generator is standard. The standard monomials are among them, and so are the generators of that
+    /// degree. Before the first degree there are none.
+    pub fn candidates(&self) -> &Monos
+        ensures list { result.now ≡ self.now.candidates }
+        ensures none { self.now.group ≡ None → result.now ≡ [] }
+        ensures candidates { (G : PGroup) → self.now.group ≡ Some G
+            → AreCandidates (largest_residue G) (cohomology G)
+            (generators_of (largest_residue G) self.now.generators) self.now.degree result.now }
+    {
+        &self.known.candidates
+    }
+
     /// The standard monomials of degree d, in descending order: those that are the greatest of no polynomial
     /// of value 0.
     pub fn standard(&self, d: u32) -> &Monos
@@ -223,7 +235,7 @@ impl Ring {
             alloc,
             &self.known.gens,
             d,
-            &degree.all.monomials,
+            &degree.left.monomials,
             row.view(),
         )?;
         Ok(form)

@@ -3,7 +3,7 @@
 ghost use Rattle.std.specs.Prelude.{◌≡◌, ◌≤◌, ◌<◌, IfOk, IfSome, length};
 ghost use Rattle.ring_present.specs.Values.{standard_of};
 
-use crate::{Ring, RingFault};
+use crate::Ring;
 use fp_rows::RowRef;
 use gc_poly::write_text;
 use group_algebra::Algebra;
@@ -37,13 +37,13 @@ fn resolved(
 }
 
 // The ring through a degree.
-fn presented(rt: &impl Abort, alloc: Global, resolution: &Resolution, degree: u32, cap: u64) -> Ring
+fn presented(rt: &impl Abort, alloc: Global, resolution: &Resolution, degree: u32) -> Ring
     ensures { IfSome result.group (λ G. G ≡ resolution.now.group) }
 {
     let mut ring = Ring::start(alloc, resolution.algebra().group().prime());
     for _d in 0..degree {
         assert!(rt; ring.degree() < GREATEST_DEGREE && ring.degree() < resolution.last());
-        assert!(rt; ring.add_degree(resolution, cap).is_ok());
+        assert!(rt; ring.add_degree(resolution).is_ok());
     }
     ring
 }
@@ -100,13 +100,15 @@ fn shows(r: RowRef<'_>, entries: &[u8]) -> bool {
 }
 
 // What the ring of a group through a degree has: generators of these degrees, the last with this class,
-// relations with these texts, and so many standard monomials of degree 1, of degree 2 and so on.
+// relations with these texts, so many standard monomials of degree 1, of degree 2 and so on, and so many
+// candidates of the last degree.
 #[derive(Clone, Copy)]
 struct Case<'a> {
     generators: &'a [u32],
     class: &'a [u8],
     relations: &'a [&'a str],
     standard: &'a [usize],
+    candidates: usize,
 }
 
 fn has_last_class(ring: &Ring, class: &[u8]) -> bool {
@@ -125,6 +127,7 @@ fn is_ring(rt: &impl Abort, alloc: Global, ring: &Ring, case: Case<'_>) -> Resul
     Ok(
         has_generators(ring, case.generators)
             && has_last_class(ring, case.class)
+            && ring.candidates().len() == case.candidates
             && has_relations(alloc, ring, case.relations)?,
     )
 }
@@ -139,7 +142,7 @@ fn is_ring_of(
     assert!(rt; case.standard.len() <= 24);
     let degree = case.standard.len() as u32;
     let resolution = resolved(rt, alloc, group, degree)?;
-    let ring = presented(rt, alloc, &resolution, degree, 5);
+    let ring = presented(rt, alloc, &resolution, degree);
     is_ring(rt, alloc, &ring, case)
 }
 
@@ -153,6 +156,7 @@ fn presents_rings(rt: HostRuntime) -> Result<(), Fail> {
                 class: &[1],
                 relations: &["x_1_1^2+x_1_1*x_1_2+x_1_2^2", "x_1_2^3"],
                 standard: &[2, 2, 1, 1],
+                candidates: 1,
             },
         ),
         (
@@ -162,6 +166,7 @@ fn presents_rings(rt: HostRuntime) -> Result<(), Fail> {
                 class: &[1],
                 relations: &[],
                 standard: &[1, 1],
+                candidates: 1,
             },
         ),
     ] {
@@ -169,35 +174,5 @@ fn presents_rings(rt: HostRuntime) -> Result<(), Fail> {
         let found = is_ring_of(&rt, rt.alloc(), &group, case)?;
         assert!(rt; found, "{kind:?}");
     }
-    Ok(())
-}
-
-// Whether degree 3 is refused with four monomials, which leaves the ring as it was.
-fn refuses_four(resolution: &Resolution, ring: &mut Ring) -> bool
-    requires { IfSome ring.old.group (λ G. G ≡ resolution.now.group) }
-{
-    if ring.degree() != 2 || resolution.last() != 3 {
-        return false;
-    }
-    let fault = ring.add_degree(resolution, 3).err();
-    let refused = Some(RingFault::TooManyMonomials {
-        degree: 3,
-        count: 4,
-    });
-    fault == refused && ring.degree() == 2 && has_generators(ring, &[1, 1]) && ring.relations() == 0
-}
-
-// The same for the ring of a group through degree 2.
-fn refuses_four_of(rt: &impl Abort, alloc: Global, group: &Group) -> Result<bool, Memory> {
-    let resolution = resolved(rt, alloc, group, 3)?;
-    let mut ring = presented(rt, alloc, &resolution, 2, 3);
-    Ok(refuses_four(&resolution, &mut ring))
-}
-
-#[test]
-fn counts_the_monomials(rt: HostRuntime) -> Result<(), Fail> {
-    let group = SmallGroup::Klein.group(rt.alloc())?;
-    let found = refuses_four_of(&rt, rt.alloc(), &group)?;
-    assert!(rt; found);
     Ok(())
 }

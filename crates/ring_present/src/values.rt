@@ -6,28 +6,33 @@ ghost use Rattle.linear_algebra.specs.Rows.{row};
 ghost use Rattle.fp_rows.specs.Refs.{entries_of, modulus_of};
 ghost use Rattle.group_table.specs.Prime.{prime_value};
 ghost use Rattle.p_groups.specs.PGroups.{largest_residue, prime_of};
-ghost use Rattle.graded_polynomials.specs.Monomials.{IsMonomial, IsMonomials, IsTrimmed};
+ghost use Rattle.graded_polynomials.specs.Monomials.{IsMonomial, IsTrimmed};
 ghost use Rattle.graded_algebra.specs.Algebras.{degrees, evaluate};
 ghost use Rattle.presentation_rows.specs.Factors.{IsLastFactor};
 ghost use Rattle.presentation_rows.specs.Values.{vector, AreValues};
+ghost use Rattle.ring_completion.specs.Candidates.{AreSome};
+ghost use Rattle.ring_completion.specs.Completions.{IsStandardOf};
 ghost use Rattle.min_res.specs.Stages.{rank_of};
 ghost use Rattle.ring_present.specs.Rings.{cohomology};
-ghost use Rattle.ring_present.specs.Degrees.{classes, IsLower};
+ghost use Rattle.ring_present.specs.Degrees.{classes, HasStandardQuotients, IsLower};
 
 use crate::degree::{Degree, Valued};
 use chain_lift::Lift;
 use fp_rows::{Matrix, Row, RowRef};
-use gc_poly::{Mono, Monos};
+use gc_poly::{Mono, Monos, Poly};
 use group_algebra::PGroup;
 use group_table::{Memory, Prime};
+use ring_degree::Table;
 use std::alloc::Global;
 
-/// The generators and the degrees that a ring has.
+/// The generators, the relations, the degrees and the tables that a ring has.
 #[derive(Clone, Copy)]
 pub(crate) struct Lower<'a> {
     pub(crate) group: &'a PGroup,
     pub(crate) lifts: &'a [Lift],
+    pub(crate) relations: &'a [Poly],
     pub(crate) degrees: &'a [Degree],
+    pub(crate) tables: &'a [Table],
 }
 
 // The monomial without one factor of its last generator.
@@ -72,13 +77,13 @@ fn last_lift<'a>(lifts: &'a [Lift], m: &Mono) -> &'a Lift
 }
 
 impl<'a> Lower<'a> {
-    // The class of a monomial of degree d, which is 0 or a degree that the ring has.
+    // The class of a standard monomial of degree d, which is 0 or a degree that the ring has.
     fn value_of(&self, one: &'a Row, d: u32, m: &Mono) -> RowRef<'a>
         requires one { (one.now.p ≡ prime_of self.now.group.now) × (one.now.entries ≡ 1 ∷ []) }
         requires lower { IsLower self.now.group.now self.now.lifts.now self.now.degrees.now }
         requires within { d ≤ length self.now.degrees.now }
-        requires monomial { IsMonomial (largest_residue self.now.group.now)
-            (degrees (classes self.now.group.now self.now.lifts.now)) d m.now }
+        requires standard { IsStandardOf (largest_residue self.now.group.now) (cohomology self.now.group.now)
+            (classes self.now.group.now self.now.lifts.now) d m.now }
         ensures modulus { modulus_of result ≡ prime_of self.now.group.now }
         ensures length { length (entries_of result) ≡ rank_of self.now.group.now d }
         ensures value { vector (largest_residue self.now.group.now) (entries_of result)
@@ -87,12 +92,12 @@ impl<'a> Lower<'a> {
         if d == 0 {
             one.view()
         } else {
-            row_of(&self.degrees[d as usize - 1].all, m)
+            row_of(&self.degrees[d as usize - 1].standard, m)
         }
     }
 
-    // Writes the class of a monomial of degree d, the next one: that of the monomial without its last factor,
-    // times that of the factor.
+    // Writes the class of a monomial of degree d, the next one, with standard quotients: that of the monomial
+    // without its last factor, times that of the factor.
     fn write_value(
         &self,
         alloc: Global,
@@ -107,6 +112,7 @@ impl<'a> Lower<'a> {
         requires degree { d ≡ suc (length self.now.degrees.now) }
         requires monomial { IsMonomial (largest_residue self.now.group.now)
             (degrees (classes self.now.group.now self.now.lifts.now)) d m.now }
+        requires quotients { HasStandardQuotients self.now.group.now self.now.lifts.now m.now }
         requires out_prime { out.old.p ≡ prime_of self.now.group.now }
         requires out_length { length out.old.entries ≡ rank_of self.now.group.now d }
         ensures prime { out.new.p ≡ out.old.p }
@@ -122,7 +128,7 @@ impl<'a> Lower<'a> {
         Ok(())
     }
 
-    /// The classes of the monomials of degree d, the next one.
+    /// The classes of monomials of degree d, the next one, with standard quotients.
     pub(crate) fn values(
         &self,
         alloc: Global,
@@ -134,8 +140,9 @@ impl<'a> Lower<'a> {
         requires heights { All (λ l. d ≤ l.degree + l.height) self.now.lifts.now }
         requires degree { d ≡ suc (length self.now.degrees.now) }
         requires rank { rank ≡ rank_of self.now.group.now d }
-        requires monomials { IsMonomials (largest_residue self.now.group.now)
+        requires monomials { AreSome (largest_residue self.now.group.now)
             (degrees (classes self.now.group.now self.now.lifts.now)) d monomials.now }
+        requires quotients { All (HasStandardQuotients self.now.group.now self.now.lifts.now) monomials.now }
         ensures prime { IfOk result (λ m. m.p ≡ prime_of self.now.group.now) }
         ensures width { IfOk result (λ m. m.width ≡ rank) }
         ensures values { IfOk result (λ m. AreValues (largest_residue self.now.group.now)

@@ -1,7 +1,7 @@
 use Rattle.std.proofs.lemmas.Result.{err_from_is_err_and}
 use Rattle.coho_main.specs.Outcome.{AnswerSample}
 use Rattle.coho_main.proofs.Chain.{memory_settles}
-use Rattle.coho_main.proofs.Replies.{lines_of, sample_refused, sample_then, sample_too_many}
+use Rattle.coho_main.proofs.Replies.{lines_of, sample_refused, sample_then, sample_too_large}
 use Rattle.coho_main.proofs.Ringing.{fit_of, report_of, report_stop}
 use Rattle.coho_main.proofs.running.answer_sample.Goals as goal
 
@@ -17,7 +17,7 @@ returns-in_err-report c =
     in
     let P = c.args.consistent.now in
     let R = c.in_ok-resolution.ensures.found in
-    rw (p.1, p.2) (sample_too_many P c.args.k (fit_of P 4 c.in_ok-resolution.resolution R) _
+    rw (p.1, p.2) (sample_too_large P c.args.k (fit_of P 4 c.in_ok-resolution.resolution R) _
     (report_stop P 4 c.in_ok-resolution.resolution R c.in_err-report.field-0.0
     c.in_err-report.ensures.refused))
 
@@ -33,5 +33,5 @@ returns c =
     let R = c.in_ok-resolution.ensures.found in
     sample_then P c.args.k (fit_of P 4 c.in_ok-resolution.resolution R) c.in_ok-report.report
     c.in_ok-sample_lines.field-0
-    (report_of P 4 c.in_ok-resolution.resolution R c.in_ok-report.report c.in_ok-report.ensures.few
-    c.in_ok-report.ensures.small c.in_ok-report.ensures.report) c.in_ok-sample_lines.ensures
+    (report_of P 4 c.in_ok-resolution.resolution R c.in_ok-report.report c.in_ok-report.ensures.small
+    c.in_ok-report.ensures.report) c.in_ok-sample_lines.ensures

@@ -1,14 +1,14 @@
 use Rattle.std.proofs.lemmas.Result.{err_from_is_err_and}
 use Rattle.coho_main.specs.Outcome.{TellReport}
 use Rattle.coho_main.proofs.Chain.{memory_settles}
-use Rattle.coho_main.proofs.Replies.{lines_of, ring_then, ring_too_many}
+use Rattle.coho_main.proofs.Replies.{lines_of, ring_then, ring_too_large}
 use Rattle.coho_main.proofs.Ringing.{report_of, report_stop}
 use Rattle.coho_main.proofs.running.ring_lines.Goals as goal
 
 pub returns-in_err-report : goal.returns-in_err-report
 returns-in_err-report c = λ P R.
     let p = err_from_is_err_and c.from_residual.result c.from_residual.ensures.1 in
-    rw (p.1, p.2) (ring_too_many P c.args.n _
+    rw (p.1, p.2) (ring_too_large P c.args.n _
     (report_stop P c.args.n c.args.resolution.now R c.in_err-report.field-0.0
     c.in_err-report.ensures.refused))
 
@@ -21,5 +21,5 @@ returns-in_err-report_lines c = λ P R.
 pub returns : goal.returns
 returns c = λ P R.
     ring_then P c.args.n c.in_ok-report.report c.in_ok-report_lines.field-0
-    (report_of P c.args.n c.args.resolution.now R c.in_ok-report.report c.in_ok-report.ensures.few
-    c.in_ok-report.ensures.small c.in_ok-report.ensures.report) c.in_ok-report_lines.ensures
+    (report_of P c.args.n c.args.resolution.now R c.in_ok-report.report c.in_ok-report.ensures.small
+    c.in_ok-report.ensures.report) c.in_ok-report_lines.ensures

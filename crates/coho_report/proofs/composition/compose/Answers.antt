@@ -1,5 +1,4 @@
 use Rattle.std.proofs.Common.{◌≡◌, ◌∙◌, ◌+◌, ◌≤◌, suc, List, sym, ap, subst, arith, Option}
-use Rattle.std.proofs.lemmas.Result.{err_from_is_err_and}
 use Rattle.p_groups.specs.PGroups.{PGroup, largest_residue, order_of}
 use Rattle.graded_polynomials.specs.Polynomials.{Polynomial}
 use Rattle.group_table.specs.Tables.{order}
@@ -15,16 +14,9 @@ use Rattle.coho_report.specs.Parameters.{AreParameters}
 use Rattle.coho_report.specs.Reports.{ranks_below}
 use Rattle.coho_report.specs.Subgroups.{IsToldOf}
 use Rattle.coho_report.proofs.CohomologyReports.{cohomology-report}
-use Rattle.coho_report.proofs.Composing.{ring_refused}
 use Rattle.coho_report.proofs.Images.{told_counts}
 use Rattle.coho_report.proofs.ParametersTold.{low_ranks, parameters_told}
 use Rattle.coho_report.proofs.composition.compose.Goals as goal
-
-pub returns-in_err-ring-clause-refused : goal.returns-in_err-ring-clause-refused
-returns-in_err-ring-clause-refused c =
-    let p = err_from_is_err_and c.from_residual.result c.from_residual.ensures.1 in
-    rw (p.1, p.2) (ring_refused c.args.res.now.group c.args.n c.args.cap c.args.limit c.in_err-ring.field-0.0
-    c.in_err-ring.ensures.refused)
 
 pub find_parameters-requires-clause-restrictors : goal.find_parameters-requires-clause-restrictors
 find_parameters-requires-clause-restrictors c =
@@ -59,7 +51,7 @@ pub returns-clause-report : goal.returns-clause-report
 returns-clause-report c =
     let G = c.args.res.now.group in
     let ring = c.in_ok-ring.ring in
-    let through = c.in_ok-ring.ensures.ring in
+    let through = c.in_ok-ring.ensures in
     let q = largest_residue G in
     let gs = generators_of q ring.generators in
     let next : c.args.n + 1 ≡ suc c.args.n = omega arith in

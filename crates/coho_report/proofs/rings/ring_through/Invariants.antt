@@ -3,7 +3,6 @@ use Rattle.std.specs.Prelude.{IfSome}
 use Rattle.p_groups.specs.PGroups.{largest_residue}
 use Rattle.ring_present.specs.Rings.{IsPresentation}
 use Rattle.ring_present.specs.Values.{generators_of}
-use Rattle.coho_report.specs.Reports.{HasFewMonomials}
 use Rattle.coho_report.proofs.rings.ring_through.Given as goal
 
 abbrev pub invariant-loop-d : goal.invariant-loop-d
@@ -13,5 +12,4 @@ invariant-loop-d l = record {
   degree : l.ring.degree ≡ l._d;
   presentation : IsPresentation l.res.group l._d
       (generators_of (largest_residue l.res.group) l.ring.generators) l.ring.relations;
-  few : HasFewMonomials l.res.group l._d l.cap;
 }

@@ -6,7 +6,7 @@ use Rattle.chain_lift.specs.Embeddings.{elementary}
 use Rattle.ring_present.specs.Values.{generators_of}
 use Rattle.coho_report.specs.Limits.{HasSmallStages, IsSmall}
 use Rattle.coho_report.specs.OwnRings.{IsKnownRing, IsRingThrough}
-use Rattle.coho_report.specs.Refusals.{IsStageRefusal, IsSubgroupRefusal}
+use Rattle.coho_report.specs.Refusals.{IsRefusal, IsStageRefusal}
 use Rattle.coho_report.specs.Restrictors.{IsRestrictor, IsRestrictorOf}
 use Rattle.coho_report.specs.Subgroups.{IsToldOf}
 use Rattle.coho_report.specs.declared.own_rings.OwnRing.{OwnRing}
@@ -41,7 +41,7 @@ pub returns-in-Err-clause-refused : goal.returns-in-Err-clause-refused
 returns-in-Err-clause-refused c =
     let G = c.args.res.now.group in
     let n = c.args.ring.now.degree in
-    subst (IsSubgroupRefusal G n c.args.limit) (sym c.of_subgroup.ensures)
+    subst (IsRefusal G n c.args.limit) (sym c.of_subgroup.ensures)
     (refused_at G c.args.list.now c.loop-i.i c.get-e.result.now c.requires.list c.get-e.ensures n c.args.limit
     c.in-Err.fault c.loop-i.invariant.small
     (subst (λ n. IsStageRefusal (elementary G (length c.get-e.result.now.basis)) n c.args.limit

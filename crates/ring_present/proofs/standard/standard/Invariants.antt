@@ -5,9 +5,9 @@ use Rattle.ring_present.proofs.standard.standard.Given as goal
 -- what is left of the first places
 abbrev pub invariant-loop-i : goal.invariant-loop-i
 invariant-loop-i l = record {
-  monomials_are : l.monomials ≡ without_pivots l.kernel.rows 0 (take l.i l.all.monomials);
-  values_are : l.values ≡ record l.all.values {
+  monomials_are : l.monomials ≡ without_pivots l.kernel.rows 0 (take l.i l.left.monomials);
+  values_are : l.values ≡ record l.left.values {
     rows = without_pivots l.kernel.rows 0
-        (take l.i l.all.values.rows);
+        (take l.i l.left.values.rows);
   };
 }

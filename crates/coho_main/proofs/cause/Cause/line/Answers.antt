@@ -5,8 +5,3 @@ use Rattle.coho_main.proofs.cause.Cause.line.Goals as goal
 pub returns-in-Stage : goal.returns-in-Stage
 returns-in-Stage c = subst (λ why. IfOk c.format-in-Stage.result
     (λ text. string_bytes text ≡ (refusal_of why).line)) (sym c.in-Stage.is) c.format-in-Stage.ensures.ok
-
-pub returns-in-Monomials : goal.returns-in-Monomials
-returns-in-Monomials c = subst (λ why. IfOk c.format-in-Monomials.result
-    (λ text. string_bytes text ≡ (refusal_of why).line))
-    (sym c.in-Monomials.is) c.format-in-Monomials.ensures.ok

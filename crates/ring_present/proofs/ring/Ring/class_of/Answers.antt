@@ -14,7 +14,7 @@ returns-clause-modulus c =
     ap (λ (r : RingValue). length r.generators) (sym c.self.view_is)
     ∙ length-map k.lifts.items (λ (l : LiftValue). record { degree = l.degree; class = l.class }) in
     c.class.ensures.modulus
-    ∙ lift-prime k.group k.gens k.lifts.items k.relations.items k.degrees.items c.self.invariant c.args.i
+    ∙ lift-prime k.group k.gens k.lifts.items k.relations.items k.degrees.items c.self.invariant.0 c.args.i
     c.index.result.now (omega (arith, n, c.requires)) c.index.ensures
     ∙ ap (λ (r : RingValue). r.prime) c.self.view_is
 
@@ -22,5 +22,5 @@ pub returns-clause-length : goal.returns-clause-length
 returns-clause-length c G known g =
     let k = c.self.inside.known in
     class-length c.args.self.now k.group k.gens k.lifts.items k.relations.items k.degrees.items
-    c.self.invariant c.self.view_is c.args.i c.index.result.now
+    c.self.invariant.0 c.self.view_is c.args.i c.index.result.now
     (length (entries_of c.class.result)) c.requires c.index.ensures c.class.ensures.length G known g

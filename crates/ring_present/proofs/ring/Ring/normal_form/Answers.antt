@@ -18,9 +18,10 @@ combination-requires-clause-prime c =
     c.self.view_is in
     let some : 0 < length k.degrees.items =
     (let e = seen.degree_is in omega (arith, e, c.requires.from, c.requires.to)) in
-    let g = some-group k.group k.gens k.lifts.items k.relations.items k.degrees.items c.self.invariant some in
+    let g = some-group k.group k.gens k.lifts.items k.relations.items k.degrees.items
+    c.self.invariant.0 some in
     c.requires.prime ∙ sym (prime-seen c.args.self.now k.group k.gens k.lifts.items k.relations.items
-    k.degrees.items seen c.self.invariant c.args.d c.index-degree.result.now c.index-degree.ensures
+    k.degrees.items seen c.self.invariant.0 c.args.d c.index-degree.result.now c.index-degree.ensures
     c.requires.from c.requires.to g.0 (seen.group_is ∙ g.1))
 
 pub combination-requires-clause-length : goal.combination-requires-clause-length
@@ -30,10 +31,11 @@ combination-requires-clause-length c =
     c.self.view_is in
     let some : 0 < length k.degrees.items =
     (let e = seen.degree_is in omega (arith, e, c.requires.from, c.requires.to)) in
-    let g = some-group k.group k.gens k.lifts.items k.relations.items k.degrees.items c.self.invariant some in
+    let g = some-group k.group k.gens k.lifts.items k.relations.items k.degrees.items
+    c.self.invariant.0 some in
     c.requires.length g.0 (seen.group_is ∙ g.1)
     ∙ sym (targets-seen c.args.self.now k.group k.gens k.lifts.items k.relations.items k.degrees.items seen
-    c.self.invariant c.args.d c.index-degree.result.now c.index-degree.ensures c.requires.from
+    c.self.invariant.0 c.args.d c.index-degree.result.now c.index-degree.ensures c.requires.from
     c.requires.to g.0 (seen.group_is ∙ g.1))
 
 pub polynomial_of-requires-clause-monomials : goal.polynomial_of-requires-clause-monomials
@@ -43,9 +45,10 @@ polynomial_of-requires-clause-monomials c =
     c.self.view_is in
     let some : 0 < length k.degrees.items =
     (let e = seen.degree_is in omega (arith, e, c.requires.from, c.requires.to)) in
-    let g = some-group k.group k.gens k.lifts.items k.relations.items k.degrees.items c.self.invariant some in
+    let g = some-group k.group k.gens k.lifts.items k.relations.items k.degrees.items
+    c.self.invariant.0 some in
     monomials-seen c.args.self.now k.group k.gens k.lifts.items k.relations.items k.degrees.items seen
-    c.self.invariant c.args.d c.index-degree.result.now c.index-degree.ensures c.requires.from
+    c.self.invariant.0 c.args.d c.index-degree.result.now c.index-degree.ensures c.requires.from
     c.requires.to g.0 (seen.group_is ∙ g.1)
 
 pub polynomial_of-requires-clause-prime : goal.polynomial_of-requires-clause-prime
@@ -55,10 +58,11 @@ polynomial_of-requires-clause-prime c =
     c.self.view_is in
     let some : 0 < length k.degrees.items =
     (let e = seen.degree_is in omega (arith, e, c.requires.from, c.requires.to)) in
-    let g = some-group k.group k.gens k.lifts.items k.relations.items k.degrees.items c.self.invariant some in
+    let g = some-group k.group k.gens k.lifts.items k.relations.items k.degrees.items
+    c.self.invariant.0 some in
     c.view.ensures.modulus ∙ c.in_ok-row.ensures.prime
     ∙ prime-seen c.args.self.now k.group k.gens k.lifts.items k.relations.items k.degrees.items seen
-    c.self.invariant c.args.d c.index-degree.result.now c.index-degree.ensures c.requires.from
+    c.self.invariant.0 c.args.d c.index-degree.result.now c.index-degree.ensures c.requires.from
     c.requires.to g.0 (seen.group_is ∙ g.1)
     ∙ seen.prime_is
 
@@ -69,9 +73,10 @@ polynomial_of-requires-clause-length c =
     c.self.view_is in
     let some : 0 < length k.degrees.items =
     (let e = seen.degree_is in omega (arith, e, c.requires.from, c.requires.to)) in
-    let g = some-group k.group k.gens k.lifts.items k.relations.items k.degrees.items c.self.invariant some in
+    let g = some-group k.group k.gens k.lifts.items k.relations.items k.degrees.items
+    c.self.invariant.0 some in
     width-of-forms c.args.self.now k.group k.gens k.lifts.items k.relations.items k.degrees.items seen
-    c.self.invariant c.args.d c.index-degree.result.now c.index-degree.ensures c.requires.from
+    c.self.invariant.0 c.args.d c.index-degree.result.now c.index-degree.ensures c.requires.from
     c.requires.to g.0 (seen.group_is ∙ g.1)
     (entries_of c.args.class) (entries_of c.view.result) (c.view.ensures.entries ∙ c.in_ok-row.ensures.row)
 
@@ -83,14 +88,14 @@ returns-clause-form c G known =
     let p : Rattle.fp_rows.specs.Refs.modulus_of c.args.class ≡ c.index-degree.result.now.preimages.p =
     c.requires.prime
     ∙ sym (prime-seen c.args.self.now k.group k.gens k.lifts.items k.relations.items k.degrees.items seen
-    c.self.invariant c.args.d c.index-degree.result.now c.index-degree.ensures c.requires.from
+    c.self.invariant.0 c.args.d c.index-degree.result.now c.index-degree.ensures c.requires.from
     c.requires.to G known) in
     subst (λ (f : List Term). IsNormalForm (largest_residue G) (cohomology G)
     (generators_of (largest_residue G) c.args.self.now.generators) c.args.d
     (vector (largest_residue G) (entries_of c.args.class)) f)
     (sym (ap (λ (f : Polynomial). f.terms) c.in_ok-form.ensures))
     (form-seen c.args.self.now k.group k.gens k.lifts.items k.relations.items k.degrees.items seen
-    c.self.invariant c.args.d c.index-degree.result.now c.index-degree.ensures c.requires.from
+    c.self.invariant.0 c.args.d c.index-degree.result.now c.index-degree.ensures c.requires.from
     c.requires.to G known
     (entries_of c.args.class) (entries_of c.view.result)
     (record {

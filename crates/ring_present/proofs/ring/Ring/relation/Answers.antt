@@ -5,4 +5,4 @@ pub returns-clause-over : goal.returns-clause-over
 returns-clause-over c =
     let k = c.self.inside.known in
     relation-over c.args.self.now k.group k.gens k.lifts.items k.relations.items k.degrees.items
-    c.self.invariant c.self.view_is c.args.i c.index.result.now c.requires c.index.ensures
+    c.self.invariant.0 c.self.view_is c.args.i c.index.result.now c.requires c.index.ensures

@@ -6,11 +6,11 @@ returns-clause-list c =
     let k = c.self.inside.known in
     standard-is c.args.self.now k.group k.gens k.lifts.items k.relations.items k.degrees.items
     (seen-of c.args.self.now k.group k.gens k.lifts.items k.relations.items k.degrees.items c.self.view_is)
-    c.self.invariant c.args.d c.index.result.now c.index.ensures c.requires.from c.requires.to
+    c.self.invariant.0 c.args.d c.index.result.now c.index.ensures c.requires.from c.requires.to
 
 pub returns-clause-standard : goal.returns-clause-standard
 returns-clause-standard c G known =
     let k = c.self.inside.known in
     standard-seen c.args.self.now k.group k.gens k.lifts.items k.relations.items k.degrees.items
     (seen-of c.args.self.now k.group k.gens k.lifts.items k.relations.items k.degrees.items c.self.view_is)
-    c.self.invariant c.args.d c.index.result.now c.index.ensures c.requires.from c.requires.to G known
+    c.self.invariant.0 c.args.d c.index.result.now c.index.ensures c.requires.from c.requires.to G known

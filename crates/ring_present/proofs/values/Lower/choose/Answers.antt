@@ -6,17 +6,21 @@ use Rattle.p_groups.proofs.Fields.{residues}
 use Rattle.linear_algebra.specs.Rows.{row, IsEchelonOf, AreInSpan}
 use Rattle.linear_algebra.specs.Choices.{IsGreedy}
 use Rattle.min_res.specs.Stages.{rank_of}
-use Rattle.ring_present.specs.Degrees.{new_lift}
+use Rattle.ring_present.specs.Degrees.{IsLower, new_lift}
+use Rattle.ring_present.proofs.Factors.{positive-degrees}
 use Rattle.ring_present.proofs.Nexts.{chosen-generators, new-lifts-are, basis-in-span}
 use Rattle.ring_present.proofs.values.Lower.choose.Goals as goal
 
 pub new_places-requires-clause-same_prime : goal.new_places-requires-clause-same_prime
 new_places-requires-clause-same_prime c =
-    c.requires.basis_prime ∙ sym (c.requires.all.prime ∙ residues c.args.res.now.group)
+    c.requires.basis_prime ∙ sym (c.requires.left.valued.prime ∙ residues c.args.res.now.group)
 
 pub new_places-requires-clause-same_width : goal.new_places-requires-clause-same_width
 new_places-requires-clause-same_width c =
-    c.requires.basis_width ∙ sym c.requires.all.width
+    c.requires.basis_width ∙ sym c.requires.left.valued.width
+
+pub new_generators-requires-clause-relations : goal.new_generators-requires-clause-relations
+new_generators-requires-clause-relations c = c.requires.presentation.relations_are
 
 pub returns-clause-lifts : goal.returns-clause-lifts
 returns-clause-lifts c =
@@ -39,13 +43,18 @@ pub returns-clause-generators : goal.returns-clause-generators
 returns-clause-generators c =
     let G : PGroup = c.args.res.now.group in
     let n : ℕ = length c.args.self.now.degrees.now in
-    let A = c.requires.all in
+    let A = c.requires.left.valued in
     chosen-generators G n c.args.self.now.lifts.now c.in_ok-lifts.lifts.items c.args.basis.now.rows
-    c.in_ok-places.places c.in_ok-lifts.ensures.lifts c.args.all.now c.in_ok-places.ensures.greedy.0
-    c.requires.presentation A c.requires.basis
+    c.in_ok-places.places c.in_ok-lifts.ensures.lifts c.args.left.now c.in_ok-places.ensures.greedy.0
+    c.args.self.now.relations.now
+    (positive-degrees G n c.args.self.now.lifts.now
+    (subst (λ (g : PGroup). IsLower g c.args.self.now.lifts.now c.args.self.now.degrees.now)
+    c.requires.group c.requires.lower).lifts_are)
+    c.requires.presentation.generators_are c.requires.presentation.relations_are c.requires.left
+    c.requires.basis
     (subst (λ p. IsEchelonOf p (rank_of G
-    (suc n)) c.args.all.now.values.rows c.in_ok-places.ensures.greedy.0) A.prime
-    (subst (λ w. IsEchelonOf c.args.all.now.values.p w c.args.all.now.values.rows
+    (suc n)) c.args.left.now.values.rows c.in_ok-places.ensures.greedy.0) A.prime
+    (subst (λ w. IsEchelonOf c.args.left.now.values.p w c.args.left.now.values.rows
     c.in_ok-places.ensures.greedy.0) A.width c.in_ok-places.ensures.greedy.1))
     (subst (λ p. IsGreedy p c.args.basis.now.rows c.in_ok-places.ensures.greedy.0 c.in_ok-places.places)
     A.prime c.in_ok-places.ensures.greedy.2)
@@ -54,9 +63,10 @@ returns-clause-generators c =
 pub returns-clause-spans : goal.returns-clause-spans
 returns-clause-spans c =
     let G : PGroup = c.args.res.now.group in
-    subst (λ p. AreInSpan p c.new_generators.new.all.values.rows c.args.basis.now.rows) (c.requires.all.prime
-    ∙ sym c.in_ok-lifts.ensures.all.prime)
-    (basis-in-span c.args.all.now.values.p c.args.all.now.values.width c.args.all.now.values.rows
-    c.in_ok-places.ensures.greedy.0 c.args.basis.now.rows c.new_generators.new.all.values.rows
+    subst (λ p. AreInSpan p c.new_generators.new.left.values.rows c.args.basis.now.rows)
+    (c.requires.left.valued.prime
+    ∙ sym c.in_ok-lifts.ensures.left.valued.prime)
+    (basis-in-span c.args.left.now.values.p c.args.left.now.values.width c.args.left.now.values.rows
+    c.in_ok-places.ensures.greedy.0 c.args.basis.now.rows c.new_generators.new.left.values.rows
     c.in_ok-places.places
     c.in_ok-places.ensures.greedy.1 c.in_ok-places.ensures.greedy.2 c.in_ok-lifts.ensures.rows)

@@ -10,11 +10,14 @@ use Rattle.fp_rows.specs.Values.{MatrixValue}
 use Rattle.fp_rows.specs.Refs.{entries_of}
 use Rattle.graded_polynomials.specs.Texts.{power}
 use Rattle.gc_poly.specs.Generators.{Generators}
-use Rattle.ring_present.specs.Degrees.{AreAll, degrees_of, new_lift, IsLiftBelow}
+use Rattle.ring_present.specs.KnownTables.{generators_from}
+use Rattle.ring_present.specs.Degrees.{AreLeftOf, degrees_of, new_lift, IsLiftBelow}
 use Rattle.ring_present.proofs.Lists.{map-more, index-at}
-use Rattle.ring_present.proofs.Places.{generators-few}
+use Rattle.ring_present.proofs.Places.{generators-few, generators-count, more-monomials, all-placed}
 use Rattle.ring_present.proofs.Factors.{positive-degrees}
-use Rattle.ring_present.proofs.Growing.{greater-than-new, lifts-below, degrees-bounded, all-added, gens-added}
+use Rattle.ring_present.proofs.Growing.{lifts-below, degrees-bounded, gens-added}
+use Rattle.ring_present.proofs.LeftMonomials.{greater-than-new, left-added}
+use Rattle.ring_present.proofs.Nexts.{new-lifts-are, old-relations}
 use Rattle.ring_present.proofs.values.Lower.new_generators.Goals as goal
 
 pub loop-i-init : goal.loop-i-init
@@ -28,9 +31,10 @@ loop-i-init c =
         prime = c.args.res.now.group.table.p;
         degrees = degrees_of ls;
       }) e;
-      all = subst (λ ls. AreAll c.args.res.now.group
-          (suc (length c.args.self.now.degrees.now)) ls c.args.all.now) e c.requires.all;
-      rows = sym (append-nil c.args.all.now.values.rows);
+      left = subst (λ ls. AreLeftOf c.args.res.now.group c.args.self.now.relations.now
+          (suc (length c.args.self.now.degrees.now)) ls c.args.left.now) e c.requires.left;
+      monomials = sym (append-nil c.args.left.now.monomials);
+      rows = sym (append-nil c.args.left.now.values.rows);
     }
 
 pub add_generator-requires-clause-few : goal.add_generator-requires-clause-few
@@ -56,11 +60,11 @@ add_generator-requires-clause-order c =
 
 pub add_generator-requires-clause-values_prime : goal.add_generator-requires-clause-values_prime
 add_generator-requires-clause-values_prime c =
-    c.loop-i.invariant.all.prime ∙ residues c.args.res.now.group
+    c.loop-i.invariant.left.valued.prime ∙ residues c.args.res.now.group
 
 pub add_generator-requires-clause-values_width : goal.add_generator-requires-clause-values_width
 add_generator-requires-clause-values_width c =
-    c.loop-i.invariant.all.width ∙ sym (ap length c.row-class.ensures.entries
+    c.loop-i.invariant.left.valued.width ∙ sym (ap length c.row-class.ensures.entries
     ∙ c.row-class.ensures.is_row.length_is ∙ c.requires.basis_width)
 
 pub add_generator-requires-clause-greater : goal.add_generator-requires-clause-greater
@@ -71,10 +75,15 @@ add_generator-requires-clause-greater c =
     (take c.loop-i.i c.args.places.now)
     (subst (λ g. All (IsLiftBelow g n) c.args.self.now.lifts.now) c.requires.group c.requires.lower.lifts_are)
     c.loop-i.invariant.lifts in
-    greater-than-new G (suc n) (length c.loop-i.gens.degrees)
-    (c.args.self.now.lifts.now ++ c.loop-i.lifts.items) c.loop-i.all (omega arith)
+    let are = new-lifts-are G n c.args.basis.now.rows (take c.loop-i.i c.args.places.now) c.loop-i.lifts.items
+    c.loop-i.invariant.lifts in
+    greater-than-new G n (c.args.self.now.lifts.now ++ c.loop-i.lifts.items) c.args.self.now.relations.now
     (positive-degrees G (suc n) (c.args.self.now.lifts.now ++ c.loop-i.lifts.items) below)
-    c.loop-i.invariant.all
+    (old-relations G n c.args.self.now.lifts.now c.loop-i.lifts.items c.args.self.now.relations.now
+    c.requires.relations are)
+    (entries_of c.row-class.result)
+    (ap length c.row-class.ensures.entries ∙ c.row-class.ensures.is_row.length_is ∙ c.requires.basis_width)
+    (length c.loop-i.gens.degrees) c.loop-i.left.monomials c.loop-i.invariant.left.left
     (ap (λ (g : Generators). length g.degrees) c.loop-i.invariant.gens)
 
 pub loop-i-preserved : goal.loop-i-preserved
@@ -99,17 +108,36 @@ loop-i-preserved c =
       gens = gens-added G.table.p (n + 1) c.args.self.now.lifts.now old c.add_generator.new.lifts.items
           (new_lift G (suc n) class) c.loop-i.gens c.add_generator.new.gens c.loop-i.invariant.gens
           (sym (add-one n)) next c.in_ok-add_generator.ensures.gens;
-      all = all-added G (suc n) c.args.self.now.lifts.now old c.add_generator.new.lifts.items class
-          c.loop-i.all c.add_generator.new.all (omega arith) below
+      left = left-added G n c.args.self.now.lifts.now old c.add_generator.new.lifts.items
+          c.args.self.now.relations.now class c.loop-i.left c.add_generator.new.left
+          (positive-degrees G (suc n) (c.args.self.now.lifts.now ++ old) below)
+          (old-relations G n c.args.self.now.lifts.now old c.args.self.now.relations.now c.requires.relations
+          (new-lifts-are G n c.args.basis.now.rows (take c.loop-i.i c.args.places.now) old
+          c.loop-i.invariant.lifts))
           (ap length c.row-class.ensures.entries ∙ c.row-class.ensures.is_row.length_is
-          ∙ c.requires.basis_width) c.loop-i.invariant.all next
+          ∙ c.requires.basis_width) c.loop-i.invariant.left next
           (c.in_ok-add_generator.ensures.monomials
-          ∙ ap (λ (g : Generators). c.loop-i.all.monomials ++ power
+          ∙ ap (λ (g : Generators). c.loop-i.left.monomials ++ power
           (length g.degrees) 1 ∷ []) c.loop-i.invariant.gens)
           c.in_ok-add_generator.ensures.values;
-      rows = map-more (row c.args.basis.now.rows) c.args.all.now.values.rows c.loop-i.all.values.rows
-          c.add_generator.new.all.values.rows c.args.places.now c.loop-i.i c.get.result
+      monomials = more-monomials c.args.left.now.monomials c.loop-i.left.monomials
+          c.add_generator.new.left.monomials (length c.args.self.now.lifts.now) c.loop-i.i
+          c.loop-i.invariant.monomials
+          (c.in_ok-add_generator.ensures.monomials
+          ∙ ap (λ k. c.loop-i.left.monomials ++ power k 1 ∷ [])
+          (generators-count c.args.self.now.lifts.now old
+          (λ k. new_lift G (suc n) (row c.args.basis.now.rows k)) c.args.places.now c.loop-i.gens G.table.p
+          c.loop-i.i (omega arith) c.loop-i.invariant.lifts c.loop-i.invariant.gens));
+      rows = map-more (row c.args.basis.now.rows) c.args.left.now.values.rows c.loop-i.left.values.rows
+          c.add_generator.new.left.values.rows c.args.places.now c.loop-i.i c.get.result
           (omega arith) at c.loop-i.invariant.rows
           (ap (λ (m : MatrixValue). m.rows) c.in_ok-add_generator.ensures.values
-          ∙ ap (λ r. c.loop-i.all.values.rows ++ r ∷ []) c.row-class.ensures.entries);
+          ∙ ap (λ r. c.loop-i.left.values.rows ++ r ∷ []) c.row-class.ensures.entries);
     }
+
+pub returns-clause-monomials : goal.returns-clause-monomials
+returns-clause-monomials c = c.loop-i.invariant.monomials
+    ∙ ap (λ k. c.args.left.now.monomials ++ generators_from (length c.args.self.now.lifts.now) k)
+    (all-placed c.loop-i.lifts.items (λ k. new_lift c.args.res.now.group
+    (suc (length c.args.self.now.degrees.now)) (row c.args.basis.now.rows k)) c.args.places.now c.loop-i.i
+    (omega arith) (omega arith) c.loop-i.invariant.lifts)

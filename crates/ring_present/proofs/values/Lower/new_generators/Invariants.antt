@@ -1,7 +1,8 @@
 use Rattle.std.proofs.Common.{◌≡◌, suc, ◌++◌, map, take, length}
 use Rattle.linear_algebra.specs.Rows.{row}
 use Rattle.linear_algebra.specs.Choices.{rows_at}
-use Rattle.ring_present.specs.Degrees.{AreAll, degrees_of, new_lift}
+use Rattle.ring_present.specs.KnownTables.{generators_from}
+use Rattle.ring_present.specs.Degrees.{AreLeftOf, degrees_of, new_lift}
 use Rattle.ring_present.proofs.values.Lower.new_generators.Given as goal
 
 abbrev pub invariant-loop-i : goal.invariant-loop-i
@@ -12,6 +13,8 @@ invariant-loop-i l = record {
     prime = l.res.group.table.p;
     degrees = degrees_of (l.self.lifts.now ++ l.lifts.items);
   };
-  all : AreAll l.res.group (suc (length l.self.degrees.now)) (l.self.lifts.now ++ l.lifts.items) l.all;
-  rows : l.all.values.rows ≡ l.initial.all.values.rows ++ rows_at l.basis.rows (take l.i l.places);
+  left : AreLeftOf l.res.group l.self.relations.now (suc (length l.self.degrees.now))
+      (l.self.lifts.now ++ l.lifts.items) l.left;
+  monomials : l.left.monomials ≡ l.initial.left.monomials ++ generators_from (length l.self.lifts.now) l.i;
+  rows : l.left.values.rows ≡ l.initial.left.values.rows ++ rows_at l.basis.rows (take l.i l.places);
 }

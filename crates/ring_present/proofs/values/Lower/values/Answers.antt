@@ -10,7 +10,7 @@ use Rattle.graded_polynomials.specs.Monomials.{IsMonomial}
 use Rattle.graded_algebra.specs.Algebras.{degrees, evaluate}
 use Rattle.presentation_rows.specs.Values.{vector}
 use Rattle.ring_present.specs.Rings.{cohomology}
-use Rattle.ring_present.specs.Degrees.{classes}
+use Rattle.ring_present.specs.Degrees.{classes, HasStandardQuotients}
 use Rattle.ring_present.proofs.Factors.{values-push}
 use Rattle.ring_present.proofs.values.Lower.values.Goals as goal
 
@@ -20,6 +20,13 @@ write_value-requires-clause-monomial c =
     subst (IsMonomial (largest_residue G) (degrees (classes G c.args.self.now.lifts.now)) c.args.d)
     (get_or_from_slice_get c.args.monomials.now c.loop-i.i c.get.result.now [] c.get.ensures)
     (c.requires.monomials.each c.loop-i.i
+    (slice_get_within c.args.monomials.now c.loop-i.i c.get.result.now c.get.ensures))
+
+pub write_value-requires-clause-quotients : goal.write_value-requires-clause-quotients
+write_value-requires-clause-quotients c =
+    subst (HasStandardQuotients c.args.self.now.group.now c.args.self.now.lifts.now)
+    (get_or_from_slice_get c.args.monomials.now c.loop-i.i c.get.result.now [] c.get.ensures)
+    (c.requires.quotients c.loop-i.i []
     (slice_get_within c.args.monomials.now c.loop-i.i c.get.result.now c.get.ensures))
 
 pub loop-i-preserved : goal.loop-i-preserved

@@ -9,6 +9,7 @@ use Rattle.chain_lift.specs.Products.{product_row}
 use Rattle.ring_present.specs.Degrees.{classes, IsLiftBelow}
 use Rattle.ring_present.proofs.Products.{length-product}
 use Rattle.ring_present.proofs.Factors.{all-at, not-one, last-inside, quotient-monomial, value-of-product}
+use Rattle.ring_present.proofs.LeftMonomials.{last-quotient}
 use Rattle.ring_present.proofs.values.Lower.write_value.Goals as goal
 
 pub quotient-requires : goal.quotient-requires
@@ -56,12 +57,20 @@ value_of-requires-clause-within c =
     let low = below.from_one in
     omega (arith, low, c.degree.ensures, c.requires.degree)
 
-pub value_of-requires-clause-monomial : goal.value_of-requires-clause-monomial
-value_of-requires-clause-monomial c =
-    quotient-monomial c.args.self.now.group.now c.args.self.now.lifts.now c.args.d
+pub value_of-requires-clause-standard : goal.value_of-requires-clause-standard
+value_of-requires-clause-standard c =
+    let G : PGroup = c.args.self.now.group.now in
+    let M = quotient-monomial c.args.self.now.group.now c.args.self.now.lifts.now c.args.d
     (length c.args.m.now - 1) c.last_lift-lift.result.now c.args.m.now c.in_ok-rest.rest
     c.requires.monomial c.in_ok-rest.ensures.trimmed c.in_ok-rest.ensures.factor
-    (sym c.last_lift-lift.ensures) (c.args.d - c.degree.result) (ap (λ k. c.args.d - k) c.degree.ensures)
+    (sym c.last_lift-lift.ensures) (c.args.d - c.degree.result) (ap (λ k. c.args.d - k) c.degree.ensures) in
+    record {
+      monomial = M;
+      standard = c.requires.quotients (length c.args.m.now - 1) (c.args.d - c.degree.result) c.in_ok-rest.rest
+          (last-quotient (largest_residue G) (c.args.d - c.degree.result) (length c.args.m.now - 1)
+          (degrees (classes G c.args.self.now.lifts.now)) c.in_ok-rest.rest c.args.m.now
+          c.requires.monomial.trimmed M c.in_ok-rest.ensures.factor);
+    }
 
 pub product-requires-clause-degree : goal.product-requires-clause-degree
 product-requires-clause-degree c =
