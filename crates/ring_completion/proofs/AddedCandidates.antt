@@ -25,7 +25,8 @@ use Rattle.ring_completion.proofs.Stays.{monomial-up, monomial-down, standard-up
 -- the only quotient of a generator is 1
 quotient-of-generator : (q : ℕ) (ds : List ℕ) (i k e : ℕ) (r : List ℕ) → IsQuotient q ds i e r (power k 1)
     → r ≡ []
-quotient-of-generator q ds i k e r Q = same-exponents r [] Q.monomial.trimmed tt (λ j. zero-at j (cases_eq i k))
+quotient-of-generator q ds i k e r Q = same-exponents r [] Q.monomial.trimmed tt
+    (λ j. zero-at j (cases_eq i k))
   where
     sum : (j : ℕ) → exponent (power i 1) j + exponent r j ≡ exponent (power k 1) j
     sum j = sym (exponent-joined (power i 1) r j) ∙ ap (λ m. exponent m j) Q.product
@@ -33,7 +34,8 @@ quotient-of-generator q ds i k e r Q = same-exponents r [] Q.monomial.trimmed tt
     zero-at : (j : ℕ) → (i ≡ k) ⊎ (i ≢ k) → exponent r j ≡ exponent [] j
     zero-at j (inl s) = let z = sum j in let w = ap (λ x. exponent (power x 1) j) s in omega (arith, z, w)
     zero-at j (inr ne) = absurd
-        (let z = sum i in let a = power-here i 1 in let b = power-elsewhere k 1 i ne in omega (arith, z, a, b))
+        (let z = sum i in let a = power-here i 1 in let b = power-elsewhere k 1 i ne in
+        omega (arith, z, a, b))
 
 module _ (q n : ℕ) (V : Type 0) (A : Algebra V) (In : ℕ → V → Type 0) (L : IsGradedCommutative q V A In)
     (gs : List (Generator V)) (g : Generator V) (degree-is : g.degree ≡ suc n)
@@ -57,7 +59,8 @@ module _ (q n : ℕ) (V : Type 0) (A : Algebra V) (In : ℕ → V → Type 0) (L
 
   one-standard : IsStandard q A more 0 []
   one-standard h = not-zero
-      (constant-zero q V A In L more positive-all free h.member h.is_member.over h.is_member.vanishes []) h.here
+      (constant-zero q V A In L more positive-all free h.member h.is_member.over h.is_member.vanishes [])
+      h.here
 
   some-at : (i : ℕ) → i < length (ms ++ last ∷ []) → (i < length ms) ⊎ (length ms ≤ i)
       → IsMonomial q (degrees more) (suc n) (slice_index_or (ms ++ last ∷ []) i [])
@@ -128,7 +131,8 @@ module _ (q n : ℕ) (V : Type 0) (A : Algebra V) (In : ℕ → V → Type 0) (L
           zero : e ≡ 0
           zero = sym P.monomial.degree_is ∙ ap (degree (degrees more)) here ∙ degree-nil (degrees more)
 
-      listed : (m : List ℕ) → IsMonomial q (degrees gs) (suc n) m ⊎ ((g.degree ≡ suc n) × (m ≡ single (degrees gs)))
+      listed : (m : List ℕ) → IsMonomial q (degrees gs) (suc n) m
+          ⊎ ((g.degree ≡ suc n) × (m ≡ single (degrees gs)))
           → IsListed (ms ++ last ∷ []) m ⊎ HasLeadingQuotient q A more m
       listed m (inl k) = go (C.all m k)
         where

@@ -1,6 +1,6 @@
 -- The candidates of a list, one member after another.
-use Rattle.std.proofs.Common.{◌≡◌, ℕ, zero, suc, ◌+◌, ◌<◌, ◌≤◌, ◌↔◌, List, [], ◌∷◌, ◌++◌, ◌⊎◌, inl, inr, length}
-use Rattle.std.proofs.Common.{take, get_or, arith, ap, sym, subst, ◌∙◌, refl}
+use Rattle.std.proofs.Common.{◌≡◌, ℕ, ◌+◌, ◌<◌, ◌≤◌, List, [], ◌∷◌, ◌++◌, ◌⊎◌, inl, inr, length, take, get_or}
+use Rattle.std.proofs.Common.{arith, sym, subst, ◌∙◌, refl}
 use Rattle.std.specs.Prelude.{All}
 use Rattle.std.proofs.lemmas.Bool.{cases_lt}
 use Rattle.std.proofs.lemmas.List.{get_or-take, length-take, get_or_push, get_or_append_left, length_push}
@@ -8,7 +8,6 @@ use Rattle.std.proofs.lemmas.List.Elements.{All-from_get_or, All-get_or}
 use Rattle.graded_polynomials.specs.Monomials.{IsGreater}
 use Rattle.gc_poly.specs.Lists.{IsDescending}
 use Rattle.ring_completion.specs.Candidates.{IsListed}
-use Rattle.ring_degree.specs.Products.{Gains}
 use Rattle.ring_degree.specs.Rests.{HasQuotientsIn, AreCandidatesIn}
 use Rattle.ring_degree.specs.declared.table.Table.{Table}
 use Rattle.ring_degree.proofs.Gaining.{listed-more, gains-push}
@@ -36,18 +35,23 @@ module _ (ds : List ℕ) (tables : List Table) (ms cs : List (List ℕ)) (k : �
       push : IsDescending (cs ++ m ∷ [])
       push i j d o b = go (cases_lt j (length cs))
         where
-          go : (j < length cs) ⊎ (length cs ≤ j) → IsGreater (get_or (cs ++ m ∷ []) i d) (get_or (cs ++ m ∷ []) j d)
-          go (inl c) = rw (get_or_append_left cs (m ∷ []) d i (omega (arith, o, c)),
-              get_or_append_left cs (m ∷ []) d j c) (C.descending i j d o c)
+          go : (j < length cs) ⊎ (length cs ≤ j) → IsGreater (get_or (cs ++ m ∷ []) i d)
+              (get_or (cs ++ m ∷ []) j d)
+          go (inl c) = rw (
+            get_or_append_left cs (m ∷ []) d i (omega (arith, o, c)),
+            get_or_append_left cs (m ∷ []) d j c,
+          ) (C.descending i j d o c)
           go (inr c) = let q : j ≡ length cs = omega (arith, c, b, length_push cs m) in
               rw (get_or_append_left cs (m ∷ []) d i (omega (arith, o, q)), get_or_push cs m d j (sym q))
-              (All-get_or (λ (n : List ℕ). IsGreater n m) cs i d (omega (arith, o, q)) (greater-than-next m e))
+              (All-get_or (λ (n : List ℕ). IsGreater n m) cs i d (omega (arith, o, q))
+              (greater-than-next m e))
 
       to : (v : List ℕ) → IsListed cs v ⊎ (v ≡ m) → IsListed (take (k + 1) ms) v × HasQuotientsIn ds tables v
       to v (inl x) = let y = (C.members v).0 x in ((listed-more ms k v l).1 (inl y.0), y.1)
       to v (inr x) = ((listed-more ms k v l).1 (inr (x ∙ sym e)), subst (HasQuotientsIn ds tables) (sym x) h)
 
-      from : (v : List ℕ) → IsListed (take (k + 1) ms) v × HasQuotientsIn ds tables v → IsListed (cs ++ m ∷ []) v
+      from : (v : List ℕ) → IsListed (take (k + 1) ms) v × HasQuotientsIn ds tables v
+          → IsListed (cs ++ m ∷ []) v
       from v (x, y) = go ((listed-more ms k v l).0 x)
         where
           go : IsListed (take k ms) v ⊎ (v ≡ get_or ms k []) → IsListed (cs ++ m ∷ []) v

@@ -1,6 +1,6 @@
 -- Critical rows, one place and one generator after another.
-use Rattle.std.proofs.Common.{◌≡◌, ℕ, suc, ◌+◌, ◌*◌, ◌%◌, ◌-◌, ◌<◌, ◌≤◌, ◌↔◌, true, List, [], ◌∷◌, ◌++◌, ◌⊎◌, inl, inr}
-use Rattle.std.proofs.Common.{length, get_or, slice_get, Some, arith, ap, sym, subst, ◌∙◌, refl}
+use Rattle.std.proofs.Common.{◌≡◌, ℕ, suc, ◌+◌, ◌*◌, ◌%◌, ◌<◌, true, List, [], ◌∷◌, ◌++◌, ◌⊎◌, inl, inr}
+use Rattle.std.proofs.Common.{length, get_or, slice_get, Some, arith, ap, subst, ◌∙◌, refl}
 use Rattle.std.specs.Prelude.{slice_index_or}
 use Rattle.std.proofs.lemmas.Bool.{cases_eq}
 use Rattle.std.proofs.lemmas.Option.{get_or_from_slice_get}
@@ -8,7 +8,6 @@ use Rattle.linear_algebra.specs.Rows.{entry, row}
 use Rattle.linear_algebra.proofs.RowLemmas.{length-add_multiple}
 use Rattle.graded_polynomials.specs.Monomials.{is_exterior, sign}
 use Rattle.fp_rows.specs.Values.{MatrixValue}
-use Rattle.ring_completion.specs.Completions.{IsClearBefore}
 use Rattle.ring_degree.specs.Critical.{form_of_product, exchange_row, IsExchangeRow, IsSquareRow}
 use Rattle.ring_degree.specs.Products.{Gains}
 use Rattle.ring_degree.specs.Tables.{at_generator, standard_at, product_rows, rows_at}
@@ -16,8 +15,7 @@ use Rattle.ring_degree.specs.declared.table.Table.{Table}
 use Rattle.ring_degree.proofs.FormVectors.{length-combination}
 use Rattle.ring_degree.proofs.Gaining.{gains-more, gains-same, gains-push}
 use Rattle.ring_degree.proofs.Lookups.{standard-is}
-use Rattle.ring_degree.proofs.Places.{IsAmong, IsClearAt, among-more, among-same, exchanges-are}
-use Rattle.ring_degree.proofs.Places.{squares-are}
+use Rattle.ring_degree.proofs.Places.{IsAmong, IsClearAt, among-more, among-same, exchanges-are, squares-are}
 
 -- the monomial that is read at a place of a table
 pub monomial-at : (tables : List Table) (e k : ℕ) (t : Table) (m : List ℕ) → e < length tables
@@ -46,7 +44,8 @@ module _ (C : ℕ → Type 0) (row : ℕ → List ℕ) (old : List (List ℕ)) w
   -- a row at a place with C
   pub gains-at : (k : ℕ) (mid new : List (List ℕ)) → C k → Gains (IsAmong C row k) old mid
       → new ≡ mid ++ row k ∷ [] → Gains (IsAmong C row (k + 1)) old new
-  gains-at k mid new c g e = gains-more (IsAmong C row k) (λ v. v ≡ row k) (IsAmong C row (k + 1)) old mid new g
+  gains-at k mid new c g e = gains-more (IsAmong C row k) (λ v. v ≡ row k) (IsAmong C row (k + 1)) old
+      mid new g
       (gains-push mid new (row k) e) (among-more C row k (row k) c refl)
 
   -- none at a place without

@@ -1,13 +1,12 @@
 -- The rows of exchanges and squares over the products of the tables are critical rows.
-use Rattle.std.proofs.Common.{◌≡◌, ℕ, zero, suc, ◌+◌, ◌-◌, ◌*◌, ◌%◌, ◌<◌, ◌≤◌, ◌↔◌, ◌≢◌, List, [], ◌∷◌, length, map}
-use Rattle.std.proofs.Common.{true, false, ◌⊎◌, inl, inr, arith, ap, ap₂, sym, subst, ◌∙◌, refl}
+use Rattle.std.proofs.Common.{◌≡◌, ℕ, zero, suc, ◌+◌, ◌-◌, ◌*◌, ◌%◌, ◌<◌, ◌≤◌, ◌↔◌, ◌≢◌, List, [], ◌∷◌}
+use Rattle.std.proofs.Common.{length, map, true, false, ◌⊎◌, inl, inr, arith, ap, ap₂, sym, subst, ◌∙◌, refl}
 use Rattle.std.specs.Prelude.{slice_index_or}
 use Rattle.std.specs.List.{AllByRecursion as Each}
 use Rattle.std.proofs.lemmas.Bool.{cases_Bool}
 use Rattle.fp_rows.specs.Values.{MatrixValue}
 use Rattle.linear_algebra.specs.Rows.{entry, row, combination_row, IsInSpan}
 use Rattle.linear_algebra.proofs.Congruences.{congruent_mod, congruent_sym, congruent_trans, congruent_eq}
-use Rattle.linear_algebra.proofs.RowLemmas.{length-add_multiple}
 use Rattle.linear_algebra.proofs.Spans.{in_span_row, in_span_congruent}
 use Rattle.graded_polynomials.specs.Monomials.{IsMonomial, IsGreater, degree, exponent, fits, is_exterior}
 use Rattle.graded_polynomials.specs.Monomials.{joined, same, sign, swaps}
@@ -30,14 +29,11 @@ use Rattle.ring_completion.specs.Eliminations.{AreForms, AreCritical, IsExchange
 use Rattle.ring_completion.proofs.FormRows.{form-of-listed}
 use Rattle.ring_completion.proofs.ListedCandidates.{generator-at}
 use Rattle.ring_completion.proofs.Listings.{degree-power, within-length}
-use Rattle.ring_degree.specs.Critical.{form_of_product, exchange_row, IsExchangeRow, IsSquareRow}
-use Rattle.ring_degree.specs.Critical.{IsCriticalWith, IsCriticalRow}
-use Rattle.ring_degree.specs.Products.{AreProductsIn}
+use Rattle.ring_degree.specs.Critical.{form_of_product, exchange_row, IsCriticalRow}
 use Rattle.ring_degree.specs.Steps.{IsRingBelow}
-use Rattle.ring_degree.specs.Tables.{at_generator, lists, standard_at, rows_at, product_rows, product_in}
-use Rattle.ring_degree.specs.Tables.{place_of}
+use Rattle.ring_degree.specs.Tables.{at_generator, standard_at, rows_at, product_rows, product_in, place_of}
 use Rattle.ring_degree.specs.declared.table.Table.{Table}
-use Rattle.ring_degree.proofs.Degrees.{listed, rest, are-reached}
+use Rattle.ring_degree.proofs.Degrees.{listed}
 use Rattle.ring_degree.proofs.FormVectors.{vector-sum, vector-combination, length-combination}
 
 -- a member of a descending list stands at its place
@@ -169,8 +165,10 @@ module _ (q n : ℕ) (G : GradedAlgebra q) (gs : List (Generator (Vector q))) (r
         vector-sum q G.mul (q * sign q (d i * d j) % suc q)
         (form_of_product q (degrees gs) tables (length ms) F e i j k)
         (form_of_product q (degrees gs) tables (length ms) F e j i k)
-        (length-combination q G.mul (length ms) (entry (row (product_rows tables (d i + e) i) k)) (rows_at F j)
-        ∙ sym (length-combination q G.mul (length ms) (entry (row (product_rows tables (d j + e) j) k)) (rows_at F i)))
+        (length-combination q G.mul (length ms) (entry (row (product_rows tables (d i + e) i) k))
+        (rows_at F j)
+        ∙ sym (length-combination q G.mul (length ms) (entry (row (product_rows tables (d j + e) j) k))
+        (rows_at F i)))
         ∙ ap₂ (λ v w. (vectors q G.mul).add v (times (vectors q G.mul) (q * sign q (d i * d j) % suc q) w))
         (form-vector i j e k il jl x kl) (form-vector j i e k jl il (omega (arith, x)) kl)
         ∙ ap ((vectors q G.mul).add (form_of q G.mul gs form i
@@ -252,15 +250,23 @@ module _ (q n : ℕ) (G : GradedAlgebra q) (gs : List (Generator (Vector q))) (r
           → IsExchange q G.mul gs (suc n) (product_in (degrees gs) tables) form v
           → IsInSpan (suc q) rows (λ j. (v j).0)
       exchange-spanned v X = spanned v
-          (exchange_row q (degrees gs) tables (length ms) F X.low X.first X.second s.0)
-          (X.first, il, inr (X.second, X.ordered, jl, record {
-            low = X.low;
-            place = s.0;
-            within = s.1;
-            degree_is = x ∙ sym B.tables_are.count;
-            clear = subst (λ (m : List ℕ). (k : ℕ) → k < X.first → exponent m k ≡ 0) (sym s.2) X.clear;
-            row_is = refl;
-          }))
+          (exchange_row q (degrees gs) tables (length ms) F X.low X.first X.second s.0) (
+            X.first,
+            il,
+            inr (
+              X.second,
+              X.ordered,
+              jl,
+              record {
+                low = X.low;
+                place = s.0;
+                within = s.1;
+                degree_is = x ∙ sym B.tables_are.count;
+                clear = subst (λ (m : List ℕ). (k : ℕ) → k < X.first → exponent m k ≡ 0) (sym s.2) X.clear;
+                row_is = refl;
+              },
+            ),
+          )
           (X.vector_is
           ∙ ap (exchange q G.mul gs (product_in (degrees gs) tables) form X.first X.second) (sym s.2)
           ∙ sym (exchange-vector X.first X.second X.low s.0 il jl x s.1))
@@ -282,16 +288,20 @@ module _ (q n : ℕ) (G : GradedAlgebra q) (gs : List (Generator (Vector q))) (r
           → IsSquare q G.mul gs (suc n) (product_in (degrees gs) tables) form v
           → IsInSpan (suc q) rows (λ j. (v j).0)
       square-spanned v X = spanned v
-          (form_of_product q (degrees gs) tables (length ms) F X.low X.generator X.generator s.0)
-          (X.generator, il, inl record {
-            low = X.low;
-            place = s.0;
-            exterior = subst (λ a. is_exterior q a ≡ true) (degree-power (degrees gs) X.generator il) X.exterior;
-            within = s.1;
-            degree_is = x ∙ sym B.tables_are.count;
-            clear = subst (λ (m : List ℕ). (k : ℕ) → k < X.generator → exponent m k ≡ 0) (sym s.2) X.clear;
-            row_is = refl;
-          })
+          (form_of_product q (degrees gs) tables (length ms) F X.low X.generator X.generator s.0) (
+            X.generator,
+            il,
+            inl record {
+              low = X.low;
+              place = s.0;
+              exterior = subst (λ a. is_exterior q a ≡ true) (degree-power (degrees gs) X.generator il)
+                  X.exterior;
+              within = s.1;
+              degree_is = x ∙ sym B.tables_are.count;
+              clear = subst (λ (m : List ℕ). (k : ℕ) → k < X.generator → exponent m k ≡ 0) (sym s.2) X.clear;
+              row_is = refl;
+            },
+          )
           (X.vector_is
           ∙ ap (λ m. form_of q G.mul gs form X.generator (product_in (degrees gs) tables X.generator m))
           (sym s.2)

@@ -1,8 +1,8 @@
 -- The standard monomials of the tables, and the monomials of the next degree with a standard quotient.
 use Rattle.std.proofs.Common.{◌≡◌, ℕ, zero, suc, ◌+◌, ◌-◌, ◌<◌, ◌≤◌, ◌↔◌, List, [], ◌∷◌, length, drop, arith}
-use Rattle.std.proofs.Common.{ap, sym, subst, ◌∙◌, refl}
+use Rattle.std.proofs.Common.{sym, subst, refl}
 use Rattle.std.specs.Prelude.{slice_index_or}
-use Rattle.graded_polynomials.specs.Monomials.{IsMonomial, joined}
+use Rattle.graded_polynomials.specs.Monomials.{IsMonomial}
 use Rattle.graded_polynomials.specs.Polynomials.{Polynomial}
 use Rattle.graded_polynomials.specs.Texts.{power}
 use Rattle.graded_polynomials.proofs.Monomials.{monomial-joined}
@@ -104,9 +104,11 @@ module _ (q n : ℕ) (G : GradedAlgebra q) (gs : List (Generator (Vector q))) (r
         → AreReached q (algebra q G) gs (suc n) ms
     are-reached ms P = record {
       some = record {
-        each = λ k l. product-monomial (slice_index_or ms k []) ((P.members (slice_index_or ms k [])).0 (k, l, refl));
+        each = λ k l. product-monomial (slice_index_or ms k []) ((P.members (slice_index_or ms k [])).0
+            (k, l, refl));
         descending = λ i j l b. P.descending i j [] l b;
       };
-      each = λ k l. product-quotient (slice_index_or ms k []) ((P.members (slice_index_or ms k [])).0 (k, l, refl));
+      each = λ k l. product-quotient (slice_index_or ms k []) ((P.members (slice_index_or ms k [])).0
+          (k, l, refl));
       all = λ m M h. (P.members m).1 (quotient-product m M h);
     }

@@ -56,7 +56,8 @@ module _ (g : Generators) (tables : List Table) (n : ℕ) (size : length tables 
   none : MatrixValue
   none = record { p = 0; width = 0; rows = [] }
 
-  form : (i : ℕ) → i < length g.degrees → IsProductForm g tables forms left width i (slice_index_or wide i none)
+  form : (i : ℕ) → i < length g.degrees → IsProductForm g tables forms left width i
+      (slice_index_or wide i none)
   form i l = W i none l
 
   wide-rows : (i : ℕ) → i < length g.degrees → rows_at wide i ≡ (slice_index_or wide i none).rows
@@ -126,9 +127,11 @@ module _ (g : Generators) (tables : List Table) (n : ℕ) (size : length tables 
                 ∙ ap length (sym (counted i k));
           })))
         where
-          counted : (i : ℕ) → i < length g.degrees → standard_at all (length tables - at_generator g.degrees i)
+          counted : (i : ℕ) → i < length g.degrees
+              → standard_at all (length tables - at_generator g.degrees i)
               ≡ standard_at tables (length tables - at_generator g.degrees i)
-          counted i k = old (length tables - at_generator g.degrees i) (let z = low i k in omega (arith, z, size))
+          counted i k = old (length tables - at_generator g.degrees i)
+              (let z = low i k in omega (arith, z, size))
 
           prime-at : (i : ℕ) (m : MatrixValue) → i < length t.products.items
               → (slice_index_or t.products.items i m).p ≡ p
@@ -136,7 +139,8 @@ module _ (g : Generators) (tables : List Table) (n : ℕ) (size : length tables 
 
           width-at : (i : ℕ) (m : MatrixValue) → i < length t.products.items
               → (slice_index_or t.products.items i m).width ≡ length t.standard
-          width-at i m k = All-get_or (λ (m : MatrixValue). m.width ≡ length t.standard) t.products.items i m k
+          width-at i m k = All-get_or (λ (m : MatrixValue). m.width ≡ length t.standard)
+              t.products.items i m k
               widths
 
           matrix : (i : ℕ) → i < length t.products.items
@@ -147,7 +151,8 @@ module _ (g : Generators) (tables : List Table) (n : ℕ) (size : length tables 
               (width-at i none k)
               (subst (IsMatrix (slice_index_or t.products.items i none).p
               (slice_index_or t.products.items i none).width) (sym (rows-are t.products.items i none k))
-              (All-get_or (λ (m : MatrixValue). IsMatrix m.p m.width m.rows) t.products.items i none k matrices)))
+              (All-get_or (λ (m : MatrixValue). IsMatrix m.p m.width m.rows) t.products.items i none k
+              matrices)))
 
   -- the table is that of any algebra with these tables, forms, values and kernel
   pub are-tables-of : (G : GradedAlgebra (greatest g)) (gs later : List (Generator (Vector (greatest g))))
@@ -175,7 +180,8 @@ module _ (g : Generators) (tables : List Table) (n : ℕ) (size : length tables 
       ∙ ap (λ k. length (standard_at tables (k - at_generator g.degrees i))) size
       ∙ ap (λ k. length (standard_at tables (suc n - k))) (same i b)))
       (λ i b. wide-rows i (more i b) ∙ (form i (more i b)).old (under i b)
-      ∙ ap (λ (fs : List MatrixValue). map (λ v. v ++ replicate (length left - width) 0) (rows_at fs i)) (sym ef))
+      ∙ ap (λ (fs : List MatrixValue). map (λ v. v ++ replicate (length left - width) 0) (rows_at fs i))
+      (sym ef))
       (λ i b c. (
         wide-rows i (inside i c) ∙ (form i (inside i c)).new (over i b c)
             ∙ ap (λ ds. row_of q left (generator_times q ds i []) ∷ []) (sym de),
@@ -253,7 +259,9 @@ module _ (g : Generators) (tables : List Table) (n : ℕ) (size : length tables 
       down : (e : ℕ) → e ≤ n → AreSome q g.degrees e (standard_at tables e)
           → AreSome q (degrees gs) e (standard_at tables e)
       down e b s = record {
-        each = λ i l. monomial-down q (algebra q G) gs later n above e b (slice_index_or (standard_at tables e) i [])
-            (subst (λ ds. IsMonomial q ds e (slice_index_or (standard_at tables e) i [])) (sym de) (s.each i l));
+        each = λ i l. monomial-down q (algebra q G) gs later n above e b
+            (slice_index_or (standard_at tables e) i [])
+            (subst (λ ds. IsMonomial q ds e (slice_index_or (standard_at tables e) i [])) (sym de)
+            (s.each i l));
         descending = s.descending;
       }

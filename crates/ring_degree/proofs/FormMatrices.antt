@@ -1,8 +1,8 @@
 -- The matrices of products, one generator after another.
-use Rattle.std.proofs.Common.{◌≡◌, ℕ, zero, suc, ◌+◌, ◌-◌, ◌<◌, List, [], ◌∷◌, ◌++◌, length, get_or, map, take}
-use Rattle.std.proofs.Common.{arith, ap, sym, subst, ◌∙◌}
+use Rattle.std.proofs.Common.{◌≡◌, ℕ, zero, suc, ◌+◌, ◌-◌, ◌<◌, List, [], ◌∷◌, ◌++◌, length, get_or, map}
+use Rattle.std.proofs.Common.{take, arith, ap, sym, subst, ◌∙◌}
 use Rattle.std.proofs.lemmas.List.{length-map, map-append, take_more}
-use Rattle.linear_algebra.specs.Rows.{row, IsRow, IsMatrix}
+use Rattle.linear_algebra.specs.Rows.{IsRow, IsMatrix}
 use Rattle.fp_rows.specs.Values.{MatrixValue}
 use Rattle.gc_poly.specs.Generators.{Generators, greatest}
 use Rattle.presentation_rows.specs.RowPolynomials.{row_of}

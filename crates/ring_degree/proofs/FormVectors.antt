@@ -1,11 +1,11 @@
 -- Rows of combinations as vectors.
-use Rattle.std.proofs.Common.{◌≡◌, ℕ, zero, suc, ◌+◌, ◌*◌, ◌%◌, ◌<◌, ◌≤◌, List, [], ◌∷◌, length, map, replicate}
-use Rattle.std.proofs.Common.{◌⊎◌, inl, inr, arith, ap, ap₂, sym, ◌∙◌, refl}
+use Rattle.std.proofs.Common.{◌≡◌, ℕ, zero, suc, ◌+◌, ◌*◌, ◌%◌, ◌<◌, ◌≤◌, List, [], ◌∷◌, length, map, ◌⊎◌}
+use Rattle.std.proofs.Common.{inl, inr, arith, ap, sym, ◌∙◌, refl}
 use Rattle.std.proofs.Math.Path.{fun_ext}
 use Rattle.std.proofs.lemmas.Bool.{cases_lt}
 use Rattle.std.proofs.lemmas.List.{get_or_past, length-replicate}
-use Rattle.linear_algebra.specs.Modular.{IsCongruent}
-use Rattle.linear_algebra.specs.Rows.{entry, IsRow, add_multiple, combination_row}
+use Rattle.fp_rows.proofs.SolvingLemmas.{entry_zeros}
+use Rattle.linear_algebra.specs.Rows.{entry, add_multiple, combination_row}
 use Rattle.linear_algebra.proofs.Congruences.{congruent_mod}
 use Rattle.linear_algebra.proofs.RowLemmas.{length-add_multiple, entry-add_multiple}
 use Rattle.graded_algebra.specs.Algebras.{linear, times}
@@ -14,11 +14,6 @@ use Rattle.graded_algebra.proofs.VectorLemmas.{below-path, plus-residue, vector-
 use Rattle.presentation_rows.specs.RowPolynomials.{polynomial_of}
 use Rattle.presentation_rows.specs.Values.{vector}
 use Rattle.presentation_rows.proofs.RowValues.{times-residue}
-
-entry-zeros : (n j : ℕ) → entry (replicate n 0) j ≡ 0
-entry-zeros zero j = refl
-entry-zeros (suc n) zero = refl
-entry-zeros (suc n) (suc j) = entry-zeros n j
 
 module _ (q : ℕ) (mul : ℕ → ℕ → Vector q → Vector q → Vector q) where
   -- a sum of rows
@@ -59,7 +54,7 @@ module _ (q : ℕ) (mul : ℕ → ℕ → Vector q → Vector q → Vector q) wh
       → (ss : List (List ℕ)) (u : List ℕ) → length u ≡ length ss
       → vector q (combination_row (suc q) w (entry u) (map f ss))
       ≡ linear (vectors q mul) (λ s. vector q (f s)) (polynomial_of ss u)
-  vector-combination w f h [] u e = fun_ext (λ j. ap (residue q) (entry-zeros w j))
+  vector-combination w f h [] u e = fun_ext (λ j. ap (residue q) (entry_zeros w j))
   vector-combination w f h (s ∷ ss) [] e = absurd (omega (arith, e))
   vector-combination w f h (s ∷ ss) (zero ∷ u) e =
       vector-sum 0 (combination_row (suc q) w (entry u) (map f ss)) (f s)

@@ -1,5 +1,5 @@
 -- Lists that gain members.
-use Rattle.std.proofs.Common.{◌≡◌, ℕ, suc, ◌+◌, ◌<◌, ◌≤◌, ◌↔◌, true, false, List, [], ◌∷◌, ◌++◌, ◌⊎◌, inl, inr}
+use Rattle.std.proofs.Common.{◌≡◌, ℕ, ◌+◌, ◌<◌, ◌≤◌, ◌↔◌, true, false, List, [], ◌∷◌, ◌++◌, ◌⊎◌, inl, inr}
 use Rattle.std.proofs.Common.{length, take, get_or, arith, sym, subst, ◌∙◌, refl}
 use Rattle.std.proofs.lemmas.Bool.{cases_eq, cases_lt, false≢true}
 use Rattle.std.proofs.lemmas.List.{get_or-take, length-take, get_or_push, get_or_append_left, length_push}
@@ -21,15 +21,23 @@ listed-more ss k x l = (to, from)
 
         go : (i ≡ k) ⊎ (i ≡ k → ⊥) → IsListed (take k ss) x ⊎ (x ≡ get_or ss k [])
         go (inl z) = inr (sym e ∙ get_or-take (k + 1) ss i [] within ∙ rw z refl)
-        go (inr n) = inl (i, omega (arith, within, n, l, length-take k ss),
-            get_or-take k ss i [] (omega (arith, within, n)) ∙ sym (get_or-take (k + 1) ss i [] within) ∙ e)
+        go (inr n) = inl (
+          i,
+          omega (arith, within, n, l, length-take k ss),
+          get_or-take k ss i [] (omega (arith, within, n)) ∙ sym (get_or-take (k + 1) ss i [] within) ∙ e,
+        )
 
     from : IsListed (take k ss) x ⊎ (x ≡ get_or ss k []) → IsListed (take (k + 1) ss) x
-    from (inl (i, b, e)) = let c : i < k = omega (arith, b, length-take k ss) in
-        (i, omega (arith, c, l, length-take (k + 1) ss),
-        get_or-take (k + 1) ss i [] (omega (arith, c)) ∙ sym (get_or-take k ss i [] c) ∙ e)
-    from (inr e) = (k, omega (arith, l, length-take (k + 1) ss),
-        get_or-take (k + 1) ss k [] (omega arith) ∙ sym e)
+    from (inl (i, b, e)) = let c : i < k = omega (arith, b, length-take k ss) in (
+      i,
+      omega (arith, c, l, length-take (k + 1) ss),
+      get_or-take (k + 1) ss i [] (omega (arith, c)) ∙ sym (get_or-take k ss i [] c) ∙ e,
+    )
+    from (inr e) = (
+      k,
+      omega (arith, l, length-take (k + 1) ss),
+      get_or-take (k + 1) ss k [] (omega arith) ∙ sym e,
+    )
 
 -- a row that is pushed
 pub gains-push : (rows new : List (List ℕ)) (r : List ℕ) → new ≡ rows ++ r ∷ [] → Gains (λ v. v ≡ r) rows new
@@ -43,10 +51,16 @@ gains-push rows new r e v = rw e (to, from)
         go (inr l) = inr (sym z ∙ get_or_push rows r [] i (omega (arith, l, b, length_push rows r)))
 
     from : IsListed rows v ⊎ (v ≡ r) → IsListed (rows ++ r ∷ []) v
-    from (inl (i, b, z)) = (i, omega (arith, b, length_push rows r),
-        get_or_append_left rows (r ∷ []) [] i b ∙ z)
-    from (inr z) = (length rows, omega (arith, length_push rows r),
-        get_or_push rows r [] (length rows) refl ∙ sym z)
+    from (inl (i, b, z)) = (
+      i,
+      omega (arith, b, length_push rows r),
+      get_or_append_left rows (r ∷ []) [] i b ∙ z,
+    )
+    from (inr z) = (
+      length rows,
+      omega (arith, length_push rows r),
+      get_or_push rows r [] (length rows) refl ∙ sym z,
+    )
 
 -- nothing is gained
 pub gains-none : (P : List ℕ → Type 0) (rows : List (List ℕ)) → ((v : List ℕ) → P v → ⊥) → Gains P rows rows
@@ -105,7 +119,12 @@ module _ (q : ℕ) (ds : List ℕ) (i : ℕ) (ss : List (List ℕ)) where
           where
             go : IsListed (take k ss) x.factor ⊎ (x.factor ≡ get_or ss k [])
                 → IsProductWith q ds i (take k ss) v ⊎ (v ≡ m)
-            go (inl a) = inl record { factor = x.factor; listed = a; fitting = x.fitting; product = x.product }
+            go (inl a) = inl record {
+              factor = x.factor;
+              listed = a;
+              fitting = x.fitting;
+              product = x.product;
+            }
             go (inr a) = inr (let p = x.product in (rw a at p) ∙ sym e)
 
         from : IsProductWith q ds i (take k ss) v ⊎ (v ≡ m) → IsProductWith q ds i (take (k + 1) ss) v

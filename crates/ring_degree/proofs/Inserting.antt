@@ -1,20 +1,16 @@
 -- A monomial put into a descending list.
-use Rattle.std.proofs.Common.{◌≡◌, ◌≢◌, ℕ, zero, suc, ◌+◌, ◌-◌, ◌<◌, ◌≤◌, ◌⊎◌, inl, inr, List, [], ◌∷◌, length}
-use Rattle.std.proofs.Common.{◌++◌, get_or, arith, ap, sym, subst, ◌∙◌, refl}
-use Rattle.std.proofs.lemmas.List.{get_or_append_left, length-append}
-use Rattle.std.specs.Prelude.{slice_index_or, insert, AllPairs}
+use Rattle.std.proofs.Common.{◌≡◌, ℕ, suc, ◌+◌, ◌-◌, ◌<◌, ◌≤◌, ◌⊎◌, inl, inr, List, [], ◌∷◌, length, ◌++◌}
+use Rattle.std.proofs.Common.{get_or, arith, ap, sym, subst, ◌∙◌, refl}
+use Rattle.std.proofs.lemmas.List.{get_or_append_left, get_or_default, length-append}
+use Rattle.std.specs.Prelude.{insert}
 use Rattle.std.proofs.lemmas.Bool.{cases_eq, cases_lt}
-use Rattle.std.proofs.lemmas.List.Edits.{get_or-insert_at, get_or-insert_below, get_or-insert_above}
+use Rattle.std.proofs.lemmas.List.Edits.{length-insert, get_or-insert_at, get_or-insert_below}
+use Rattle.std.proofs.lemmas.List.Edits.{get_or-insert_above}
 use Rattle.graded_polynomials.specs.Monomials.{IsGreater, IsTrimmed}
 use Rattle.graded_polynomials.proofs.Exponents.{cases-greater, greater-trans}
 use Rattle.gc_poly.specs.Lists.{IsDescending}
 use Rattle.ring_completion.specs.Candidates.{IsListed}
 use Rattle.ring_degree.specs.Products.{Gains}
-
-length-put : (ms : List (List ℕ)) (i : ℕ) (m : List ℕ) → i ≤ length ms → length (insert ms i m) ≡ suc (length ms)
-length-put ms zero m l = refl
-length-put [] (suc i) m l = absurd (omega (arith, l))
-length-put (a ∷ ms) (suc i) m l = omega (arith, length-put ms i m (omega (arith, l)))
 
 module _ (ms : List (List ℕ)) (i : ℕ) (m : List ℕ) (l : i ≤ length ms) where
   -- a place of the new list is before the new member, its own, or after it
@@ -44,16 +40,19 @@ module _ (ms : List (List ℕ)) (i : ℕ) (m : List ℕ) (l : i ≤ length ms) w
           go : IsPlace k → IsListed ms v ⊎ (v ≡ m)
           go (before c z) = inl (k, omega (arith, c, l), sym z ∙ e)
           go (here c z) = inr (sym e ∙ z)
-          go (after j c d z) = inl (j, omega (arith, b, c, length-put ms i m l), sym z ∙ e)
+          go (after j c d z) = inl (j, omega (arith, b, c, length-insert ms i m l), sym z ∙ e)
 
       from : IsListed ms v ⊎ (v ≡ m) → IsListed (insert ms i m) v
-      from (inr e) = (i, omega (arith, l, length-put ms i m l), get_or-insert_at ms i m [] l ∙ sym e)
+      from (inr e) = (i, omega (arith, l, length-insert ms i m l), get_or-insert_at ms i m [] l ∙ sym e)
       from (inl (k, b, e)) = go (cases_lt k i)
         where
           go : (k < i) ⊎ (i ≤ k) → IsListed (insert ms i m) v
-          go (inl c) = (k, omega (arith, b, length-put ms i m l), get_or-insert_below ms i m [] k c l ∙ e)
-          go (inr c) = (k + 1, omega (arith, b, length-put ms i m l),
-              get_or-insert_above ms i m [] k c l ∙ e)
+          go (inl c) = (k, omega (arith, b, length-insert ms i m l), get_or-insert_below ms i m [] k c l ∙ e)
+          go (inr c) = (
+            k + 1,
+            omega (arith, b, length-insert ms i m l),
+            get_or-insert_above ms i m [] k c l ∙ e,
+          )
 
   module _ (D : IsDescending ms) (above : (k : ℕ) → k < i → IsGreater (get_or ms k []) m)
       (below : i < length ms → IsGreater m (get_or ms i [])) where
@@ -70,7 +69,7 @@ module _ (ms : List (List ℕ)) (i : ℕ) (m : List ℕ) (l : i ≤ length ms) w
     greater a b o c = go (place a) (place b)
       where
         size : b < suc (length ms)
-        size = omega (arith, c, length-put ms i m l)
+        size = omega (arith, c, length-insert ms i m l)
 
         go : IsPlace a → IsPlace b
             → IsGreater (get_or (insert ms i m) a []) (get_or (insert ms i m) b [])
@@ -91,14 +90,10 @@ module _ (ms : List (List ℕ)) (i : ℕ) (m : List ℕ) (l : i ≤ length ms) w
         same-default : (a b : ℕ) (d : List ℕ) → a < b → b < length (insert ms i m)
             → IsGreater (get_or (insert ms i m) a []) (get_or (insert ms i m) b [])
             → IsGreater (get_or (insert ms i m) a d) (get_or (insert ms i m) b d)
-        same-default a b d o c g = rw (default-free (insert ms i m) a d [] (omega (arith, o, c)),
-            default-free (insert ms i m) b d [] c) g
-          where
-            default-free : (xs : List (List ℕ)) (k : ℕ) (d e : List ℕ) → k < length xs
-                → get_or xs k d ≡ get_or xs k e
-            default-free [] k d e l = absurd (omega (arith, l))
-            default-free (x ∷ xs) zero d e l = refl
-            default-free (x ∷ xs) (suc k) d e l = default-free xs k d e (omega (arith, l))
+        same-default a b d o c g = rw (
+          get_or_default (insert ms i m) a d [] (omega (arith, o, c)),
+          get_or_default (insert ms i m) b d [] c,
+        ) g
 
 -- the same where the list was read as xs
 pub put-descending : (ms xs new : List (List ℕ)) (i : ℕ) (m : List ℕ) → xs ≡ ms → new ≡ insert ms i m
@@ -132,13 +127,8 @@ pub not-before : (ms : List (List ℕ)) (i : ℕ) (n m : List ℕ) → i < lengt
     → IsTrimmed m → (n ≡ m → ⊥) → (IsGreater n m → ⊥) → IsGreater m (get_or ms i [])
 not-before ms i n m l e t u f g = rw (sym same) (go (cases-greater n m t u))
   where
-    any-default : (xs : List (List ℕ)) (k : ℕ) (d e : List ℕ) → k < length xs → get_or xs k d ≡ get_or xs k e
-    any-default [] k d e l = absurd (omega (arith, l))
-    any-default (x ∷ xs) zero d e l = refl
-    any-default (x ∷ xs) (suc k) d e l = any-default xs k d e (omega (arith, l))
-
     same : n ≡ get_or ms i []
-    same = e ∙ any-default ms i n [] l
+    same = e ∙ get_or_default ms i n [] l
 
     go : (n ≡ m) ⊎ IsGreater n m ⊎ IsGreater m n → IsGreater m n
     go (inl z) = absurd (f z)

@@ -93,7 +93,7 @@ pub next-written : (rows : List (List ℕ)) (xs out : List ℕ) (k at x : ℕ) �
     × (take (at + 1) (slice_set out at x) ≡ entries_without rows 0 (take (k + 1) xs))
 next-written rows xs out k at x l p e w o y = (
   (let h = ap length (entry-taken rows xs k l p) in
-  let g = length_push (entries_without rows 0 (take k xs)) (get_or xs k 0) in omega (arith, e, h, g)),
+      let g = length_push (entries_without rows 0 (take k xs)) (get_or xs k 0) in omega (arith, e, h, g)),
   rw add-one (take-suc-set out at x o) ∙ ap (λ ys. ys ++ x ∷ []) w
       ∙ ap (λ z. entries_without rows 0 (take k xs) ++ z ∷ []) y ∙ sym (entry-taken rows xs k l p),
 )

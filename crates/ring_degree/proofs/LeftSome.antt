@@ -1,5 +1,5 @@
 -- What is left of monomials of a degree at the places that are no pivots.
-use Rattle.std.proofs.Common.{◌≡◌, ℕ, ◌<◌, List, sym, subst}
+use Rattle.std.proofs.Common.{ℕ, List, sym, subst}
 use Rattle.graded_polynomials.specs.Monomials.{IsMonomial}
 use Rattle.ring_completion.specs.Candidates.{AreSome}
 use Rattle.ring_completion.specs.Left.{without_pivots}

@@ -1,10 +1,9 @@
 -- What stands in tables and matrices.
-use Rattle.std.proofs.Common.{◌≡◌, ℕ, zero, suc, ◌+◌, ◌-◌, ◌<◌, ◌≤◌, true, List, [], ◌∷◌, All, length, get_or, map}
-use Rattle.std.proofs.Common.{arith, inl, inr, Option, Some, None, IfSome, IsNone}
-use Rattle.std.proofs.Common.{ap, sym, subst, ◌∙◌, refl}
+use Rattle.std.proofs.Common.{◌≡◌, ℕ, zero, suc, ◌+◌, ◌-◌, ◌<◌, ◌≤◌, List, [], ◌∷◌, All, length, get_or}
+use Rattle.std.proofs.Common.{arith, inl, inr, Option, Some, None, IfSome, IsNone, ap, sym, subst, ◌∙◌, refl}
 use Rattle.std.proofs.lemmas.List.Elements.{All-get_or}
 use Rattle.linear_algebra.specs.Modular.{IsSmallPrime}
-use Rattle.linear_algebra.specs.Rows.{entry, row, combination_row, IsRow, IsMatrix}
+use Rattle.linear_algebra.specs.Rows.{entry, row, combination_row}
 use Rattle.fp_rows.specs.Values.{MatrixValue, RowValue}
 use Rattle.limits.specs.declared.TheConstants.{GREATEST_DEGREE}
 use Rattle.graded_polynomials.specs.Monomials.{exponent}
@@ -13,8 +12,8 @@ use Rattle.gc_poly.specs.Generators.{Generators, greatest, AreOrdered}
 use Rattle.gc_poly.specs.Polynomials.{IsMonomialOf}
 use Rattle.gc_poly.proofs.ProductLemmas.{exponents-small}
 use Rattle.ring_degree.specs.Critical.{ArePairs, IsPair, form_of_product}
-use Rattle.ring_degree.specs.Tables.{at_generator, lists, standard_at, products_at, product_rows, rows_at}
-use Rattle.ring_degree.specs.Tables.{AreMatrices, AreTables}
+use Rattle.ring_degree.specs.Tables.{at_generator, standard_at, products_at, product_rows, rows_at}
+use Rattle.ring_degree.specs.Tables.{AreMatrices}
 use Rattle.ring_degree.specs.declared.table.Table.{Table}
 
 pub some-is : {X : Type 0} (P : X → Type 0) (r : Option X) (x : X) → r ≡ Some x → IfSome r P → P x
@@ -48,7 +47,12 @@ exponent-small g e i s o l M = let h = exponents-small g e s [] o l record {
   left = e;
   right = 0;
   left_is = M;
-  right_is = record { within = tt; trimmed = tt; fitting = fits-nil (greatest g) g.degrees; degree_is = degree-nil g.degrees };
+  right_is = record {
+    within = tt;
+    trimmed = tt;
+    fitting = fits-nil (greatest g) g.degrees;
+    degree_is = degree-nil g.degrees;
+  };
   sum = omega arith;
 } i in omega (arith, h)
 

@@ -1,10 +1,9 @@
 -- Products of generators with monomials, exponent by exponent.
-use Rattle.std.proofs.Common.{◌≡◌, ◌≢◌, ℕ, zero, suc, ◌+◌, ◌-◌, ◌*◌, ◌%◌, ◌<◌, ◌≤◌, max, Bool, true, false, not}
-use Rattle.std.proofs.Common.{◌&&◌, ◌||◌, eqb, leb, cond, List, [], ◌∷◌, ◌++◌, ◌⊎◌, inl, inr, length, take, get_or}
+use Rattle.std.proofs.Common.{◌≡◌, ◌≢◌, ℕ, zero, suc, ◌+◌, ◌*◌, ◌%◌, ◌<◌, ◌≤◌, max, Bool, true, false, not}
+use Rattle.std.proofs.Common.{◌&&◌, ◌||◌, eqb, leb, List, [], ◌∷◌, ◌++◌, ◌⊎◌, inl, inr, length, take, get_or}
 use Rattle.std.proofs.Common.{add-one, arith, ap, ap₂, sym, ◌∙◌, refl}
-use Rattle.std.proofs.lemmas.Bool.{cases_Bool, cases_eq, cases_lt, false≢true}
-use Rattle.std.proofs.lemmas.Bool.Decides.{nat_tests}
-use Rattle.std.proofs.lemmas.List.{get_or_push, get_or_append_left, get_or_past, length_push}
+use Rattle.std.proofs.lemmas.Bool.{cases_eq, cases_lt, false≢true}
+use Rattle.std.proofs.lemmas.List.{get_or_push, get_or_append_left, get_or_past}
 use Rattle.linear_algebra.specs.Modular.{IsCongruent}
 use Rattle.linear_algebra.proofs.Congruences.{congruent_add, congruent_mul_right, congruent_mod, congruent_eq}
 use Rattle.graded_polynomials.specs.Monomials.{exponent, degree, fits, is_exterior, joined, sign, swaps}
@@ -16,7 +15,7 @@ use Rattle.graded_polynomials.proofs.Terms.{eqb-true, eqb-false}
 use Rattle.graded_algebra.proofs.Ideals.{degree-nil, fits-nil, swaps-nil}
 use Rattle.gc_poly.proofs.Joining.{joined-step, joined-end, fits-not}
 use Rattle.ring_completion.specs.Listings.{without_factor}
-use Rattle.ring_completion.proofs.Factors.{joined-right, length-power, power-here, power-elsewhere}
+use Rattle.ring_completion.proofs.Factors.{joined-right, length-power, power-here}
 use Rattle.ring_completion.proofs.Listings.{degree-power, without-trimmed, without-joined}
 use Rattle.ring_completion.proofs.Quotients.{power-trimmed}
 
@@ -54,10 +53,12 @@ swaps-before : (ds s : List ℕ) (i : ℕ) → i < length ds
     → swaps ds (power i 1) s ≡ degree (take i ds) s * get_or ds i 0
 swaps-before [] s i l = absurd (omega (arith, l))
 swaps-before (d ∷ ds) [] zero l = omega arith
-swaps-before (d ∷ ds) (e ∷ s) zero l = let a = degree-nil ds in let b = swaps-nil ds s in rw (a, b) (omega arith)
+swaps-before (d ∷ ds) (e ∷ s) zero l = let a = degree-nil ds in let b = swaps-nil ds s in rw (a, b)
+    (omega arith)
 swaps-before (d ∷ ds) [] (suc i) l = omega arith
 swaps-before (d ∷ ds) (e ∷ s) (suc i) l =
-    ap₂ (λ a b. a * (d * e) + b) (degree-power ds i (omega (arith, l))) (swaps-before ds s i (omega (arith, l)))
+    ap₂ (λ a b. a * (d * e) + b) (degree-power ds i (omega (arith, l)))
+    (swaps-before ds s i (omega (arith, l)))
     ∙ together (get_or ds i 0) (d * e) (degree (take i ds) s)
   where
     together : (a b c : ℕ) → a * b + c * a ≡ (b + c) * a
@@ -117,7 +118,8 @@ not-true false e = refl
 pub unfit-times : (q : ℕ) (ds s : List ℕ) (i : ℕ) → i < length ds → is_exterior q (get_or ds i 0) ≡ true
     → 0 < exponent s i → fits q ds (joined (power i 1) s) ≡ false
 unfit-times q ds s i l o b = let h = and-parts (not (eqb q 1)) (eqb (get_or ds i 0 % 2) 1) o in
-    fits-not q ds (joined (power i 1) s) i (λ e. false≢true (sym (not-true (eqb q 1) h.0) ∙ ap (λ q. eqb q 1) e))
+    fits-not q ds (joined (power i 1) s) i (λ e. false≢true (sym (not-true (eqb q 1) h.0)
+    ∙ ap (λ q. eqb q 1) e))
     l (eqb-true (get_or ds i 0 % 2) 1 h.1)
     (let a = exponent-joined (power i 1) s i in let c = power-here i 1 in omega (arith, a, b, c))
 

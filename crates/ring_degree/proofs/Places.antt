@@ -1,7 +1,6 @@
 -- Rows that are pushed at some of the places of a loop.
-use Rattle.std.proofs.Common.{◌≡◌, ℕ, suc, ◌+◌, ◌<◌, ◌≤◌, ◌↔◌, true, List, [], ◌⊎◌, inl, inr, length, arith}
-use Rattle.std.proofs.Common.{sym, subst}
-use Rattle.std.proofs.Common.{◌∙◌, refl}
+use Rattle.std.proofs.Common.{◌≡◌, ℕ, ◌+◌, ◌<◌, ◌↔◌, true, List, [], ◌⊎◌, inl, inr, length, arith, sym, subst}
+use Rattle.std.proofs.Common.{◌∙◌}
 use Rattle.std.specs.Prelude.{slice_index_or}
 use Rattle.std.proofs.lemmas.Bool.{cases_eq}
 use Rattle.graded_polynomials.specs.Monomials.{is_exterior}
@@ -89,7 +88,8 @@ module _ (q : ℕ) (ds : List ℕ) (tables : List Table) (width : ℕ) (forms : 
     where
       to : IsSquareRow q ds tables width forms i v
           → IsAmong (IsClearAt tables e i) (form_of_product q ds tables width forms e i i) k v
-      to x = subst (λ a. IsAmong (IsClearAt tables a i) (form_of_product q ds tables width forms a i i) k v) same
+      to x = subst (λ a. IsAmong (IsClearAt tables a i) (form_of_product q ds tables width forms a i i)
+          k v) same
           (x.place, (let w = x.within in let z = same in rw (l, sym z) w), x.clear, x.row_is)
         where
           same : x.low ≡ e

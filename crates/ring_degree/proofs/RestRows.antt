@@ -1,6 +1,6 @@
 -- Rows that are reduced, one after another.
-use Rattle.std.proofs.Common.{◌≡◌, ℕ, zero, suc, ◌+◌, ◌*◌, ◌%◌, ◌<◌, ◌≤◌, List, [], ◌∷◌, ◌++◌, ◌⊎◌, inl, inr}
-use Rattle.std.proofs.Common.{length, take, get_or, replicate, arith, ap, sym, subst, ◌∙◌, refl}
+use Rattle.std.proofs.Common.{◌≡◌, ℕ, ◌+◌, ◌*◌, ◌%◌, ◌<◌, List, [], ◌∷◌, ◌++◌, ◌⊎◌, inl, inr, length, take}
+use Rattle.std.proofs.Common.{get_or, replicate, arith, ap, sym, subst, ◌∙◌, refl}
 use Rattle.std.specs.Prelude.{All}
 use Rattle.std.proofs.Math.Nat.{mod-eq_of_lt}
 use Rattle.std.proofs.lemmas.Bool.{cases_eq}
@@ -19,7 +19,12 @@ use Rattle.ring_degree.proofs.Lookups.{rows-are}
 pub added-once : (p w : ℕ) (r : List ℕ) → IsRow p w r → add_multiple p 1 (replicate w 0) r ≡ r
 added-once p w r R = ext_get_or 0 (add_multiple p 1 (replicate w 0) r) r
     (length-add_multiple p 1 (replicate w 0) r ∙ length-replicate {A = ℕ} w 0 ∙ sym R.length_is)
-    (λ j l. let b : j < w = omega (arith, l, length-add_multiple p 1 (replicate w 0) r, length-replicate {A = ℕ} w 0) in
+    (λ j l. let b : j < w = omega (
+      arith,
+      l,
+      length-add_multiple p 1 (replicate w 0) r,
+      length-replicate {A = ℕ} w 0,
+    ) in
     entry-add_multiple p 1 (replicate w 0) r j (R.length_is ∙ sym (length-replicate {A = ℕ} w 0))
     (omega (arith, b, length-replicate {A = ℕ} w 0))
     ∙ ap (λ x. x % p) (let z = get_or-replicate {A = ℕ} w j 0 0 b in
@@ -48,8 +53,13 @@ rest-more p E rows old new k x l A R z = rw z record { count = counted; each = e
         go : (j ≡ k) ⊎ (j ≡ k → ⊥) → IsRest p E (row (take (k + 1) rows) j) (row (old ++ x ∷ []) j)
         go (inl e) = rw (get_or-take (k + 1) rows j [] within, get_or_push old x [] j (size ∙ sym e), e) R
         go (inr n) = let c : j < k = omega (arith, within, n) in
-            rw (get_or-take (k + 1) rows j [] within, get_or_append_left old (x ∷ []) [] j (omega (arith, c, size)))
-            (let y = A.each j (omega (arith, c, l, length-take k rows)) in rw (get_or-take k rows j [] c) at y)
+            rw (
+              get_or-take (k + 1) rows j [] within,
+              get_or_append_left old (x ∷ []) [] j
+                  (omega (arith, c, size)),
+            )
+            (let y = A.each j (omega (arith, c, l, length-take k rows)) in
+            rw (get_or-take k rows j [] c) at y)
 
 -- a row that was reduced
 pub is-rest : (p w : ℕ) (E : List (List ℕ)) (r v u x : List ℕ) → IsRow p w r

@@ -1,6 +1,6 @@
 -- What the body has found of the next degree.
-use Rattle.std.proofs.Common.{◌≡◌, ℕ, zero, suc, ◌+◌, ◌-◌, ◌<◌, ◌≤◌, ◌↔◌, List, [], ◌∷◌, All, length, get_or, map}
-use Rattle.std.proofs.Common.{arith, ap, sym, subst, ◌∙◌, refl}
+use Rattle.std.proofs.Common.{◌≡◌, ℕ, suc, ◌-◌, ◌<◌, ◌≤◌, ◌↔◌, List, [], All, length, get_or, map, arith, ap}
+use Rattle.std.proofs.Common.{sym, subst, ◌∙◌, refl}
 use Rattle.std.proofs.lemmas.List.Elements.{All-from_get_or, All-get_or}
 use Rattle.fp_rows.specs.Values.{MatrixValue}
 use Rattle.linear_algebra.specs.Rows.{row, IsEchelonOf, IsMatrix}
@@ -26,7 +26,6 @@ use Rattle.ring_degree.specs.Steps.{IsRingBelow, IsStep}
 use Rattle.ring_degree.specs.Tables.{at_generator, standard_at, product_rows, rows_at, AreMatrices, AreTables}
 use Rattle.ring_degree.specs.declared.step.Step.{Step}
 use Rattle.ring_degree.specs.declared.table.Table.{Table}
-use Rattle.ring_degree.proofs.Degrees.{are-reached}
 use Rattle.ring_degree.proofs.LeftSome.{some-left}
 use Rattle.ring_degree.proofs.Lookups.{generator-below, rows-are}
 use Rattle.ring_degree.proofs.StepMeaning.{are-step}
@@ -50,7 +49,8 @@ pub record IsFound (q : ℕ) (ds : List ℕ) (tables : List Table) (ms : List (L
 
 found-below : (q n : ℕ) (G : GradedAlgebra q) (gs : List (Generator (Vector q))) (rs : List Polynomial)
     (tables : List Table) (ms : List (List ℕ)) (F : List MatrixValue) (rows E : List (List ℕ)) (x : Step)
-    → IsFound q (degrees gs) tables ms F rows E x → IsRingBelow q G gs rs n tables → IsStep q G gs rs n tables x
+    → IsFound q (degrees gs) tables ms F rows E x → IsRingBelow q G gs rs n tables
+    → IsStep q G gs rs n tables x
 found-below q n G gs rs tables ms F rows E x X B =
     are-step q n G gs rs tables B low ms P F
     (λ i l. X.forms i l ∙ ap (λ a. map (λ s. row_of q ms (generator_times q (degrees gs) i s))
@@ -172,7 +172,8 @@ found g tables p w ms F rows E x o b T pe we P H n K L l R C = record {
   widths = product-width g tables T;
   critical = subst (λ w. (v : List ℕ) → IsListed rows v
       ↔ IsCriticalRow (greatest g) g.degrees tables w F v) we K;
-  echelon = subst (λ w. IsEchelonOf (suc (greatest g)) w rows E) we (subst (λ p. IsEchelonOf p w rows E) pe L);
+  echelon = subst (λ w. IsEchelonOf (suc (greatest g)) w rows E) we
+      (subst (λ p. IsEchelonOf p w rows E) pe L);
   left = l;
   rests = λ i k. subst (λ p. AreRests p E (rows_at F i) (rows_at x.forms.items i)) pe
       (R i (omega (arith, k, n)));

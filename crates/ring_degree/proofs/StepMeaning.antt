@@ -1,11 +1,11 @@
 -- What is found of the next degree is what is said of it.
-use Rattle.std.proofs.Common.{◌≡◌, ℕ, zero, suc, ◌+◌, ◌-◌, ◌<◌, ◌≤◌, ◌↔◌, List, [], ◌∷◌, ◌++◌, length, map, arith}
+use Rattle.std.proofs.Common.{◌≡◌, ℕ, zero, suc, ◌-◌, ◌<◌, ◌≤◌, ◌↔◌, List, [], ◌∷◌, ◌++◌, length, map, arith}
 use Rattle.std.proofs.Common.{ap, sym, subst, ◌∙◌, refl}
 use Rattle.std.specs.Prelude.{slice_index_or}
 use Rattle.std.proofs.lemmas.List.{length-map}
 use Rattle.fp_rows.specs.Values.{MatrixValue}
 use Rattle.linear_algebra.specs.Rows.{row, IsEchelonOf, IsReduced}
-use Rattle.graded_polynomials.specs.Monomials.{IsMonomial, exponent, degree, joined}
+use Rattle.graded_polynomials.specs.Monomials.{IsMonomial, degree}
 use Rattle.graded_polynomials.specs.Polynomials.{Polynomial, scaled}
 use Rattle.graded_polynomials.specs.Texts.{power}
 use Rattle.graded_polynomials.proofs.Exponents.{joined-cancel}
@@ -16,8 +16,8 @@ use Rattle.presentation_rows.specs.RowPolynomials.{polynomial_of, row_of}
 use Rattle.presentation_rows.proofs.RowTerms.{row-of-is-row}
 use Rattle.ring_completion.specs.Borders.{AreReached}
 use Rattle.ring_completion.specs.Candidates.{AreSome, IsListed, IsQuotient, AreLeft, AreCandidates}
-use Rattle.ring_completion.specs.Completions.{degree_of, generator_times, IsStandardOf}
-use Rattle.ring_completion.specs.Left.{without_pivots, entries_without}
+use Rattle.ring_completion.specs.Completions.{generator_times, IsStandardOf}
+use Rattle.ring_completion.specs.Left.{without_pivots}
 use Rattle.ring_completion.specs.Listings.{without_factor}
 use Rattle.ring_completion.proofs.Factors.{quotient-exists, quotient-divides}
 use Rattle.ring_completion.proofs.ListedCandidates.{generator-at}
@@ -80,7 +80,8 @@ module _ (q n : ℕ) (G : GradedAlgebra q) (gs : List (Generator (Vector q))) (r
 
     each-standard : (k i e : ℕ) (r : List ℕ) → k < length cs
         → IsQuotient q (degrees gs) i e r (slice_index_or cs k []) → IsStandard q (algebra q G) gs e r
-    each-standard k i e r l Q = let x = quotient-is i e r (slice_index_or cs k []) (some-candidates.each k l) Q in
+    each-standard k i e r l Q = let x = quotient-is i e r (slice_index_or cs k [])
+        (some-candidates.each k l) Q in
         subst (λ a. IsStandard q (algebra q G) gs a r) (sym x.2)
         (subst (IsStandardOf q (algebra q G) gs (suc n - at_generator (degrees gs) i)) x.0
         ((listed q n G gs rs tables B (suc n - at_generator (degrees gs) i)

@@ -1,6 +1,6 @@
 -- The table of the next degree is that of its standard monomials and their products.
-use Rattle.std.proofs.Common.{◌≡◌, ℕ, zero, suc, ◌+◌, ◌-◌, ◌<◌, ◌≤◌, List, [], ◌∷◌, ◌++◌, length, map, replicate, drop}
-use Rattle.std.proofs.Common.{◌⊎◌, inl, inr, arith, ap, sym, subst, ◌∙◌, refl}
+use Rattle.std.proofs.Common.{◌≡◌, ℕ, zero, suc, ◌+◌, ◌-◌, ◌<◌, ◌≤◌, List, [], ◌∷◌, ◌++◌, length, map}
+use Rattle.std.proofs.Common.{replicate, drop, ◌⊎◌, inl, inr, arith, ap, sym, subst, ◌∙◌, refl}
 use Rattle.std.specs.Prelude.{slice_index_or}
 use Rattle.std.specs.List.{AllByRecursion as Each}
 use Rattle.std.proofs.lemmas.Bool.{cases_lt}
@@ -8,7 +8,7 @@ use Rattle.std.proofs.lemmas.List.{length-append, length-map, length-replicate, 
 use Rattle.fp_rows.specs.Values.{MatrixValue}
 use Rattle.linear_algebra.specs.Kernels.{IsKernelOf}
 use Rattle.linear_algebra.specs.Rows.{row}
-use Rattle.graded_polynomials.specs.Monomials.{IsMonomial, degree, joined}
+use Rattle.graded_polynomials.specs.Monomials.{IsMonomial}
 use Rattle.graded_polynomials.specs.Polynomials.{Term, Polynomial, scaled}
 use Rattle.graded_polynomials.specs.Texts.{power}
 use Rattle.graded_polynomials.proofs.Monomials.{only-one}
@@ -23,8 +23,8 @@ use Rattle.presentation_rows.specs.RowPolynomials.{polynomial_of, row_of}
 use Rattle.presentation_rows.specs.Values.{AreValues}
 use Rattle.presentation_rows.proofs.RowTerms.{row-of-is-row}
 use Rattle.ring_completion.specs.Candidates.{AreSome, IsListed, AreLeft}
-use Rattle.ring_completion.specs.Completions.{degree_of, generator_times, IsGenerator, IsStandardOf, IsReduced}
-use Rattle.ring_completion.specs.Completions.{AreProducts}
+use Rattle.ring_completion.specs.Completions.{degree_of, generator_times, IsGenerator, IsStandardOf}
+use Rattle.ring_completion.specs.Completions.{IsReduced, AreProducts}
 use Rattle.ring_completion.specs.Listings.{AreStandardLists}
 use Rattle.ring_completion.specs.Left.{without_pivots}
 use Rattle.ring_completion.proofs.AddedGenerators.{ideal-up}
@@ -39,7 +39,7 @@ use Rattle.ring_completion.proofs.Stays.{monomial-up, monomial-down, standard-do
 use Rattle.ring_degree.specs.Rests.{IsRest, AreRests}
 use Rattle.ring_degree.specs.Steps.{IsRingBelow, IsStep}
 use Rattle.ring_degree.specs.Tables.{at_generator, lists, standard_at, rows_at, product_rows, product_in}
-use Rattle.ring_degree.specs.Tables.{products_at, place_of, AreTablesOf}
+use Rattle.ring_degree.specs.Tables.{place_of, AreTablesOf}
 use Rattle.ring_degree.specs.declared.step.Step.{Step}
 use Rattle.ring_degree.specs.declared.table.Table.{Table}
 use Rattle.ring_degree.proofs.AddedTable.{standard-old, standard-new, rows-old, rows-new, lists-drop}
@@ -111,9 +111,11 @@ module _ (q n : ℕ) (G : GradedAlgebra q) (gs new : List (Generator (Vector q))
       → IsConsequence q (algebra q G) (gs ++ new) rs (suc n)
       (generator_times q (degrees (gs ++ new)) i s ++ scaled q (polynomial_of left (u ++ replicate z 0)))
   form-widened ms extra split i e z s u I M l c =
-      subst (λ f. IsConsequence q (algebra q G) hs rs (suc n) (f ++ scaled q (polynomial_of left (u ++ replicate z 0))))
+      subst (λ f. IsConsequence q (algebra q G) hs rs (suc n)
+      (f ++ scaled q (polynomial_of left (u ++ replicate z 0))))
       (sym (times-more q (algebra q G) gs new i e s I M))
-      (subst (λ g. IsConsequence q (algebra q G) hs rs (suc n) (generator_times q (degrees gs) i s ++ scaled q g))
+      (subst (λ g. IsConsequence q (algebra q G) hs rs (suc n) (generator_times q (degrees gs) i s
+      ++ scaled q g))
       (sym (ap (λ ls. polynomial_of ls (u ++ replicate z 0)) split ∙ polynomial-widened ms extra u z l))
       (consequence-up (generator_times q (degrees gs) i s ++ scaled q (polynomial_of ms u)) c))
 
@@ -134,11 +136,13 @@ module _ (q n : ℕ) (G : GradedAlgebra q) (gs new : List (Generator (Vector q))
       (value (algebra q G) (gs ++ new) (generator_times q (degrees (gs ++ new)) i s))
       (polynomial_of (without_pivots kernel 0 left) v)
   product-is i s u v l c X =
-      subst (IsNormalForm q (algebra q G) hs (suc n) (value (algebra q G) hs (generator_times q (degrees hs) i s)))
+      subst (IsNormalForm q (algebra q G) hs (suc n)
+      (value (algebra q G) hs (generator_times q (degrees hs) i s)))
       (rows-over-left kernel left X.reduced X.is_reduced.zero_at_pivots
       ∙ ap (polynomial_of (without_pivots kernel 0 left)) (sym X.entries))
       (product-of-form q n B.field G hs positive rs relations left values kernel L.some
-      (separates-left q n B.field G hs positive rs relations left L) V K (generator_times q (degrees hs) i s) u
+      (separates-left q n B.field G hs positive rs relations left L) V K
+      (generator_times q (degrees hs) i s) u
       X.reduced c (rw (← l) X.is_row) X.is_reduced)
 
 -- the product by its degrees
@@ -195,7 +199,8 @@ module _ (q n : ℕ) (G : GradedAlgebra q) (gs new : List (Generator (Vector q))
       D : ℕ
       D = degree_of (degrees gs) i + e
 
-      same-all : polynomial_of (standard_at all D) (row (product_rows tables D i) (place_of (standard_at tables e) s))
+      same-all : polynomial_of (standard_at all D) (row (product_rows tables D i)
+          (place_of (standard_at tables e) s))
           ≡ product_at all D e i s
       same-all = ap (λ rows. polynomial_of (standard_at all D) (row rows (place_of (standard_at tables e) s)))
           (sym (rows-old tables t n B.tables_are.count D i (omega (arith, l))))
@@ -212,7 +217,8 @@ module _ (q n : ℕ) (G : GradedAlgebra q) (gs new : List (Generator (Vector q))
   }
 
   -- the product in the degree itself, from the row at the place of s
-  at-place : (i e k : ℕ) (s : List ℕ) → degree_of (degrees more) i + e ≡ suc n → IsMonomial q (degrees more) e s
+  at-place : (i e k : ℕ) (s : List ℕ) → degree_of (degrees more) i + e ≡ suc n
+      → IsMonomial q (degrees more) e s
       → e ≤ n → place_of (standard_at tables e) s ≡ k
       → IsNormalForm q (algebra q G) more (suc n)
       (value (algebra q G) more (generator_times q (degrees more) i s))
@@ -220,14 +226,16 @@ module _ (q n : ℕ) (G : GradedAlgebra q) (gs new : List (Generator (Vector q))
       → IsNormalForm q (algebra q G) more (suc n)
       (value (algebra q G) more (generator_times q (degrees more) i s)) (product_in (degrees more) all i s)
   at-place i e k s total M low p N =
-      subst (IsNormalForm q (algebra q G) more (suc n) (value (algebra q G) more (generator_times q (degrees more) i s)))
+      subst (IsNormalForm q (algebra q G) more (suc n)
+      (value (algebra q G) more (generator_times q (degrees more) i s)))
       (sym (ap (λ d. product_at all (degree_of (degrees more) i + d) d i s) M.degree_is
       ∙ ap (λ d. product_at all d e i s) total
       ∙ ap (λ ss. polynomial_of ss (row (product_rows all (suc n) i) (place_of (standard_at all e) s)))
       (standard-new tables t n B.tables_are.count ∙ standard-is)
       ∙ ap (λ rows. polynomial_of (without_pivots kernel 0 left) (row rows (place_of (standard_at all e) s)))
       (rows-new tables t n B.tables_are.count i)
-      ∙ ap (λ ss. polynomial_of (without_pivots kernel 0 left) (row (rows_at t.products.items i) (place_of ss s)))
+      ∙ ap (λ ss. polynomial_of (without_pivots kernel 0 left) (row (rows_at t.products.items i)
+      (place_of ss s)))
       (standard-old tables t n B.tables_are.count e low)
       ∙ ap (λ j. polynomial_of (without_pivots kernel 0 left) (row (rows_at t.products.items i) j)) p)) N
 
@@ -242,13 +250,15 @@ module _ (q n : ℕ) (G : GradedAlgebra q) (gs new : List (Generator (Vector q))
       (product-is q n G gs new rs tables B here left values kernel L V K i s
       (row (rows_at wide i) at.0) (row (rows_at t.products.items i) at.0)
       (ap length wide-row ∙ length-append (row (rows_at x.forms.items i) at.0) (replicate z 0)
-      ∙ (let a = widths i at.0 il inside in let b = length-replicate {A = ℕ} z 0 in omega (arith, a, b, zeros)))
+      ∙ (let a = widths i at.0 il inside in let b = length-replicate {A = ℕ} z 0 in
+      omega (arith, a, b, zeros)))
       (subst (λ u. IsConsequence q (algebra q G) more rs (suc n)
       (generator_times q (degrees more) i s ++ scaled q (polynomial_of left u))) (sym wide-row)
       (form-widened q n G gs new rs tables B here left values kernel L V K x.left extra split i e z s
       (row (rows_at x.forms.items i) at.0) I M (widths i at.0 il inside)
       (subst (λ r. IsConsequence q (algebra q G) gs rs (suc n)
-      (generator_times q (degrees gs) i r ++ scaled q (polynomial_of x.left (row (rows_at x.forms.items i) at.0))))
+      (generator_times q (degrees gs) i r ++ scaled q
+      (polynomial_of x.left (row (rows_at x.forms.items i) at.0))))
       (ap (λ d. slice_index_or (standard_at tables d) at.0 []) (sym e-is) ∙ at.2)
       (S.forms_are i at.0 il (subst (λ d. at.0 < length (standard_at tables d)) e-is at.1)))))
       ((rests i (let c = ap (λ (ds : List ℕ). length ds) (degrees-append gs new) in
@@ -341,12 +351,14 @@ module _ (q n : ℕ) (G : GradedAlgebra q) (gs new : List (Generator (Vector q))
         (standard-of-list q n B.field G more
         (positive q n G gs new rs tables B here left values kernel L V K) rs
         (relations q n G gs new rs tables B here left values kernel L V K) left values kernel L.some
-        (separates-left q n B.field G more (positive q n G gs new rs tables B here left values kernel L V K) rs
+        (separates-left q n B.field G more (positive q n G gs new rs tables B here left values kernel
+        L V K) rs
         (relations q n G gs new rs tables B here left values kernel L V K) left L) V K)
         (all-standard q n B.field G more
         (positive q n G gs new rs tables B here left values kernel L V K) rs
         (relations q n G gs new rs tables B here left values kernel L V K) left values kernel L.some
-        (separates-left q n B.field G more (positive q n G gs new rs tables B here left values kernel L V K) rs
+        (separates-left q n B.field G more (positive q n G gs new rs tables B here left values kernel
+        L V K) rs
         (relations q n G gs new rs tables B here left values kernel L V K) left L) V K));
     products = products-grow q (algebra q G) gs new n above (product_in (degrees more) all) lower
         (λ i e s I X total. in-degree i e s I X total (cases_lt i (length (degrees gs))));
@@ -360,9 +372,11 @@ module _ (q n : ℕ) (G : GradedAlgebra q) (gs new : List (Generator (Vector q))
           go [] l = absurd (omega (arith, l))
           go (y ∷ ls) l = omega (arith, l)
 
-      in-degree : (i e : ℕ) (s : List ℕ) → IsGenerator q (degrees more) i → IsStandardOf q (algebra q G) more e s
+      in-degree : (i e : ℕ) (s : List ℕ) → IsGenerator q (degrees more) i → IsStandardOf q (algebra q G)
+          more e s
           → degree_of (degrees more) i + e ≡ suc n → (i < length (degrees gs)) ⊎ (length (degrees gs) ≤ i)
           → IsNormalForm q (algebra q G) more (suc n)
-          (value (algebra q G) more (generator_times q (degrees more) i s)) (product_in (degrees more) all i s)
+          (value (algebra q G) more (generator_times q (degrees more) i s))
+          (product_in (degrees more) all i s)
       in-degree i e s I X total (inl l) = of-old i e s l X total
       in-degree i e s I X total (inr l) = of-new i e s l (within-length (degrees more) i I.within) X total

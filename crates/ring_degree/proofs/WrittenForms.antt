@@ -1,7 +1,7 @@
 -- The row of a generator times a monomial.
-use Rattle.std.proofs.Common.{◌≡◌, ◌≢◌, ℕ, zero, suc, ◌+◌, ◌*◌, ◌%◌, ◌<◌, ◌≤◌, true, false, cond, List, [], ◌∷◌}
-use Rattle.std.proofs.Common.{length, get_or, replicate, Some, slice_get, ◌⊎◌, inl, inr, arith, ap, ap₂, sym, ◌∙◌}
-use Rattle.std.proofs.Common.{refl}
+use Rattle.std.proofs.Common.{◌≡◌, ◌≢◌, ℕ, suc, ◌+◌, ◌*◌, ◌%◌, ◌<◌, ◌≤◌, true, false, cond, List, [], ◌∷◌}
+use Rattle.std.proofs.Common.{length, get_or, replicate, Some, slice_get, ◌⊎◌, inl, inr, arith, ap, ap₂, sym}
+use Rattle.std.proofs.Common.{◌∙◌, refl}
 use Rattle.std.specs.Prelude.{slice_set}
 use Rattle.std.proofs.Math.ListN.{length-set}
 use Rattle.std.proofs.Math.Nat.{mod-eq_of_lt}
@@ -9,7 +9,7 @@ use Rattle.std.proofs.lemmas.Bool.{cases_lt, cases_eq}
 use Rattle.std.proofs.lemmas.List.{ext_get_or, length-map, get_or-set_same, get_or-set_other}
 use Rattle.std.proofs.lemmas.Option.{get_or_from_slice_get, slice_get_within}
 use Rattle.linear_algebra.specs.Rows.{entry}
-use Rattle.graded_polynomials.specs.Monomials.{IsGreater, fits, joined, same, sign, swaps}
+use Rattle.graded_polynomials.specs.Monomials.{fits, joined, same, sign, swaps}
 use Rattle.graded_polynomials.specs.Polynomials.{Term, coefficient}
 use Rattle.graded_polynomials.specs.Texts.{power}
 use Rattle.graded_polynomials.proofs.Order.{greater-self}

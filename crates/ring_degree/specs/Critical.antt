@@ -1,6 +1,7 @@
 -- The rows of exchanges and squares, over a list of monomials of degree d, from the rows of the products with
 -- generators.
-use Rattle.std.specs.Prelude.{◌≡◌, ℕ, suc, ◌+◌, ◌*◌, ◌%◌, ◌<◌, ◌≤◌, ◌⊎◌, true, List, [], All, length, slice_index_or}
+use Rattle.std.specs.Prelude.{◌≡◌, ℕ, suc, ◌+◌, ◌*◌, ◌%◌, ◌<◌, ◌≤◌, ◌⊎◌, true, List, [], All, length}
+use Rattle.std.specs.Prelude.{slice_index_or}
 use Rattle.linear_algebra.specs.Rows.{entry, row, add_multiple, combination_row}
 use Rattle.limits.specs.declared.TheConstants.{GREATEST_DEGREE}
 use Rattle.graded_polynomials.specs.Monomials.{is_exterior, sign}
@@ -8,12 +9,12 @@ use Rattle.gc_poly.specs.Generators.{Generators}
 use Rattle.fp_rows.specs.Values.{MatrixValue}
 use Rattle.ring_completion.specs.Completions.{IsClearBefore}
 use Rattle.ring_degree.specs.declared.table.Table.{Table}
-use Rattle.ring_degree.specs.Tables.{at_generator, standard_at, rows_at, product_rows}
-use Rattle.ring_degree.specs.Tables.{AreMatrices, AreTables}
+use Rattle.ring_degree.specs.Tables.{at_generator, standard_at, rows_at, product_rows, AreMatrices, AreTables}
 
 -- tables of lower degrees, and for each generator the rows over a list of so many members of its products of
 -- the next degree
-pub record ArePairs (g : Generators) (tables : List Table) (width : ℕ) (forms : List MatrixValue) : Type 0 where
+pub record ArePairs (g : Generators) (tables : List Table) (width : ℕ)
+    (forms : List MatrixValue) : Type 0 where
   pub small : length tables ≤ GREATEST_DEGREE
   pub below : All (λ e. e < length tables) g.degrees
   pub tables_are : AreTables g tables

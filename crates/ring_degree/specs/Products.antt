@@ -1,5 +1,5 @@
 -- The monomials of a degree that are products of a generator with a standard monomial of the tables.
-use Rattle.std.specs.Prelude.{◌≡◌, ℕ, ◌-◌, ◌<◌, ◌⊎◌, ◌↔◌, true, List, [], length, slice_index_or}
+use Rattle.std.specs.Prelude.{◌≡◌, ℕ, ◌-◌, ◌<◌, ◌⊎◌, ◌↔◌, true, List, length}
 use Rattle.graded_polynomials.specs.Monomials.{fits, joined}
 use Rattle.graded_polynomials.specs.Texts.{power}
 use Rattle.gc_poly.specs.Lists.{IsDescending}
@@ -24,6 +24,7 @@ IsProductIn q ds tables d m = (i : ℕ) × (i < length ds)
     × IsProductWith q ds i (standard_at tables (d - at_generator ds i)) m
 
 -- ms are all of these, in descending order
-pub record AreProductsIn (q : ℕ) (ds : List ℕ) (tables : List Table) (d : ℕ) (ms : List (List ℕ)) : Type 0 where
+pub record AreProductsIn (q : ℕ) (ds : List ℕ) (tables : List Table) (d : ℕ)
+    (ms : List (List ℕ)) : Type 0 where
   pub descending : IsDescending ms
   pub members : (m : List ℕ) → IsListed ms m ↔ IsProductIn q ds tables d m

@@ -1,7 +1,6 @@
 -- What is left of a list and of rows over it at the places that are no pivots, and the candidates of a list.
 use Rattle.std.specs.Prelude.{◌≡◌, ℕ, ◌-◌, ◌<◌, ◌↔◌, List, length}
 use Rattle.linear_algebra.specs.Rows.{row, IsRow, IsReduced}
-use Rattle.fp_rows.specs.Values.{MatrixValue}
 use Rattle.gc_poly.specs.Lists.{IsDescending}
 use Rattle.graded_polynomials.specs.Monomials.{exponent}
 use Rattle.ring_completion.specs.Candidates.{IsListed}

@@ -1,5 +1,5 @@
 -- What the tables of lower degrees tell of the next degree.
-use Rattle.std.specs.Prelude.{◌≡◌, ℕ, suc, ◌-◌, ◌<◌, List, [], ◌++◌, length, slice_index_or}
+use Rattle.std.specs.Prelude.{ℕ, suc, ◌-◌, ◌<◌, List, [], ◌++◌, length, slice_index_or}
 use Rattle.std.specs.List.{AllByRecursion as Each}
 use Rattle.linear_algebra.specs.Modular.{IsFieldModulo}
 use Rattle.linear_algebra.specs.Rows.{row}

@@ -80,14 +80,7 @@ impl<'a> Pairs<'a> {
     }
 
     // The exchange of generators i and j at monomial k of degree e.
-    fn exchange(
-        &self,
-        alloc: Global,
-        e: usize,
-        i: usize,
-        j: usize,
-        k: usize,
-    ) -> Result<Row, Memory>
+    fn exchange(&self, alloc: Global, e: usize, i: usize, j: usize, k: usize) -> Result<Row, Memory>
         requires pairs { ArePairs self.now.gens.now self.now.tables.now self.now.width self.now.forms.now }
         requires pair { IsPair self.now.gens.now.degrees self.now.tables.now e i j k }
         ensures { IfOk result (λ r. r ≡ record {
@@ -141,7 +134,8 @@ impl<'a> Pairs<'a> {
         requires width { rows.old.width ≡ self.now.width }
         ensures prime { OnOk result (rows.new.p ≡ rows.old.p) }
         ensures width { OnOk result (rows.new.width ≡ rows.old.width) }
-        ensures rows { OnOk result (Gains (IsExchangeRow (greatest self.now.gens.now) self.now.gens.now.degrees
+        ensures rows { OnOk result
+            (Gains (IsExchangeRow (greatest self.now.gens.now) self.now.gens.now.degrees
             self.now.tables.now self.now.width self.now.forms.now i j) rows.old.rows rows.new.rows) }
     {
         let both = (self.gens.degree(i) + self.gens.degree(j)) as usize;
@@ -210,7 +204,8 @@ impl<'a> Pairs<'a> {
         requires width { rows.old.width ≡ self.now.width }
         ensures prime { OnOk result (rows.new.p ≡ rows.old.p) }
         ensures width { OnOk result (rows.new.width ≡ rows.old.width) }
-        ensures rows { OnOk result (Gains (IsCriticalWith (greatest self.now.gens.now) self.now.gens.now.degrees
+        ensures rows { OnOk result
+            (Gains (IsCriticalWith (greatest self.now.gens.now) self.now.gens.now.degrees
             self.now.tables.now self.now.width self.now.forms.now i) rows.old.rows rows.new.rows) }
     {
         self.push_squares(alloc, i, rows)?;

@@ -1,7 +1,7 @@
 //! The table of the next degree.
 
-ghost use Rattle.std.specs.Prelude.{◌≡◌, ℕ, suc, ◌-◌, ◌<◌, ◌≤◌, [], ◌∷◌, ◌++◌, List, length, map, replicate, All};
-ghost use Rattle.std.specs.Prelude.{IfOk};
+ghost use Rattle.std.specs.Prelude.{◌≡◌, ℕ, suc, ◌-◌, ◌<◌, ◌≤◌, [], ◌∷◌, ◌++◌, List, length, map};
+ghost use Rattle.std.specs.Prelude.{replicate, All, IfOk};
 ghost use Rattle.std.specs.List.{AllByRecursion as Each};
 ghost use Rattle.limits.specs.declared.TheConstants.{GREATEST_DEGREE};
 ghost use Rattle.linear_algebra.specs.Kernels.{IsKernelOf};
@@ -117,7 +117,8 @@ pub fn finish(
         → x.forms.items ≡ forms.now → length x.left ≡ width → left.now ≡ x.left ++ extra
         → IsRingBelow (greatest gens.now) G gs rs (length tables.now - 1) tables.now
         → IsStep (greatest gens.now) G gs rs (length tables.now - 1) tables.now x
-        → AreLeft (greatest gens.now) (algebra (greatest gens.now) G) (gs ++ new) rs (length tables.now) left.now
+        → AreLeft (greatest gens.now) (algebra (greatest gens.now) G) (gs ++ new) rs (length tables.now)
+        left.now
         → AreValues (greatest gens.now) (algebra (greatest gens.now) G) (gs ++ new) left.now values
         → IsKernelOf (suc (greatest gens.now)) values kernel.now.rows
         → AreTablesOf (greatest gens.now) G (gs ++ new) (length tables.now) (tables.now ++ t ∷ [])) }

@@ -90,7 +90,8 @@ pub(crate) fn forms(
     requires small { length tables.now ≤ GREATEST_DEGREE }
     requires below { All (λ e. e < length tables.now) gens.now.degrees }
     requires tables { AreTables gens.now tables.now }
-    requires list { AreProductsIn (greatest gens.now) gens.now.degrees tables.now (length tables.now) list.now }
+    requires list { AreProductsIn (greatest gens.now) gens.now.degrees tables.now (length tables.now)
+        list.now }
     ensures count { IfOk result (λ f. length f.items ≡ length gens.now.degrees) }
     ensures shape { IfOk result (λ f. AreMatrices gens.now tables.now (length tables.now) (length list.now)
         f.items) }

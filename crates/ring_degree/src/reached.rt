@@ -91,7 +91,8 @@ pub(crate) fn reached(alloc: Global, gens: &Gens, tables: &[Table]) -> Result<Mo
     requires small { length tables.now ≤ GREATEST_DEGREE }
     requires below { All (λ e. e < length tables.now) gens.now.degrees }
     requires tables { AreTables gens.now tables.now }
-    ensures { IfOk result (AreProductsIn (greatest gens.now) gens.now.degrees tables.now (length tables.now)) }
+    ensures { IfOk result (AreProductsIn (greatest gens.now) gens.now.degrees tables.now
+        (length tables.now)) }
 {
     let mut list = Vec::new(alloc);
     for i in 0..gens.len() {

@@ -16,9 +16,11 @@ loop-i-preserved c = record {
       ∙ length_push c.loop-i.wide.items c.in_ok-product_forms.field-0
       ∙ ap (λ n. n + 1) c.loop-i.invariant.count;
   each = each-pushed
-      (λ j m. IsProductForm c.args.gens.now c.args.tables.now c.args.forms.now c.args.left.now c.args.width j m)
+      (λ j m. IsProductForm c.args.gens.now c.args.tables.now c.args.forms.now c.args.left.now
+      c.args.width j m)
       c.loop-i.wide.items c.push.new.self.items c.loop-i.i c.in_ok-product_forms.field-0
-      c.loop-i.invariant.count c.loop-i.invariant.each c.in_ok-product_forms.ensures c.in_ok-push.ensures.items;
+      c.loop-i.invariant.count c.loop-i.invariant.each c.in_ok-product_forms.ensures
+      c.in_ok-push.ensures.items;
 }
 
 pub reduced_matrices-requires-clause-primes : goal.reduced_matrices-requires-clause-primes

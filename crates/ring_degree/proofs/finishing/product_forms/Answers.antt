@@ -1,4 +1,4 @@
-use Rattle.std.proofs.Common.{◌≡◌, ◌-◌, ◌<◌, ◌≤◌, ◌++◌, ◌∷◌, [], List, length, get_or, map, replicate, arith, ap, sym, subst, ◌∙◌}
+use Rattle.std.proofs.Common.{◌-◌, ◌<◌, ◌++◌, length, get_or, map, replicate, arith, ap, sym, subst, ◌∙◌}
 use Rattle.fp_rows.specs.Values.{MatrixValue}
 use Rattle.gc_poly.specs.Generators.{greatest}
 use Rattle.ring_completion.specs.Candidates.{AreSome}
@@ -23,9 +23,12 @@ widened-requires c =
 pub form_rows-requires-clause-monomials : goal.form_rows-requires-clause-monomials
 form_rows-requires-clause-monomials c =
     let one = sym (standard-is c.args.tables.now 0 c.index-tables-0.result c.requires.some)
-    ∙ c.requires.one in
-    (0, omega arith, subst (AreSome (greatest c.args.gens.now) c.args.gens.now.degrees 0) (sym one)
-    (one-some (greatest c.args.gens.now) c.args.gens.now.degrees))
+    ∙ c.requires.one in (
+      0,
+      omega arith,
+      subst (AreSome (greatest c.args.gens.now) c.args.gens.now.degrees 0) (sym one)
+          (one-some (greatest c.args.gens.now) c.args.gens.now.degrees),
+    )
 
 pub form_rows-requires-clause-listed : goal.form_rows-requires-clause-listed
 form_rows-requires-clause-listed c m P =
@@ -36,7 +39,8 @@ form_rows-requires-clause-listed c m P =
     (subst (λ ss. IsProductWith (greatest c.args.gens.now) c.args.gens.now.degrees c.args.i ss m) one P)
 
 pub returns-in_ok-wide : goal.returns-in_ok-wide
-returns-in_ok-wide c = form-old c.args.gens.now c.args.tables.now c.args.forms.now c.args.left.now c.args.width
+returns-in_ok-wide c = form-old c.args.gens.now c.args.tables.now c.args.forms.now c.args.left.now
+    c.args.width
     c.args.i c.requires.within c.in_ok-wide.wide (c.in_ok-wide.ensures.width ∙ c.len.ensures.value)
     c.requires.forms (omega (arith, c.degree.ensures.value, c.if-degree-tables.true)) c.index-forms-i.result
     c.index-forms-i.is c.in_ok-wide.ensures.prime

@@ -1,5 +1,4 @@
-use Rattle.std.proofs.Common.{◌≡◌, ◌-◌, ◌++◌, ◌∷◌, [], List, ℕ, length, map, replicate, take, arith, ap, sym, ◌∙◌}
-use Rattle.std.proofs.lemmas.List.{take_more, take_all, map-append}
+use Rattle.std.proofs.Common.{◌-◌, ◌++◌, length, replicate, arith, ap, ◌∙◌}
 use Rattle.fp_rows.specs.Refs.{entries_of}
 use Rattle.fp_rows.specs.Values.{MatrixValue, RowValue}
 use Rattle.ring_degree.proofs.Widening.{widened-row, widened-rows}

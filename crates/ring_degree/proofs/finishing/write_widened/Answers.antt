@@ -1,5 +1,5 @@
-use Rattle.std.proofs.Common.{◌≡◌, ◌-◌, ◌++◌, List, ℕ, length, replicate, arith, ap, sym, subst, ◌∙◌}
-use Rattle.fp_rows.specs.Refs.{entries_of, modulus_of}
+use Rattle.std.proofs.Common.{ℕ, length, arith, ap, sym, subst, ◌∙◌}
+use Rattle.fp_rows.specs.Refs.{entries_of}
 use Rattle.fp_rows.specs.Parts.{GainsPart}
 use Rattle.fp_rows.specs.Values.{RowValue}
 use Rattle.fp_rows.proofs.Primes.{prime_above_one}

@@ -11,16 +11,17 @@ use Rattle.ring_degree.proofs.FormMatrices.{mapped-more}
 use Rattle.ring_degree.proofs.forms.form_rows.Goals as goal
 
 pub write_form-requires-clause-listed : goal.write_form-requires-clause-listed
-write_form-requires-clause-listed c f = c.requires.listed (joined (power c.args.i 1) c.get.result.now) record {
-  factor = c.get.result.now;
-  listed = (
-    c.loop-k.k,
-    omega arith,
-    get_or_from_slice_get c.args.monomials.now c.loop-k.k c.get.result.now [] c.get.ensures,
-  );
-  fitting = f;
-  product = refl;
-}
+write_form-requires-clause-listed c f = c.requires.listed (joined (power c.args.i 1) c.get.result.now)
+    record {
+      factor = c.get.result.now;
+      listed = (
+        c.loop-k.k,
+        omega arith,
+        get_or_from_slice_get c.args.monomials.now c.loop-k.k c.get.result.now [] c.get.ensures,
+      );
+      fitting = f;
+      product = refl;
+    }
 
 pub loop-k-preserved : goal.loop-k-preserved
 loop-k-preserved c =

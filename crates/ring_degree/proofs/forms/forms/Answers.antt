@@ -1,6 +1,5 @@
 use Rattle.std.proofs.Common.{◌≡◌, ℕ, ◌+◌, ◌-◌, ◌<◌, List, length, map, arith, sym, subst, ap, ◌∙◌}
 use Rattle.std.proofs.lemmas.List.{length_push}
-use Rattle.fp_rows.specs.Values.{MatrixValue}
 use Rattle.presentation_rows.specs.RowPolynomials.{row_of}
 use Rattle.ring_completion.specs.Candidates.{AreSome}
 use Rattle.ring_completion.specs.Completions.{generator_times}
@@ -16,14 +15,16 @@ form_rows-requires-clause-monomials c =
     let b = generator-below c.args.gens.now.degrees (length c.args.tables.now) c.loop-i.i c.requires.below
     (omega arith) in
     let l : length c.args.tables.now - c.degree.result < length c.args.tables.now =
-    omega (arith, b, c.degree.ensures.low) in
-    (length c.args.tables.now - c.degree.result, omega (arith, c.requires.small),
-    subst (AreSome (c.args.gens.now.prime - 1) c.args.gens.now.degrees
-    (length c.args.tables.now - c.degree.result))
-    (standard-is c.args.tables.now (length c.args.tables.now - c.degree.result)
-    c.index-tables-tables.result l
-    ∙ ap (λ t. t.standard) (sym c.index-tables-tables.is))
-    (c.requires.tables.monomials (length c.args.tables.now - c.degree.result) l))
+    omega (arith, b, c.degree.ensures.low) in (
+      length c.args.tables.now - c.degree.result,
+      omega (arith, c.requires.small),
+      subst (AreSome (c.args.gens.now.prime - 1) c.args.gens.now.degrees
+          (length c.args.tables.now - c.degree.result))
+          (standard-is c.args.tables.now (length c.args.tables.now - c.degree.result)
+          c.index-tables-tables.result l
+          ∙ ap (λ t. t.standard) (sym c.index-tables-tables.is))
+          (c.requires.tables.monomials (length c.args.tables.now - c.degree.result) l),
+    )
 
 pub form_rows-requires-clause-listed : goal.form_rows-requires-clause-listed
 form_rows-requires-clause-listed c m p =
@@ -32,13 +33,17 @@ form_rows-requires-clause-listed c m p =
     let l : length c.args.tables.now - c.degree.result < length c.args.tables.now =
     omega (arith, b, c.degree.ensures.low) in
     let e : c.index-tables-tables.result.standard
-    ≡ standard_at c.args.tables.now (length c.args.tables.now - at_generator c.args.gens.now.degrees c.loop-i.i) =
+    ≡ standard_at c.args.tables.now (length c.args.tables.now - at_generator c.args.gens.now.degrees
+    c.loop-i.i) =
     ap (λ t. t.standard) c.index-tables-tables.is
     ∙ sym (standard-is c.args.tables.now (length c.args.tables.now - c.degree.result)
     c.index-tables-tables.result l)
     ∙ ap (λ d. standard_at c.args.tables.now (length c.args.tables.now - d)) c.degree.ensures.value in
-    (c.requires.list.members m).1 (c.loop-i.i, omega arith,
-    subst (λ ss. IsProductWith (c.args.gens.now.prime - 1) c.args.gens.now.degrees c.loop-i.i ss m) e p)
+    (c.requires.list.members m).1 (
+      c.loop-i.i,
+      omega arith,
+      subst (λ ss. IsProductWith (c.args.gens.now.prime - 1) c.args.gens.now.degrees c.loop-i.i ss m) e p,
+    )
 
 pub loop-i-preserved : goal.loop-i-preserved
 loop-i-preserved c =
@@ -47,7 +52,8 @@ loop-i-preserved c =
     let l : length c.args.tables.now - c.degree.result < length c.args.tables.now =
     omega (arith, b, c.degree.ensures.low) in
     let e : c.index-tables-tables.result.standard
-    ≡ standard_at c.args.tables.now (length c.args.tables.now - at_generator c.args.gens.now.degrees c.loop-i.i) =
+    ≡ standard_at c.args.tables.now (length c.args.tables.now - at_generator c.args.gens.now.degrees
+    c.loop-i.i) =
     ap (λ t. t.standard) c.index-tables-tables.is
     ∙ sym (standard-is c.args.tables.now (length c.args.tables.now - c.degree.result)
     c.index-tables-tables.result l)

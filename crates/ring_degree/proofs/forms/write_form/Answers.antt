@@ -15,11 +15,11 @@ times-requires-clause-small c = exponent-small c.args.gens.now c.requires.monomi
 
 pub set-requires-clause-inside : goal.set-requires-clause-inside
 set-requires-clause-inside c =
-    let a = slice_get_within c.args.list.now c.in-Some-position.k c.in-Some.m c.in-Some-position.ensures.some in
+    let a = slice_get_within c.args.list.now c.in-Some-position.k c.in-Some.m
+    c.in-Some-position.ensures.some in
     let b = ap (λ r. length r.entries) c.clear.ensures in
     let d = length-replicate {A = ℕ} (length c.args.out.now.entries) 0 in
     omega (arith, a, b, d, c.requires.length)
-
 
 -- a row of zeros, and one entry
 cleared : (out zeros : RowValue) (es : List ℕ)

@@ -1,4 +1,4 @@
-use Rattle.std.proofs.Common.{◌≡◌, ℕ, ◌<◌, length, get_or, arith, ap, ◌∙◌}
+use Rattle.std.proofs.Common.{◌≡◌, length, arith, ap, ◌∙◌}
 use Rattle.std.proofs.lemmas.List.{length_push}
 use Rattle.fp_rows.specs.Values.{MatrixValue}
 use Rattle.ring_degree.specs.Tables.{rows_at}
@@ -28,24 +28,28 @@ loop-i-preserved c =
 
 pub returns-clause-primes : goal.returns-clause-primes
 returns-clause-primes c =
-    let s : c.loop-i.i ≡ length c.args.matrices.now = omega (arith, c.loop-i-test.false, c.loop-i.auto.i-end) in
+    let s : c.loop-i.i ≡ length c.args.matrices.now =
+    omega (arith, c.loop-i-test.false, c.loop-i.auto.i-end) in
     rest-primes c.args.e.now c.args.left c.args.matrices.now c.loop-i.reduced.items
     (c.loop-i.invariant.count ∙ s) (λ i n l. c.loop-i.invariant.each i n (omega (arith, l, s)))
 
 pub returns-clause-widths : goal.returns-clause-widths
 returns-clause-widths c =
-    let s : c.loop-i.i ≡ length c.args.matrices.now = omega (arith, c.loop-i-test.false, c.loop-i.auto.i-end) in
+    let s : c.loop-i.i ≡ length c.args.matrices.now =
+    omega (arith, c.loop-i-test.false, c.loop-i.auto.i-end) in
     rest-widths c.args.e.now c.args.left c.args.matrices.now c.loop-i.reduced.items
     (c.loop-i.invariant.count ∙ s) (λ i n l. c.loop-i.invariant.each i n (omega (arith, l, s)))
 
 pub returns-clause-matrices : goal.returns-clause-matrices
 returns-clause-matrices c =
-    let s : c.loop-i.i ≡ length c.args.matrices.now = omega (arith, c.loop-i-test.false, c.loop-i.auto.i-end) in
+    let s : c.loop-i.i ≡ length c.args.matrices.now =
+    omega (arith, c.loop-i-test.false, c.loop-i.auto.i-end) in
     rest-matrices c.args.e.now c.args.left c.args.matrices.now c.loop-i.reduced.items
     (c.loop-i.invariant.count ∙ s) (λ i n l. c.loop-i.invariant.each i n (omega (arith, l, s)))
 
 pub returns-clause-rows : goal.returns-clause-rows
 returns-clause-rows c =
-    let s : c.loop-i.i ≡ length c.args.matrices.now = omega (arith, c.loop-i-test.false, c.loop-i.auto.i-end) in
+    let s : c.loop-i.i ≡ length c.args.matrices.now =
+    omega (arith, c.loop-i-test.false, c.loop-i.auto.i-end) in
     rest-rows c.args.e.now c.args.left c.args.matrices.now c.loop-i.reduced.items
     (c.loop-i.invariant.count ∙ s) (λ i n l. c.loop-i.invariant.each i n (omega (arith, l, s)))

@@ -1,4 +1,4 @@
-use Rattle.std.proofs.Common.{◌≡◌, ℕ, ◌<◌, length, arith, ap, subst, ◌∙◌}
+use Rattle.std.proofs.Common.{ℕ, ◌<◌, length, arith, ap, subst, ◌∙◌}
 use Rattle.std.proofs.lemmas.List.{length-replicate}
 use Rattle.group_table.specs.Prime.{prime_value}
 use Rattle.fp_rows.specs.Refs.{entries_of}
@@ -17,7 +17,8 @@ reduce-requires-clause-same_width c = ap (λ (r : RowValue). length r.entries) c
 pub loop-k-preserved : goal.loop-k-preserved
 loop-k-preserved c =
     let e = c.args.e.now in
-    let l : c.loop-k.k < length c.args.rows.now.rows = omega (arith, c.loop-k-test.true, c.rows-k-end.ensures.count) in
+    let l : c.loop-k.k < length c.args.rows.now.rows =
+    omega (arith, c.loop-k-test.true, c.rows-k-end.ensures.count) in
     record {
       prime = ap (λ (m : MatrixValue). m.p) c.in_ok-push.ensures.pushed ∙ c.loop-k.invariant.prime;
       width = ap (λ (m : MatrixValue). m.width) c.in_ok-push.ensures.pushed ∙ c.loop-k.invariant.width;
@@ -27,7 +28,8 @@ loop-k-preserved c =
       rests = rest-more e.p e.rows c.args.rows.now.rows c.loop-k.reduced.rows c.push.new.self.rows c.loop-k.k
           (entries_of c.view.result) l c.loop-k.invariant.rests
           (rest-written e.p e.width e.rows (row c.args.rows.now.rows c.loop-k.k) (entries_of c.row.result)
-          (entries_of c.view.result) c.in_ok-v.v c.add.new.self c.reduce.new.v (prime_value c.prime-in-loop-k.result)
+          (entries_of c.view.result) c.in_ok-v.v c.add.new.self c.reduce.new.v
+          (prime_value c.prime-in-loop-k.result)
           c.width.result
           (subst (λ p. IsRow p e.width (row c.args.rows.now.rows c.loop-k.k)) c.requires.prime
           (subst (λ w. IsRow c.args.rows.now.p w (row c.args.rows.now.rows c.loop-k.k)) c.requires.width

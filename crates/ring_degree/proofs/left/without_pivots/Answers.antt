@@ -20,10 +20,10 @@ loop-k-preserved c =
           let m : get_or c.args.list.now c.loop-k.k [] ≡ w.get.result.now =
           get_or_from_slice_get c.args.list.now c.loop-k.k w.get.result.now [] w.get.ensures in
           w.left-is ∙ monomial-taken c.args.e.now.rows c.args.list.now c.loop-k.left w.push.new.self
-              c.loop-k.k w.in_ok-try_clone.field-0 l (sym w.if-not-is_pivot.ensures)
-              (w.in_ok-try_clone.ensures ∙ sym m) c.loop-k.invariant w.in_ok-push.ensures.ok
+          c.loop-k.k w.in_ok-try_clone.field-0 l (sym w.if-not-is_pivot.ensures)
+          (w.in_ok-try_clone.ensures ∙ sym m) c.loop-k.invariant w.in_ok-push.ensures.ok
       | else-not-is_pivot w ↦
           w.left-is ∙ c.loop-k.invariant
-              ∙ sym (pivot-left-out c.args.e.now.rows c.args.list.now c.loop-k.k l
-              (sym w.if-not-is_pivot.ensures))
+          ∙ sym (pivot-left-out c.args.e.now.rows c.args.list.now c.loop-k.k l
+          (sym w.if-not-is_pivot.ensures))
     ]

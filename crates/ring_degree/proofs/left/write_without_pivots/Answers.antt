@@ -22,7 +22,8 @@ pub loop-k-preserved : goal.loop-k-preserved
 loop-k-preserved c =
     elim c.if-not-is_pivot.branch [
       | then-not-is_pivot w ↦
-          let l : c.loop-k.k < length c.args.v.now.entries = omega (arith, c.loop-k-test.true, c.len-k-end.ensures.count) in
+          let l : c.loop-k.k < length c.args.v.now.entries =
+          omega (arith, c.loop-k-test.true, c.len-k-end.ensures.count) in
           let r = room c.args.e.now.rows c.args.v.now.entries c.loop-k.k c.loop-k.at l
           (sym w.if-not-is_pivot.ensures) c.loop-k.invariant.count in
           let n = next-written c.args.e.now.rows c.args.v.now.entries c.loop-k.out.entries c.loop-k.k
@@ -37,7 +38,8 @@ loop-k-preserved c =
             written = n.1;
           }
       | else-not-is_pivot w ↦
-          let l : c.loop-k.k < length c.args.v.now.entries = omega (arith, c.loop-k-test.true, c.len-k-end.ensures.count) in
+          let l : c.loop-k.k < length c.args.v.now.entries =
+          omega (arith, c.loop-k-test.true, c.len-k-end.ensures.count) in
           let e = sym (entry-left-out c.args.e.now.rows c.args.v.now.entries c.loop-k.k l
           (sym w.if-not-is_pivot.ensures)) in
           rw (w.out-is, w.at-is) record {

@@ -1,10 +1,12 @@
-use Rattle.std.proofs.Common.{◌≡◌, ◌-◌, ◌+◌, ◌<◌, length, get_or, [], take, true, false, arith, sym, subst, ap, refl, ◌∙◌}
+use Rattle.std.proofs.Common.{◌≡◌, ◌-◌, ◌+◌, ◌<◌, length, get_or, [], take, true, false, arith, sym, subst}
+use Rattle.std.proofs.Common.{ap, ◌∙◌}
 use Rattle.std.proofs.lemmas.List.{take_all}
 use Rattle.std.proofs.lemmas.Option.{get_or_from_slice_get}
 use Rattle.graded_polynomials.specs.Monomials.{IsMonomial, fits, joined}
 use Rattle.graded_polynomials.specs.Texts.{power}
 use Rattle.ring_degree.specs.Products.{Gains, IsProductWith}
-use Rattle.ring_degree.proofs.Gaining.{gains-more, gains-same, gains-none, no-products, product-more, product-same}
+use Rattle.ring_degree.proofs.Gaining.{gains-more, gains-same, gains-none, no-products, product-more}
+use Rattle.ring_degree.proofs.Gaining.{product-same}
 use Rattle.ring_degree.proofs.Lookups.{exponent-small, some-is, none-is}
 use Rattle.ring_degree.proofs.reached.insert_products.Goals as goal
 use Rattle.ring_degree.proofs.reached.insert_products.Goals.{in-Some+in_ok-insert-in-Some, in-None}

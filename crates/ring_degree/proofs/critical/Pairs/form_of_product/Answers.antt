@@ -1,14 +1,16 @@
-use Rattle.std.proofs.Common.{◌≡◌, ◌<◌, ◌+◌, ◌-◌, suc, arith, ap, sym, subst, length, get_or, ◌∙◌}
+use Rattle.std.proofs.Common.{◌<◌, ◌+◌, arith, ap, sym, length, get_or, ◌∙◌}
 use Rattle.fp_rows.specs.Refs.{entries_of}
 use Rattle.fp_rows.specs.Values.{RowValue}
 use Rattle.linear_algebra.specs.Rows.{row}
 use Rattle.ring_degree.specs.Tables.{at_generator}
-use Rattle.ring_degree.proofs.Lookups.{product-inside, product-matrix, product-row, product-length, form-matrix}
-use Rattle.ring_degree.proofs.Lookups.{form-count, form-prime, form-width, form-there, rows-are, combined, prime-is}
+use Rattle.ring_degree.proofs.Lookups.{product-inside, product-matrix, product-row, product-length}
+use Rattle.ring_degree.proofs.Lookups.{form-count, form-prime, form-width, form-there, rows-are, combined}
+use Rattle.ring_degree.proofs.Lookups.{prime-is}
 use Rattle.ring_degree.proofs.critical.Pairs.form_of_product.Goals as goal
 
 pub matrix_of-requires : goal.matrix_of-requires
-matrix_of-requires c = product-inside c.args.self.now.gens.now c.args.self.now.tables.now c.args.self.now.width
+matrix_of-requires c = product-inside c.args.self.now.gens.now c.args.self.now.tables.now
+    c.args.self.now.width
     c.args.self.now.forms.now c.requires.pairs c.args.e c.args.i c.args.j c.args.k c.requires.pair
     (omega (arith, c.degree-low.ensures.low, c.degree-low.ensures.value)) (c.degree.result + c.args.e)
     c.index-self-degree.result (ap (λ d. d + c.args.e) c.degree.ensures.value)
@@ -38,9 +40,11 @@ combine-requires-clause-coefficients c =
     ap length c.row-product.ensures.entries ∙ ap (λ rows. length (row rows c.args.k)) m.0
     ∙ product-length g tables c.args.self.now.width forms c.requires.pairs c.args.e c.args.i c.args.j c.args.k
     c.requires.pair positive
-    ∙ sym (form-count g tables c.args.self.now.width forms c.requires.pairs c.args.e c.args.i c.args.j c.args.k
+    ∙ sym (form-count g tables c.args.self.now.width forms c.requires.pairs c.args.e c.args.i c.args.j
+    c.args.k
     c.requires.pair positive)
-    ∙ ap length (rows-are forms c.args.i c.index-self-i.result (form-there g tables c.args.self.now.width forms
+    ∙ ap length (rows-are forms c.args.i c.index-self-i.result
+    (form-there g tables c.args.self.now.width forms
     c.requires.pairs c.args.e c.args.i c.args.j c.args.k c.requires.pair positive))
 
 pub combine-requires-clause-primes : goal.combine-requires-clause-primes
@@ -54,10 +58,12 @@ combine-requires-clause-primes c =
     c.args.k c.requires.pair positive (c.degree.result + c.args.e) c.index-self-degree.result
     c.matrix_of.result.now (ap (λ d. d + c.args.e) c.degree.ensures.value)
     (c.matrix_of.ensures c.matrix_of.result.now) in
-    let p = form-prime g tables c.args.self.now.width forms c.requires.pairs c.args.e c.args.i c.args.j c.args.k
-    c.requires.pair positive c.index-self-i.result in
-    (c.row-product.ensures.modulus ∙ m.1 ∙ sym p,
-    ap (λ (r : RowValue). r.p) c.in_ok-form.ensures ∙ c.prime.ensures.value ∙ sym p)
+    let p = form-prime g tables c.args.self.now.width forms c.requires.pairs c.args.e c.args.i c.args.j
+    c.args.k
+    c.requires.pair positive c.index-self-i.result in (
+      c.row-product.ensures.modulus ∙ m.1 ∙ sym p,
+      ap (λ (r : RowValue). r.p) c.in_ok-form.ensures ∙ c.prime.ensures.value ∙ sym p,
+    )
 
 pub returns : goal.returns
 returns c =
@@ -70,7 +76,8 @@ returns c =
     c.args.k c.requires.pair positive (c.degree.result + c.args.e) c.index-self-degree.result
     c.matrix_of.result.now (ap (λ d. d + c.args.e) c.degree.ensures.value)
     (c.matrix_of.ensures c.matrix_of.result.now) in
-    let p = form-prime g tables c.args.self.now.width forms c.requires.pairs c.args.e c.args.i c.args.j c.args.k
+    let p = form-prime g tables c.args.self.now.width forms c.requires.pairs c.args.e c.args.i c.args.j
+    c.args.k
     c.requires.pair positive c.index-self-i.result in
     combined g tables c.args.self.now.width forms c.requires.pairs c.args.e c.args.i c.args.j c.args.k
     c.requires.pair positive c.combine.new.out c.in_ok-form.form.p

@@ -1,10 +1,10 @@
-use Rattle.std.proofs.Common.{◌≡◌, ℕ, ◌+◌, ◌-◌, ◌<◌, [], length, arith, ap, sym, subst, refl, ◌∙◌}
+use Rattle.std.proofs.Common.{◌≡◌, ◌+◌, ◌-◌, ◌<◌, [], length, arith, ap, sym, subst, refl, ◌∙◌}
 use Rattle.std.specs.Prelude.{slice_index_or}
 use Rattle.std.proofs.lemmas.Bool.{false≢true}
 use Rattle.fp_rows.specs.Values.{MatrixValue}
 use Rattle.ring_completion.specs.Completions.{IsClearBefore}
 use Rattle.ring_degree.specs.Critical.{exchange_row}
-use Rattle.ring_degree.specs.Tables.{at_generator, standard_at}
+use Rattle.ring_degree.specs.Tables.{standard_at}
 use Rattle.ring_degree.proofs.CriticalLists.{monomial-at, length-at, gains-at, gains-not-at, exchanges-gained}
 use Rattle.ring_degree.proofs.Places.{IsClearAt}
 use Rattle.ring_degree.proofs.critical.Pairs.push_exchanges.Goals as goal
@@ -29,7 +29,8 @@ loop-k-preserved c =
         width = ap (λ (m : MatrixValue). m.width) w.in_ok-push_exchange.ensures ∙ c.loop-k.invariant.width;
         rows_are = gains-at (IsClearAt tables e c.args.i)
             (exchange_row (g.prime - 1) g.degrees tables c.args.self.now.width c.args.self.now.forms.now e
-            c.args.i c.args.j) c.args.rows.now.rows c.loop-k.k c.loop-k.rows.rows w.push_exchange.new.rows.rows
+            c.args.i c.args.j) c.args.rows.now.rows c.loop-k.k c.loop-k.rows.rows
+            w.push_exchange.new.rows.rows
             (subst (IsClearBefore c.args.i) (sym read) (w.if-is_clear_before.ensures.0 refl))
             c.loop-k.invariant.rows_are (ap (λ (m : MatrixValue). m.rows) w.in_ok-push_exchange.ensures);
       }

@@ -1,10 +1,10 @@
-use Rattle.std.proofs.Common.{◌≡◌, ℕ, ◌*◌, ◌-◌, ◌<◌, [], length, arith, ap, sym, subst, refl, ◌∙◌}
+use Rattle.std.proofs.Common.{◌≡◌, ◌*◌, ◌-◌, ◌<◌, [], length, arith, ap, sym, subst, refl, ◌∙◌}
 use Rattle.std.specs.Prelude.{slice_index_or}
 use Rattle.std.proofs.lemmas.Bool.{false≢true}
 use Rattle.fp_rows.specs.Values.{MatrixValue}
 use Rattle.ring_completion.specs.Completions.{IsClearBefore}
 use Rattle.ring_degree.specs.Critical.{form_of_product}
-use Rattle.ring_degree.specs.Tables.{at_generator, standard_at}
+use Rattle.ring_degree.specs.Tables.{standard_at}
 use Rattle.ring_degree.proofs.CriticalLists.{monomial-at, length-at, gains-at, gains-not-at, squares-gained}
 use Rattle.ring_degree.proofs.Places.{IsClearAt}
 use Rattle.ring_degree.proofs.critical.Pairs.push_squares.Goals as goal
