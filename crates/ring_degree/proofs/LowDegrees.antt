@@ -1,34 +1,18 @@
--- The first tables, and a degree in which no generator is new.
+-- The first tables.
 use Rattle.std.proofs.Common.{◌≡◌, ℕ, zero, suc, ◌-◌, ◌<◌, ◌≤◌, List, [], ◌∷◌, length, All}
 use Rattle.std.proofs.Common.{arith, ap, sym, subst, ◌∙◌, refl}
 use Rattle.std.specs.Prelude.{slice_index_or}
-use Rattle.std.proofs.lemmas.List.Elements.{All-get_or, All-from_recursion}
-use Rattle.fp_rows.specs.Values.{MatrixValue}
+use Rattle.std.proofs.lemmas.List.Elements.{All-from_recursion}
 use Rattle.graded_polynomials.specs.Monomials.{IsMonomial, IsGreater, IsTrimmed, exponent}
 use Rattle.graded_polynomials.specs.Texts.{power}
 use Rattle.graded_polynomials.proofs.Exponents.{same-exponents}
 use Rattle.gc_poly.specs.Generators.{Generators, greatest}
 use Rattle.ring_completion.specs.Candidates.{AreSome, IsListed}
 use Rattle.ring_completion.proofs.Quotients.{power-trimmed}
-use Rattle.ring_degree.specs.Finishing.{AreFormsBelow, HasNewGenerators}
+use Rattle.ring_degree.specs.Finishing.{HasNewGenerators}
 use Rattle.ring_degree.specs.Tables.{AreMatrices, AreTables, at_generator, products_at, standard_at}
 use Rattle.ring_degree.specs.declared.table.Table.{Table}
 use Rattle.ring_degree.proofs.ProductForms.{one-some}
-
--- forms of the generators, none of which is new
-pub forms-same : (g : Generators) (tables : List Table) (width : ℕ) (forms : List MatrixValue)
-    → AreMatrices g tables (length tables) width forms → AreFormsBelow g tables width forms
-forms-same g tables width forms M = record {
-  count = λ i l b. M.count i l (omega (arith, b));
-  primes = λ i m l b. M.primes i m l (omega (arith, b));
-  widths = λ i m l b. M.widths i m l (omega (arith, b));
-  counts = λ i l b. M.counts i l (omega (arith, b));
-}
-
-pub none-new : (g : Generators) (d : ℕ) (left : List (List ℕ)) → All (λ e. e < d) g.degrees
-    → HasNewGenerators g d left
-none-new g d left below i l b =
-    absurd (let z = All-get_or (λ e. e < d) g.degrees i 0 l below in omega (arith, z, b))
 
 -- the table of degree 0, before generators of degree 1
 module _ (g : Generators) (t : Table) (one : t.standard ≡ [] ∷ [])
