@@ -1,32 +1,18 @@
--- The first tables, and a degree in which no generator is new.
+-- The first tables.
 use Rattle.std.proofs.Common.{◌≡◌, ℕ, zero, suc, ◌-◌, ◌<◌, ◌≤◌, List, [], ◌∷◌, length, All}
-use Rattle.std.proofs.Common.{arith, ap, sym, subst, refl}
+use Rattle.std.proofs.Common.{arith, ap, sym, subst, ◌∙◌, refl}
 use Rattle.std.specs.Prelude.{slice_index_or}
-use Rattle.std.proofs.lemmas.List.Elements.{All-get_or, All-from_recursion}
-use Rattle.fp_rows.specs.Values.{MatrixValue}
-use Rattle.graded_polynomials.specs.Monomials.{IsMonomial, IsGreater}
+use Rattle.std.proofs.lemmas.List.Elements.{All-from_recursion}
+use Rattle.graded_polynomials.specs.Monomials.{IsMonomial, IsGreater, IsTrimmed, exponent}
 use Rattle.graded_polynomials.specs.Texts.{power}
+use Rattle.graded_polynomials.proofs.Exponents.{same-exponents}
 use Rattle.gc_poly.specs.Generators.{Generators, greatest}
 use Rattle.ring_completion.specs.Candidates.{AreSome, IsListed}
-use Rattle.ring_degree.specs.Finishing.{AreFormsBelow, HasNewGenerators}
+use Rattle.ring_completion.proofs.Quotients.{power-trimmed}
+use Rattle.ring_degree.specs.Finishing.{HasNewGenerators}
 use Rattle.ring_degree.specs.Tables.{AreMatrices, AreTables, at_generator, products_at, standard_at}
 use Rattle.ring_degree.specs.declared.table.Table.{Table}
 use Rattle.ring_degree.proofs.ProductForms.{one-some}
-
--- forms of the generators, none of which is new
-pub forms-same : (g : Generators) (tables : List Table) (width : ℕ) (forms : List MatrixValue)
-    → AreMatrices g tables (length tables) width forms → AreFormsBelow g tables width forms
-forms-same g tables width forms M = record {
-  count = λ i l b. M.count i l (omega (arith, b));
-  primes = λ i m l b. M.primes i m l (omega (arith, b));
-  widths = λ i m l b. M.widths i m l (omega (arith, b));
-  counts = λ i l b. M.counts i l (omega (arith, b));
-}
-
-pub none-new : (g : Generators) (d : ℕ) (left : List (List ℕ)) → All (λ e. e < d) g.degrees
-    → HasNewGenerators g d left
-none-new g d left below i l b =
-    absurd (let z = All-get_or (λ e. e < d) g.degrees i 0 l below in omega (arith, z, b))
 
 -- the table of degree 0, before generators of degree 1
 module _ (g : Generators) (t : Table) (one : t.standard ≡ [] ∷ [])
@@ -48,14 +34,6 @@ module _ (g : Generators) (t : Table) (one : t.standard ≡ [] ∷ [])
         counts = λ i k h. absurd (let z = low i k in omega (arith, z, h, l));
       }
 
-  pub first-forms : (width : ℕ) (forms : List MatrixValue) → AreFormsBelow g (t ∷ []) width forms
-  first-forms width forms = record {
-    count = λ i k h. absurd (let z = low i k in omega (arith, z, h));
-    primes = λ i m k h. absurd (let z = low i k in omega (arith, z, h));
-    widths = λ i m k h. absurd (let z = low i k in omega (arith, z, h));
-    counts = λ i k h. absurd (let z = low i k in omega (arith, z, h));
-  }
-
 -- two generators of degree 1
 pub two-low : (i : ℕ) → i < 2 → 1 ≤ at_generator (1 ∷ 1 ∷ []) i
 two-low zero l = omega arith
@@ -71,19 +49,16 @@ two-some = record { each = each; descending = descending }
     each : (i : ℕ) → i < 2 → IsMonomial 1 (1 ∷ 1 ∷ []) 1 (slice_index_or (power 0 1 ∷ power 1 1 ∷ []) i [])
     each zero l = record {
       within = tt;
-      trimmed = ((λ e z. absurd (omega (arith, z))), tt);
+      trimmed = power-trimmed 0;
       fitting = refl;
       degree_is = refl;
     }
     each (suc zero) l = record {
       within = tt;
-      trimmed = ((λ e. absurd (ne e)), (λ e z. absurd (omega (arith, z))), tt);
+      trimmed = power-trimmed 1;
       fitting = refl;
       degree_is = refl;
     }
-      where
-        ne : 1 ∷ [] ≡ [] → ⊥
-        ne e = let z = ap (λ (m : List ℕ). length m) e in omega (arith, z)
     each (suc (suc i)) l = absurd (omega (arith, l))
 
     descending : (i j : ℕ) → i < j → j < 2
@@ -105,17 +80,24 @@ module _ (g : Generators) (two : g ≡ record { prime = 2; degrees = 1 ∷ 1 ∷
   low-degrees = subst (λ (g : Generators). (i : ℕ) → i < length g.degrees → 1 ≤ at_generator g.degrees i)
       (sym two) two-low
 
-  module _ (d : ℕ) (one : d ≡ 1) where
-    pub low-below : All (λ e. e ≤ d) g.degrees
-    low-below = subst (λ (g : Generators). All (λ e. e ≤ d) g.degrees) (sym two)
-        (All-from_recursion (λ e. e ≤ d) (1 ∷ 1 ∷ []) (omega (arith, one), omega (arith, one), tt))
+  module _ (d : ℕ) (one : d ≡ 1) (ms : List (List ℕ)) (m : ms ≡ power 0 1 ∷ power 1 1 ∷ []) where
+    pub low-some : AreSome (greatest g) g.degrees d ms
+    low-some = subst (λ (g : Generators). AreSome (greatest g) g.degrees d ms) (sym two)
+        (subst (λ d. AreSome 1 (1 ∷ 1 ∷ []) d ms) (sym one)
+        (subst (AreSome 1 (1 ∷ 1 ∷ []) 1) (sym m) two-some))
 
-    module _ (ms : List (List ℕ)) (m : ms ≡ power 0 1 ∷ power 1 1 ∷ []) where
-      pub low-some : AreSome (greatest g) g.degrees d ms
-      low-some = subst (λ (g : Generators). AreSome (greatest g) g.degrees d ms) (sym two)
-          (subst (λ d. AreSome 1 (1 ∷ 1 ∷ []) d ms) (sym one)
-          (subst (AreSome 1 (1 ∷ 1 ∷ []) 1) (sym m) two-some))
+    pub low-new : HasNewGenerators g d ms
+    low-new i l b = subst (λ ms. IsListed ms (power i 1)) (sym m)
+        (two-listed i (subst (λ (g : Generators). i < length g.degrees) two l))
 
-      pub low-new : HasNewGenerators g d ms
-      low-new i l b = subst (λ ms. IsListed ms (power i 1)) (sym m)
-          (two-listed i (subst (λ (g : Generators). i < length g.degrees) two l))
+-- a power from its exponents, and a greater power before a smaller one
+pub power-from : (i : ℕ) (m es : List ℕ) → IsTrimmed m → ((j : ℕ) → exponent m j ≡ exponent es j)
+    → es ≡ power i 1 → m ≡ power i 1
+power-from i m es t h e = same-exponents m (power i 1) t (power-trimmed i)
+    (λ j. h j ∙ ap (λ xs. exponent xs j) e)
+
+pub above-last : (ms : List (List ℕ)) (y : List ℕ) → ms ≡ power 0 1 ∷ [] → y ≡ power 1 1
+    → All (λ n. IsGreater n y) ms
+above-last ms y e f = subst (All (λ n. IsGreater n y)) (sym e)
+    (subst (λ y. All (λ n. IsGreater n y) (power 0 1 ∷ [])) (sym f)
+    (All-from_recursion (λ n. IsGreater n (power 1 1)) (power 0 1 ∷ []) (first-greater, tt)))
