@@ -1,4 +1,4 @@
-use Rattle.std.proofs.Common.{◌≡◌, ℕ, List, [], ◌∷◌, ◌++◌, ap, refl, ◌∙◌}
+use Rattle.std.proofs.Common.{ℕ, List, [], ◌∷◌, ◌++◌, ap, refl, ◌∙◌}
 use Rattle.graded_polynomials.specs.Texts.{power}
 use Rattle.ring_degree.proofs.LowDegrees.{power-from, above-last}
 use Rattle.ring_degree.proofs.tests.monomials.Goals as goal
