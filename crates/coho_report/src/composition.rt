@@ -39,12 +39,7 @@ fn ranks_below(alloc: Global, res: &Resolution, c: u32) -> Result<Vec<usize>, Al
 /// to the maximal elementary abelian subgroups, and the parameters. `TooLarge` comes exactly where over a
 /// listed subgroup a dimension of degrees 1 to n is above the limit: it names the first such subgroup and its
 /// first such degree.
-pub fn compose(
-    alloc: Global,
-    res: &Resolution,
-    n: u32,
-    limit: u64,
-) -> Result<Report, ReportFault>
+pub fn compose(alloc: Global, res: &Resolution, n: u32, limit: u64) -> Result<Report, ReportFault>
     requires from { 1 ≤ n }
     requires to { n ≤ res.now.last }
     requires high { n ≤ GREATEST_DEGREE }

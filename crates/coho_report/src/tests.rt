@@ -47,12 +47,7 @@ fn reported(rt: &impl Abort, alloc: Global, kind: SmallGroup, degree: u32) -> Re
     requires high { degree ≤ GREATEST_DEGREE }
 {
     let resolution = resolved(rt, alloc, kind, degree)?;
-    let report = compose(
-        alloc,
-        &resolution,
-        degree,
-        GREATEST_DIMENSION,
-    )?;
+    let report = compose(alloc, &resolution, degree, GREATEST_DIMENSION)?;
     Ok(report)
 }
 

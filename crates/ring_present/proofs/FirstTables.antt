@@ -1,5 +1,5 @@
 -- The table of degree 0, and the tables of a ring.
-use Rattle.std.proofs.Common.{◌≡◌, ℕ, zero, suc, ◌<◌, List, [], ◌∷◌, ◌++◌, length, map, ◌⊎◌, inl, inr, arith}
+use Rattle.std.proofs.Common.{◌≡◌, ℕ, zero, suc, ◌<◌, List, [], ◌∷◌, ◌++◌, length, map, inl, inr, arith}
 use Rattle.std.proofs.Common.{ap}
 use Rattle.std.proofs.Common.{sym, ◌∙◌, refl}
 use Rattle.std.specs.Prelude.{Option, Some, None, IfSome, slice_index_or}
@@ -14,9 +14,9 @@ use Rattle.chain_lift.specs.Values.{LiftValue}
 use Rattle.ring_completion.specs.Candidates.{AreCandidates, AreSome}
 use Rattle.ring_degree.specs.Tables.{AreTables, AreTablesOf, standard_at}
 use Rattle.ring_degree.specs.declared.table.Table.{Table}
-use Rattle.ring_present.specs.Degrees.{classes, degrees_of, kept}
+use Rattle.ring_present.specs.Degrees.{kept}
 use Rattle.ring_present.specs.Graded.{graded_classes}
-use Rattle.ring_present.specs.KnownTables.{HasTables, IsFirstTable, IsFirst, IsTableStore}
+use Rattle.ring_present.specs.KnownTables.{HasTables, IsFirst, IsTableStore}
 use Rattle.ring_present.specs.KnownTables.{AreCandidatesOf, IsCandidateStore}
 use Rattle.ring_present.specs.Rings.{cohomology}
 use Rattle.ring_present.specs.Stores.{IsRingStore}

@@ -6,12 +6,11 @@ use Rattle.std.proofs.Common.{refl, append_assoc}
 use Rattle.std.proofs.lemmas.Bool.{cases_order}
 use Rattle.std.specs.Prelude.{slice_index_or, All}
 use Rattle.std.specs.List.{AllByRecursion as Each}
-use Rattle.std.proofs.lemmas.List.{get_or_past, get_or_push, get_or_append_left, length_push, get_or_default}
+use Rattle.std.proofs.lemmas.List.{get_or_past, get_or_push, get_or_append_left, length_push}
 use Rattle.std.proofs.lemmas.List.Elements.{All-from_get_or}
 use mathlib.Core.Path.{subst}
 use Rattle.p_groups.specs.PGroups.{PGroup, largest_residue}
 use Rattle.p_groups.proofs.Fields.{field}
-use Rattle.linear_algebra.specs.Kernels.{IsKernelOf}
 use Rattle.fp_rows.specs.Values.{MatrixValue}
 use Rattle.graded_polynomials.specs.Monomials.{exponent, joined, IsGreater, IsMonomial, IsTrimmed}
 use Rattle.graded_polynomials.specs.Polynomials.{Polynomial}
@@ -21,17 +20,16 @@ use Rattle.graded_polynomials.proofs.Monomials.{trimmed-joined}
 use Rattle.graded_algebra.specs.Algebras.{Generator, degrees}
 use Rattle.graded_algebra.specs.Presentations.{IsRelations}
 use Rattle.graded_algebra.specs.Vectors.{Vector, residue, IsOfDegree}
-use Rattle.graded_algebra.proofs.MoreGenerators.{degrees-append}
 use Rattle.presentation_rows.specs.Factors.{IsLastFactor}
 use Rattle.presentation_rows.specs.Values.{vector, AreValues}
 use Rattle.min_res.specs.Stages.{rank_of}
 use Rattle.chain_lift.specs.Values.{LiftValue}
-use Rattle.ring_completion.specs.Candidates.{AreSome, AreLeft, IsQuotient}
+use Rattle.ring_completion.specs.Candidates.{AreLeft, IsQuotient}
 use Rattle.ring_completion.proofs.Factors.{power-here, power-elsewhere}
 use Rattle.ring_completion.proofs.Quotients.{power-trimmed, consequence-by-quotient}
 use Rattle.ring_completion.proofs.Results.{free, left-and-last, values-and-last}
 use Rattle.ring_present.specs.Rings.{cohomology}
-use Rattle.ring_present.specs.Degrees.{classes, degrees_of, new_lift, AreLeftOf, AreValued}
+use Rattle.ring_present.specs.Degrees.{classes, degrees_of, new_lift, AreLeftOf}
 use Rattle.ring_present.specs.Degrees.{HasStandardQuotients}
 use Rattle.ring_present.specs.declared.degree.Valued.{Valued}
 use Rattle.ring_present.proofs.Factors.{degrees-are}

@@ -19,7 +19,7 @@ use Rattle.chain_lift.specs.Values.{LiftValue}
 use Rattle.ring_completion.specs.Candidates.{AreCandidates}
 use Rattle.ring_completion.proofs.AddedCandidates.{candidates-with-last}
 use Rattle.ring_present.specs.Rings.{cohomology}
-use Rattle.ring_present.specs.Degrees.{classes, degrees_of, IsLiftBelow}
+use Rattle.ring_present.specs.Degrees.{classes, IsLiftBelow}
 use Rattle.ring_present.specs.Graded.{graded_classes}
 use Rattle.ring_present.specs.KnownTables.{AreCandidatesOf}
 use Rattle.ring_present.specs.Nexts.{IsLiftOf}

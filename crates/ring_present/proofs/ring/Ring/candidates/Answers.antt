@@ -1,4 +1,4 @@
-use Rattle.std.proofs.Common.{◌≡◌, ◌∙◌, ap, sym, length, map}
+use Rattle.std.proofs.Common.{◌∙◌, ap}
 use mathlib.Core.Path.{subst}
 use Rattle.p_groups.specs.PGroups.{largest_residue}
 use Rattle.ring_completion.specs.Candidates.{AreCandidates}

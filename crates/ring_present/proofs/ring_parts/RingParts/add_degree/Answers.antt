@@ -1,4 +1,4 @@
-use Rattle.std.proofs.Common.{◌≡◌, ℕ, suc, ◌+◌, ◌-◌, List, ◌++◌, [], ◌∷◌, length, map, arith, ap, ap₂, sym}
+use Rattle.std.proofs.Common.{◌≡◌, ℕ, suc, List, ◌++◌, [], ◌∷◌, length, map, arith, ap, ap₂, sym}
 use Rattle.std.proofs.Common.{◌∙◌, add-one, append_assoc}
 use Rattle.std.proofs.lemmas.List.{with_items_is, length_push}
 use mathlib.Core.Path.{subst}

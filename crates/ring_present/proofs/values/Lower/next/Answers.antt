@@ -1,9 +1,9 @@
-use Rattle.std.proofs.Common.{◌≡◌, ℕ, suc, ◌<◌, ◌≤◌, List, [], ◌++◌, length, arith, ap, sym, ◌∙◌, refl}
+use Rattle.std.proofs.Common.{ℕ, suc, ◌<◌, ◌≤◌, List, [], ◌++◌, length, arith, ap, sym, ◌∙◌, refl}
 use Rattle.std.proofs.Common.{add-one, length-append}
 use Rattle.std.specs.Prelude.{All}
 use Rattle.std.proofs.lemmas.List.Elements.{All-weaker, All-map}
 use mathlib.Core.Path.{subst}
-use Rattle.p_groups.specs.PGroups.{PGroup, largest_residue}
+use Rattle.p_groups.specs.PGroups.{PGroup}
 use Rattle.p_groups.proofs.Fields.{residues}
 use Rattle.gc_poly.specs.Generators.{Generators, greatest}
 use Rattle.presentation_rows.specs.Values.{AreUnitRows}
@@ -14,7 +14,7 @@ use Rattle.ring_completion.specs.Candidates.{AreSome}
 use Rattle.fp_rows.specs.Values.{MatrixValue}
 use Rattle.ring_degree.specs.Finishing.{AreFormsBelow}
 use Rattle.ring_degree.specs.Tables.{AreMatrices, AreTables}
-use Rattle.ring_present.specs.Degrees.{IsLower, IsLiftBelow, degrees_of}
+use Rattle.ring_present.specs.Degrees.{IsLower, degrees_of}
 use Rattle.ring_present.specs.KnownTables.{AreCandidatesOf, generators_from}
 use Rattle.ring_present.specs.Nexts.{IsLiftOf}
 use Rattle.ring_present.specs.declared.degree.Valued.{Valued}
