@@ -1,10 +1,10 @@
 -- Places of words.
 use Rattle.std.proofs.Common.{◌≡◌, ◌≢◌, ℕ, ◌+◌, ◌-◌, ◌*◌, ◌/◌, ◌%◌, ◌^◌, ◌<◌, ◌≤◌, ◌⊎◌, inl, inr, max, List}
 use Rattle.std.proofs.Common.{length, set, get_or, replicate, bit_and, bit_or, bit_xor, arith, ap, sym, ◌∙◌}
-use Rattle.std.proofs.Common.{refl}
+use Rattle.std.proofs.Common.{refl, take}
 use Rattle.std.proofs.lemmas.Bool.{cases_eq, cases_lt}
 use Rattle.std.proofs.lemmas.List.{get_or_past, get_or-set_same, get_or-set_other, ext_get_or}
-use Rattle.std.proofs.lemmas.List.{get_or-replicate, length-replicate}
+use Rattle.std.proofs.lemmas.List.{get_or-replicate, length-replicate, get_or-take, length-take}
 use Rattle.std.proofs.lemmas.List.FromFn.{length-map-range_with_len, get_or-map-range_with_len}
 use Rattle.std.proofs.lemmas.Nat.{shr-shr, shr_split, and_mask, pow_pos, one_shl, mod_below}
 use Rattle.std.proofs.lemmas.Nat.Bits.{bit_at-zero, bit_at-lt, bit_at_above, bit_at_cat_low, bit_at_cat_high}
@@ -222,3 +222,16 @@ low_small n k l = let e : bit_and n (1 * 2 ^ k % 2 ^ 64 - 1) ≡ n % 2 ^ k =
 
 pub whole_small : (n k : ℕ) → n < 2 ^ 64 → 64 ≤ k → k ≤ 64 → n < 2 ^ k
 whole_small n k l a b = let e : k ≡ 64 = omega arith in rw e l
+
+-- ---- the first words
+pub place_in_front : (ws : List ℕ) (n j : ℕ) → j / 64 < n → place (take n ws) j ≡ place ws j
+unfolding place
+place_in_front ws n j l = ap (λ x. bit_at x (j % 64)) (get_or-take n ws (j / 64) 0 l)
+
+pub place_after_front : (ws : List ℕ) (n j : ℕ) → n ≤ j / 64 → place (take n ws) j ≡ 0
+place_after_front ws n j l = place_past (take n ws) j
+    (omega (arith, l, length-take n ws))
+
+-- a number added that is 0
+pub nothing_added_at : (ws : List ℕ) (j x : ℕ) → x ≡ 0 → place ws j ≡ (place ws j + x) % 2
+nothing_added_at ws j x e = omega (arith, e, place_below ws j)

@@ -28,14 +28,14 @@ pub(crate) fn flip(words: &mut [u64], i: usize)
     words[i / 64] ^= 1 << (i % 64);
 }
 
-/// Adds at each place the number of src.
+/// Adds words to the first words: at each place the number of src.
 pub(crate) fn add_words(dst: &mut [u64], src: &[u64])
-    requires { length src.now ≡ length dst.old }
+    requires { length src.now ≤ length dst.old }
     ensures same_length { length dst.new ≡ length dst.old }
     ensures sums { (j : ℕ) → place dst.new j ≡ (place dst.old j + place src.now j) % 2 }
 {
-    for (i, x) in dst.iter_mut().enumerate() {
-        *x ^= src[i];
+    for (i, x) in src.iter().enumerate() {
+        dst[i] ^= *x;
     }
 }
 
@@ -73,8 +73,24 @@ fn lowest(word: u64, count: usize) -> u64
     }
 }
 
-/// Adds at each of the first `len` places of dst the number of src, from place `from` of src on.
-pub(crate) fn add_places(dst: &mut [u64], src: &[u64], from: usize, len: usize)
+// Adds at each of the first `len` places the number of src: whole words, and then the lowest bits of one.
+fn add_first_places(dst: &mut [u64], src: &[u64], len: usize)
+    requires words { length dst.old ≡ (len + 63) / 64 }
+    requires whole { len / 64 ≤ length src.now }
+    ensures same_length { length dst.new ≡ length dst.old }
+    ensures sums { (j : ℕ) → j < len → place dst.new j ≡ (place dst.old j + place src.now j) % 2 }
+    ensures rest { (j : ℕ) → len ≤ j → place dst.new j ≡ place dst.old j }
+{
+    let whole = len / 64;
+    add_words(dst, &src[..whole]);
+    if whole < dst.len() {
+        add_to_word(dst, whole, lowest(word_or_zero(src, whole), len % 64));
+    }
+}
+
+// Adds at each of the first `len` places of dst the number of src, from place `from` of src on, by shifted
+// words.
+fn add_shifted_places(dst: &mut [u64], src: &[u64], from: usize, len: usize)
     requires words { length dst.old ≡ (len + 63) / 64 }
     requires small { from + len < 2 ^ 64 }
     ensures same_length { length dst.new ≡ length dst.old }
@@ -83,6 +99,21 @@ pub(crate) fn add_places(dst: &mut [u64], src: &[u64], from: usize, len: usize)
 {
     for (k, x) in dst.iter_mut().enumerate() {
         *x ^= lowest(word_from(src, from + 64 * k), len - 64 * k);
+    }
+}
+
+/// Adds at each of the first `len` places of dst the number of src, from place `from` of src on.
+pub(crate) fn add_places(dst: &mut [u64], src: &[u64], from: usize, len: usize)
+    requires words { length dst.old ≡ (len + 63) / 64 }
+    requires small { from + len < 2 ^ 64 }
+    ensures same_length { length dst.new ≡ length dst.old }
+    ensures sums { (j : ℕ) → j < len → place dst.new j ≡ (place dst.old j + place src.now (from + j)) % 2 }
+    ensures rest { (j : ℕ) → len ≤ j → place dst.new j ≡ place dst.old j }
+{
+    if from == 0 && len / 64 <= src.len() {
+        add_first_places(dst, src, len);
+    } else {
+        add_shifted_places(dst, src, from, len);
     }
 }
 

@@ -8,7 +8,7 @@ ghost use Rattle.radical_layers.specs.Placing.{place_of};
 ghost use Rattle.fp_rows.specs.Refs.{entries_of, modulus_of};
 ghost use Rattle.p_groups.specs.PGroups.{largest_residue, group as group_of, order_of, prime_of};
 ghost use Rattle.group_algebra.specs.Coordinates.{free_module, layers, sizes, row_of, table_of, product_with};
-ghost use Rattle.group_algebra.specs.Coordinates.{AreCoefficients};
+ghost use Rattle.group_algebra.specs.Coordinates.{AreCoefficients, member};
 ghost use Rattle.group_algebra.specs.RowMaps.{map_row, IsBlock};
 
 use crate::combinations::{Images, add_image, is_zero_block};
@@ -184,6 +184,29 @@ impl Algebra {
         add_image(&self.places, images, rank, 1, v, out);
     }
 
+    /// Writes the product of member k of the layer basis, counted from 0, and a member v of kG^rank.
+    pub fn multiply_by_member(&self, rank: usize, k: usize, v: RowRef<'_>, out: &mut Row)
+        requires member { k < order_of self.now }
+        requires modulus { modulus_of v ≡ prime_of self.now }
+        requires prime { out.old.p ≡ prime_of self.now }
+        requires length { length (entries_of v) ≡ order_of self.now * rank }
+        requires out_length { length out.old.entries ≡ order_of self.now * rank }
+        ensures prime { out.new.p ≡ out.old.p }
+        ensures product { out.new.entries
+            ≡ row_of self.now rank (product_with self.now rank (member self.now k)
+            (table_of self.now rank (entries_of v.entry))) }
+    {
+        let _length = v.len();
+        let images = Images {
+            rows: &self.products,
+            first: k,
+            step: self.group.order() as usize,
+            factors: &[],
+        };
+        out.clear();
+        add_image(&self.places, images, rank, 1, v, out);
+    }
+
     /// Adds a v: the product of a member of kG and one of kG^rank.
     pub fn scale_add(&self, rank: usize, a: RowRef<'_>, v: RowRef<'_>, out: &mut Row)
         requires moduli { (modulus_of a ≡ prime_of self.now) × (modulus_of v ≡ prime_of self.now) }
@@ -249,16 +272,7 @@ impl Algebra {
             ≡ map_row self.now rank rows.now.rows (unit_row (order_of self.now * length rows.now.rows) j) }
     {
         let location = self.places.location(rows.rows(), j);
-        let row = rows.row(location.block);
-        let _length = row.len();
-        let images = Images {
-            rows: &self.products,
-            first: location.member,
-            step: self.group.order() as usize,
-            factors: &[],
-        };
-        out.clear();
-        add_image(&self.places, images, rank, 1, row, out);
+        self.multiply_by_member(rank, location.member, rows.row(location.block), out);
     }
 
     // The entries of a block, and 0 after them.

@@ -140,13 +140,17 @@ fn finds_the_radical_layers(rt: HostRuntime) -> Result<(), Fail> {
     assert_layers(&rt, rt.alloc(), NINE, &[1, 2, 3, 2, 1])
 }
 
+fn are_found(alloc: Global, algebra: &Algebra, elements: &[u16]) -> Result<bool, Fail> {
+    let found = generators(alloc, algebra.group().as_group())?;
+    Ok(found.len() == elements.len() && found.iter().zip(elements).all(|(x, y)| x == y))
+}
+
 // x and y generate the quaternions, where y has the number 4.
 #[test]
 fn finds_generators(rt: HostRuntime) -> Result<(), Fail> {
     let algebra = algebra_of(&rt, rt.alloc(), QUATERNION)?;
-    let found = generators(rt.alloc(), algebra.group().as_group())?;
-    assert_eq!(rt; found.len(), 2);
-    assert_eq!(rt; (found[0], found[1]), (1, 4));
+    let found = are_found(rt.alloc(), &algebra, &[1, 4])?;
+    assert!(rt; found);
     Ok(())
 }
 
@@ -321,6 +325,31 @@ fn applied_to_unit(
     let mut out = Row::zero(alloc, p, n)?;
     algebra.apply_to_unit(1, &map, j, &mut out);
     Ok(out)
+}
+
+// The product of member k of the layer basis and v.
+fn multiplied(
+    rt: &impl Abort,
+    alloc: Global,
+    algebra: &Algebra,
+    k: usize,
+    v: &[u8],
+) -> Result<Row, Fail> {
+    let p = algebra.group().prime();
+    let n = algebra.group().order() as usize;
+    assert!(rt; k < n && v.len() == n);
+    let mut out = Row::zero(alloc, p, n)?;
+    algebra.multiply_by_member(1, k, row_of(rt, alloc, p, v)?.view(), &mut out);
+    Ok(out)
+}
+
+// In the algebra of C2, with x = g - 1 and x^2 = 0: 1 (1 + x) = 1 + x, and x (1 + x) = x.
+#[test]
+fn multiplies_by_members(rt: HostRuntime) -> Result<(), Fail> {
+    let algebra = algebra_of(&rt, rt.alloc(), TWO)?;
+    assert!(rt; shows(&multiplied(&rt, rt.alloc(), &algebra, 0, &[1, 1])?, &[1, 1]));
+    assert!(rt; shows(&multiplied(&rt, rt.alloc(), &algebra, 1, &[1, 1])?, &[0, 1]));
+    Ok(())
 }
 
 // In the algebra of C2, with x = g - 1 and x^2 = 0: x 1 + (1 + x) (1 + x) = 1 + x, and 1 + (1 + x) = x.

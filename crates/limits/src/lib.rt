@@ -14,9 +14,6 @@ pub const GREATEST_ORDER: u64 = 128;
 /// The greatest dimension over F_p of the free module of a stage.
 pub const GREATEST_DIMENSION: u64 = 4096;
 
-/// The most monomials of a degree, in the generators of lower degree.
-pub const MOST_MONOMIALS: u64 = 4096;
-
 /// The greatest degree of a class, a polynomial or a stage.
 pub const GREATEST_DEGREE: u32 = 24;
 

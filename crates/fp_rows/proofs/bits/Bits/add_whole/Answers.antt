@@ -13,8 +13,10 @@ add_words-requires c =
     let m : length c.args.r.now ≡ c.r.inside.len = sym (ap length c.r.view_is)
     ∙ length-places c.r.inside.words.items 0 c.r.inside.len in
     let k : c.r.inside.len ≡ c.self.inside.len = omega (arith, n, m, c.requires) in
+    let e : length c.deref.result.now ≡ length c.deref_mut.result.now =
     ap length c.deref.ensures.value ∙ c.r.invariant.count ∙ ap (λ l. (l + 63) / 64) k
-    ∙ sym c.self.invariant.count ∙ sym (ap length c.deref_mut.ensures.value)
+    ∙ sym c.self.invariant.count ∙ sym (ap length c.deref_mut.ensures.value) in
+    omega (arith, e)
 
 pub invariant_of-self : goal.invariant_of-self
 invariant_of-self c =

@@ -1,7 +1,7 @@
 use Rattle.std.proofs.Common.{◌+◌, arith, ap, ◌∙◌}
 use Rattle.fp_rows.specs.Places.{place}
 use Rattle.fp_rows.proofs.PlaceLemmas.{added_more}
-use Rattle.fp_rows.proofs.words.add_places.Goals as goal
+use Rattle.fp_rows.proofs.words.add_shifted_places.Goals as goal
 
 pub loop-k-preserved : goal.loop-k-preserved
 loop-k-preserved c = added_more c.loop-k.dst c.args.dst.now
