@@ -59,7 +59,7 @@ module _ (G : PGroup) where
     claims : RadicalGeneratorClaims q (group G) (sum_coordinates G) (layers G) b (layer_coordinates G b) E E
         (whole.products.0)
     claims = radical-claims q (field G) (group G) (prime_power G) (sum_coordinates G) (layers G) (layers_are G)
-        b (layer_coordinates G b) E E (whole.products.0) whole.generators whole.products.1.1
+        b (layer_coordinates G b) E E (whole.products.0) whole.generators whole.products.2
 
     -- the members of K_d are those with rows in the span of its list
     in-span : (v : (free G d).of) → K G d v → IsInSpan (suc q) E (entry (row_of G b v))
@@ -71,7 +71,7 @@ module _ (G : PGroup) where
     module _ (B : BasisValue) (N : IsBasisOfImages b (suc q) (order_of G * b) E B.vectors B.origins) where
       abbrev basis : IsNegBasisOf (suc q) (order_of G * b) (layer_count G) (layer_products G b)
           (whole.products.0) B.vectors B.origins
-      basis = N (whole.products.0) whole.products.1.1
+      basis = N (whole.products.0) whole.products.2
 
       radical-at : B.p ≡ prime_of G → B.width ≡ order_of G * b → IsRadicalBasis G d B
       radical-at e f = record {
