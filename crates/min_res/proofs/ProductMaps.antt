@@ -30,7 +30,8 @@ module _ (G : PGroup) where
   layer-inside : 1 < (layers G).count → (k : ℕ) → k < layer_count G
       → length ((layers G).positions 0) + k < order_of G
   layer-inside some k l = subst (λ c. length ((layers G).positions 0) + k < c)
-      (basis-size q (field G) (group G) (sum_coordinates G) (layers G) (layers_are G)) (places.inside some k l)
+      (basis-size q (field G) (group G) (sum_coordinates G) (layers G) (layers_are G))
+      (places.inside some k l)
 
   -- the member of the layer basis is one
   pub member-inside : {before count : ℕ} → AreFirst G before count → (k : ℕ) → k < layer_count G

@@ -58,8 +58,8 @@ module _ (G : PGroup) where
 
     claims : RadicalGeneratorClaims q (group G) (sum_coordinates G) (layers G) b (layer_coordinates G b) E E
         (whole.products.0)
-    claims = radical-claims q (field G) (group G) (prime_power G) (sum_coordinates G) (layers G) (layers_are G)
-        b (layer_coordinates G b) E E (whole.products.0) whole.generators whole.products.2
+    claims = radical-claims q (field G) (group G) (prime_power G) (sum_coordinates G) (layers G)
+        (layers_are G) b (layer_coordinates G b) E E (whole.products.0) whole.generators whole.products.2
 
     -- the members of K_d are those with rows in the span of its list
     in-span : (v : (free G d).of) → K G d v → IsInSpan (suc q) E (entry (row_of G b v))

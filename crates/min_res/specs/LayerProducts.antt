@@ -18,4 +18,5 @@ module _ (G : PGroup) where
   module _ (b : ℕ) where
     -- the products by the members of layer 1 on rows of kG^b
     abbrev pub layer_products : ℕ → (ℕ → ℕ) → ℕ → ℕ
-    layer_products = maps (largest_residue G) (group G) (sum_coordinates G) (layers G) b (layer_coordinates G b)
+    layer_products = maps (largest_residue G) (group G) (sum_coordinates G) (layers G) b
+        (layer_coordinates G b)

@@ -3,7 +3,8 @@ use Rattle.min_res.proofs.ProductMaps.{no-members}
 use Rattle.min_res.proofs.layer_products.first_layer.Goals as goal
 
 pub returns-then-layers-lt2 : goal.returns-then-layers-lt2
-returns-then-layers-lt2 c = no-members c.args.algebra.now (omega (arith, c.if-layers-lt2.true, c.layers.ensures))
+returns-then-layers-lt2 c = no-members c.args.algebra.now
+    (omega (arith, c.if-layers-lt2.true, c.layers.ensures))
 
 pub returns : goal.returns
 returns c = record {

@@ -52,7 +52,8 @@ overflow_mul-images c = let few_rows : c.rows-rows.result ≤ 2 ^ 28 = omega (
     omega (arith, mul-le c.rows-rows.result c.count-count.result (2 ^ 28) (2 ^ 8) few_rows few_maps)
 
 pub of_images-requires-clause-same_field : goal.of_images-requires-clause-same_field
-of_images-requires-clause-same_field c = c.requires.list_prime ∙ ap prime_of (sym c.new-products.ensures.algebra)
+of_images-requires-clause-same_field c = c.requires.list_prime
+    ∙ ap prime_of (sym c.new-products.ensures.algebra)
 
 pub of_images-requires-clause-same_width : goal.of_images-requires-clause-same_width
 of_images-requires-clause-same_width c = c.requires.list_width

@@ -12,5 +12,5 @@ invariant_of-self-2 g c =
     c.in_ok-next.next c.in_ok-stage.stage c.self.invariant (omega arith)
     (ap (λ (v : ResolutionValue). v.group) c.self.view_is)
     (ap (λ (v : ResolutionValue). v.last) c.self.view_is) c.requires.few
-    c.in_ok-stage.ensures.stage c.in_ok-stage.ensures.width limit (λ B e. none-some B e) c.in_ok-next.ensures.ok
-    c.in_ok-push.ensures.items
+    c.in_ok-stage.ensures.stage c.in_ok-stage.ensures.width limit (λ B e. none-some B e)
+    c.in_ok-next.ensures.ok c.in_ok-push.ensures.items

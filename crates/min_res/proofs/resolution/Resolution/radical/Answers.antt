@@ -34,6 +34,6 @@ returns-clause-none c = none-exactly c.as_ref.result c.self.inside.radical c.arg
 pub returns-clause-basis : goal.returns-clause-basis
 returns-clause-basis c = basis-is c.args.self.now.group c.as_ref.result c.self.inside.radical
     c.args.self.now.last c.as_ref.ensures.value
-    (radical-at _ c.args.self.now.group c.self.inside.radical c.self.inside.stages.items _ c.args.self.now.last
-    c.self.invariant (ap (λ (v : ResolutionValue). v.group) c.self.view_is)
+    (radical-at _ c.args.self.now.group c.self.inside.radical c.self.inside.stages.items _
+    c.args.self.now.last c.self.invariant (ap (λ (v : ResolutionValue). v.group) c.self.view_is)
     (ap (λ (v : ResolutionValue). v.last) c.self.view_is))
