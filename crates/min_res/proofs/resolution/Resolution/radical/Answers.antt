@@ -1,4 +1,4 @@
-use Rattle.std.proofs.Common.{◌≡◌, ℕ, suc, arith, rules, ap, sym, refl, ◌∙◌, Bor}
+use Rattle.std.proofs.Common.{◌≡◌, ℕ, suc, arith, rules, ap, sym, ◌∙◌, Bor}
 use Rattle.std.specs.Prelude.{Option, None, Some, Bool, true, false, is_some, IsNone, IfSome}
 use Rattle.std.specs.Option.{option_copied}
 use mathlib.Core.Path.{subst}
