@@ -1,6 +1,6 @@
 -- The images of rows that are taken one after another, and the rows whose images are left out.
 use Rattle.std.proofs.Common.{◌≡◌, ℕ, zero, suc, ◌+◌, ◌-◌, ◌*◌, ◌<◌, ◌≤◌, ◌⊎◌, List, [], ◌∷◌, ◌++◌, length}
-use Rattle.std.proofs.Common.{take, replicate, inl, inr, arith, ap, sym, ◌∙◌, refl}
+use Rattle.std.proofs.Common.{replicate, inl, inr, arith, ap, sym, ◌∙◌, refl}
 use Rattle.std.proofs.lemmas.Bool.{cases_lt}
 use Rattle.std.proofs.lemmas.List.{length_push, get_or-take, length-take-le, length-replicate}
 use Rattle.std.proofs.Math.Nat.{mul-le-mul_right}
@@ -14,9 +14,7 @@ use Rattle.linear_algebra.proofs.Congruences.{congruent_refl, congruent_add, con
 use Rattle.linear_algebra.proofs.Congruences.{congruent_sym}
 use Rattle.linear_algebra.proofs.Spans.{in_span_congruent, in_span_add, in_span_zero, in_span_trans}
 use Rattle.linear_algebra.proofs.Spans.{row_push, row_before_push}
-use Rattle.neg_basis.specs.Maps.{IsClosed}
 use Rattle.neg_basis.specs.Images.{AreImages}
-use Rattle.neg_basis.specs.Bases.{IsReducedMultiple}
 use Rattle.neg_basis.specs.Results.{IsNegBasisOf}
 use Rattle.neg_basis.specs.Turns.{IsAdded, IsNew, IsWorked, TakesGenerator, TakesImages}
 use Rattle.neg_basis.specs.declared.origin.Origin.{Origin}

@@ -1,4 +1,4 @@
-use Rattle.std.proofs.Common.{◌*◌, ◌%◌, map, arith, ap, ◌∙◌, refl}
+use Rattle.std.proofs.Common.{◌*◌, ◌%◌, arith, ap, ◌∙◌, refl}
 use Rattle.linear_algebra.specs.Rows.{entry}
 use Rattle.group_table.specs.Prime.{prime_value}
 use Rattle.linear_algebra.proofs.RowLemmas.{is_scaled}

@@ -1,5 +1,5 @@
 use Rattle.std.proofs.Common.{◌≡◌, ◌+◌, ◌*◌, ◌<◌, ◌≤◌, ℕ, List, [], length, map, replicate, arith, ap}
-use Rattle.std.proofs.Common.{sym, ◌∙◌, refl}
+use Rattle.std.proofs.Common.{sym, ◌∙◌}
 use mathlib.Core.Path.{subst}
 use Rattle.std.proofs.Math.Nat.{mul-le-mul_right}
 use Rattle.linear_algebra.specs.Modular.{IsCongruent, IsFieldModulo}
@@ -64,9 +64,9 @@ pub insert-requires-clause-same_width : goal.insert-requires-clause-same_width
 insert-requires-clause-same_width g c = c.reduce_by.ensures.row.length_is ∙ c.loop-r.invariant.same_width
     ∙ sym c.loop-r.invariant.rest_width
 
-pub take_images-requires-then-rows-before-clause-images_fit :
-    goal.take_images-requires-then-rows-before-clause-images_fit
-take_images-requires-then-rows-before-clause-images_fit g c =
+pub take_images-requires-clause-images_fit :
+    goal.take_images-requires-clause-images_fit
+take_images-requires-clause-images_fit g c =
     let fit : (c.loop-r.r + 1) * g.T.Ops.maps c.args.ops.now
     ≤ length c.args.list.now.rows * g.T.Ops.maps c.args.ops.now =
     mul-le-mul_right (g.T.Ops.maps c.args.ops.now)
@@ -74,16 +74,16 @@ take_images-requires-then-rows-before-clause-images_fit g c =
     omega (arith, c.loop-r-test.true, c.rows-r-end.ensures.count) in l) in
     omega (arith, fit, c.requires.images_fit)
 
-pub take_images-requires-then-rows-before-clause-row_is :
-    goal.take_images-requires-then-rows-before-clause-row_is
-take_images-requires-then-rows-before-clause-row_is g c = rw (
+pub take_images-requires-clause-row_is :
+    goal.take_images-requires-clause-row_is
+take_images-requires-clause-row_is g c = rw (
   c.loop-r.invariant.same_field,
   c.loop-r.invariant.same_width,
   c.row-row.ensures.entries,
 ) c.row-row.ensures.is_row
 
-pub take_images-requires-then-rows-before-clause-row : goal.take_images-requires-then-rows-before-clause-row
-take_images-requires-then-rows-before-clause-row g c = rw (
+pub take_images-requires-clause-row : goal.take_images-requires-clause-row
+take_images-requires-clause-row g c = rw (
   c.loop-r.invariant.same_field,
   c.loop-r.invariant.same_width,
   ← c.loop-r.invariant.rest_field,
