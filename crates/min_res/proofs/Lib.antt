@@ -3,7 +3,6 @@ pub mod StageLaws
 pub mod SpanMembers
 pub mod NextStage
 pub mod PartialSums
-pub mod MoveRows
 pub mod MatrixRows
 pub mod FirstKernel
 pub mod MapRows
@@ -16,3 +15,5 @@ pub mod Candidates
 pub mod CheckOrder
 pub mod NextParts
 pub mod AdoptedStage
+pub mod ProductMaps
+pub mod RadicalBases

@@ -1,15 +1,11 @@
 -- What elimination finds from the stage of degree d is the stage of degree d + 1.
-use Rattle.std.proofs.Common.{◌≡◌, ℕ, suc, ◌*◌, ◌<◌, List, [], ◌∷◌, length, arith, ap, sym, refl}
-use Rattle.std.specs.Prelude.{All}
+use Rattle.std.proofs.Common.{◌≡◌, ℕ, suc, ◌<◌, List, [], length, sym}
 use mathlib.Core.Path.{subst}
-use Rattle.group_table.specs.Tables.{order, product}
-use Rattle.group_modules.specs.Field.{Below}
+use Rattle.group_table.specs.Tables.{order}
 use Rattle.group_modules.specs.Tables.{Group}
-use Rattle.linear_algebra.specs.Rows.{row, AreInSpan, IsEchelonOf}
-use Rattle.linear_algebra.specs.Choices.{IsGreedy, IsPreimage}
+use Rattle.linear_algebra.specs.Rows.{row, AreInSpan}
+use Rattle.linear_algebra.specs.Choices.{IsPreimage}
 use Rattle.linear_algebra.specs.Kernels.{IsKernelOf}
-use Rattle.linear_algebra.proofs.GreedyLemmas.{greedy_is_one}
-use Rattle.radical_layers.specs.Moves.{moves_by}
 use Rattle.resolution_stages.specs.Definitions.{StageRows}
 use Rattle.resolution_stages.specs.Checks.{StageParts}
 use Rattle.resolution_stages.specs.Chain.{parts_of}
@@ -18,11 +14,9 @@ use Rattle.resolution_stages.proofs.Computed.{computed-claims}
 use Rattle.p_groups.specs.PGroups.{PGroup, largest_residue, group}
 use Rattle.p_groups.proofs.Fields.{residues, field, prime_power}
 use Rattle.group_algebra.specs.Coordinates.{layer_coordinates}
-use Rattle.group_algebra.specs.Products.{AreGenerators, numbers}
 use Rattle.min_res.specs.Stages.{stage_rows, rank_of}
 use Rattle.min_res.proofs.StageRows.{stage_rows_are}
-use Rattle.min_res.specs.Defined.{free, ∂}
-use Rattle.group_algebra.proofs.GeneratorMoves.{IsNumbered, elements, greedy-by-generators}
+use Rattle.min_res.specs.Defined.{∂}
 use Rattle.min_res.proofs.StageLaws.{submodule-list, parts-one}
 
 module _ (G : PGroup) (d : ℕ) where
@@ -37,30 +31,6 @@ module _ (G : PGroup) (d : ℕ) where
 
   abbrev E : List (List ℕ)
   E = (stage_rows G).kernel d
-
-  numbered : IsNumbered (group G) (product G.table)
-  numbered = record { one-is = refl; mul-is = λ g k. refl }
-
-  -- the greedy choice modulo the moves by generators
-  pub positions-one : (gens : List ℕ) → AreGenerators G.table gens → (R t : List (List ℕ)) (xs : List ℕ)
-      → ((gs : List (Below (order G.table))) → numbers gs ≡ gens
-      → R ≡ moves_by Γ (free G d) (layer_coordinates G (rank_of G d)) gs E)
-      → IsEchelonOf G.table.p (order G.table * rank_of G d) R t → IsGreedy G.table.p E t xs
-      → xs ≡ S.positions d
-  positions-one gens A R t xs m e g = go (elements (order G.table) gens A.below)
-    where
-      go : (gs : List (Below (order G.table))) × (numbers gs ≡ gens) → xs ≡ S.positions d
-      go (gs, n) = greedy_is_one (suc q) E _ (length E) xs (S.positions d)
-          (greedy-by-generators Γ (product G.table) numbered (order G.table * rank_of G d) (free G d)
-          (layer_coordinates G (rank_of G d)) E
-          (submodule-list G d).matrix (submodule-list G d).submodule gs
-          (λ x l. subst (λ ys. Rattle.group_algebra.specs.Products.IsProductOf (product G.table) ys x) (sym n)
-          (A.generate x l)) t xs
-          (subst (λ p. IsEchelonOf p (order G.table * rank_of G d)
-          (moves_by Γ (free G d) (layer_coordinates G (rank_of G d)) gs E) t) (sym (residues G))
-          (subst (λ Z. IsEchelonOf G.table.p (order G.table * rank_of G d) Z t) (m gs n) e))
-          (subst (λ p. IsGreedy p E t xs) (sym (residues G)) g))
-          ((stage_rows_are G).rows_are d)
 
   module _ (M : List (List ℕ)) (matrix : IsMatrixOf (layer_coordinates G (rank_of G (suc d)))
       (layer_coordinates G (rank_of G d)) (∂ G d) M) where

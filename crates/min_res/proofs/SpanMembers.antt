@@ -27,7 +27,7 @@ module _ (G : PGroup) (d : ℕ) where
   list = (stage_rows_are G).kernel_is d
 
   -- a combination of members is a member
-  combined : (v : (free G d).of) → IsInSpan (suc q) E (entry (row_of G (rank_of G d) v)) → K G d v
+  pub combined : (v : (free G d).of) → IsInSpan (suc q) E (entry (row_of G (rank_of G d) v)) → K G d v
   combined v s = subst (K G d) (sym (from-span q (group G) (order G.table * rank_of G d) (free G d)
       (layer_coordinates G (rank_of G d)) E list.matrix s.0 v s.1))
       (total-in q (group G) (free G d) (K G d) (kernel-submodule-at G d) (below (length E)) _

@@ -6,25 +6,23 @@ use Rattle.std.proofs.lemmas.List.{length_push, length-map}
 use Rattle.std.proofs.lemmas.Nat.{mul-le}
 use mathlib.Core.Path.{subst}
 use Rattle.group_table.specs.Tables.{order}
-use Rattle.group_modules.specs.Field.{Below}
-use Rattle.linear_algebra.specs.Rows.{row, pivot, IsMatrix, IsEchelon, IsEchelonOf, AreInSpan}
-use Rattle.linear_algebra.specs.Choices.{rows_at, IsGreedyBelow, IsGreedy, ArePreimages}
+use Rattle.linear_algebra.specs.Rows.{row, AreInSpan}
+use Rattle.linear_algebra.specs.Choices.{rows_at, IsGreedyBelow, ArePreimages}
 use Rattle.linear_algebra.specs.Kernels.{unit_row, IsKernelOf}
 use Rattle.linear_algebra.proofs.GreedyChoice.{greedy-below}
 use Rattle.resolution_stages.specs.Definitions.{StageRows, images}
 use Rattle.resolution_stages.specs.Checks.{StageParts}
 use Rattle.resolution_stages.specs.Computed.{IsMatrixOf}
 use Rattle.fp_rows.specs.Values.{MatrixValue}
+use Rattle.neg_basis.proofs.ImageLemmas.{echelon-count}
 use Rattle.p_groups.specs.PGroups.{PGroup, largest_residue, order_of}
 use Rattle.group_algebra.specs.Coordinates.{layer_coordinates, table_of}
-use Rattle.group_algebra.specs.Products.{AreGenerators, numbers}
-use Rattle.min_res.specs.MoveRows.{moves_of}
 use Rattle.min_res.proofs.MapRows.{map-by, HoldsValues}
 use Rattle.min_res.specs.Stages.{stage_rows, rank_of}
 use Rattle.min_res.proofs.StageRows.{stage_rows_are}
 use Rattle.min_res.specs.Values.{BoundaryValue, StageValue}
 use Rattle.min_res.specs.Defined.{∂, σ, boundary_row, kernel_value, IsBoundaryAt, IsStageAt}
-use Rattle.min_res.proofs.NextStage.{positions-one, targets, parts-found}
+use Rattle.min_res.proofs.NextStage.{targets, parts-found}
 use Rattle.min_res.proofs.FirstKernel.{matrix-value}
 
 -- a greedy choice takes no more rows than there are
@@ -39,37 +37,9 @@ greedy-count p s t (suc n) xs g = go g (λ ys k. greedy-count p s t n ys k)
     go (inr k) ih = let l : length k.0 ≤ n = ih k.0 k.1 in let e : length xs ≡ length k.0 + 1 =
         ap (λ (x : List ℕ). length x) k.3 ∙ length_push k.0 n in omega (arith, l, e)
 
--- the pivots of a reduced echelon list ascend, so it has no more rows than places
-pub echelon-count : {p width : ℕ} (E : List (List ℕ)) → IsMatrix p width E → IsEchelon E → length E ≤ width
-echelon-count {p} {width} E m e = at (length E) refl
-  where
-    above : (i : ℕ) → i < length E → i ≤ pivot (row E i)
-    above zero l = omega arith
-    above (suc i) l = let a : i ≤ pivot (row E i) = above i (omega (arith, l)) in
-        let b : pivot (row E i) < pivot (row E (suc i)) = e.ascending i (suc i) (omega arith) l in
-        omega (arith, a, b)
-
-    at : (n : ℕ) → n ≡ length E → length E ≤ width
-    at zero c = omega (arith, c)
-    at (suc n) c = let l : n < length E = omega (arith, c) in let a : n ≤ pivot (row E n) = above n l in
-        let b : pivot (row E n) < length (row E n) = e.not_zero n l in
-        let w : length (row E n) ≡ width = (m n l).length_is in omega (arith, a, b, w, c)
-
 module _ (G : PGroup) where
   abbrev S : StageRows
   S = stage_rows G
-
-  -- positions of the defined stage, from a list and a rank that are its
-  pub positions-found : (d b : ℕ) (E : List (List ℕ)) → b ≡ rank_of G d → E ≡ S.kernel d → (gens : List ℕ)
-      → AreGenerators G.table gens → (R t : List (List ℕ)) (xs : List ℕ)
-      → ((gs : List (Below (order G.table))) → numbers gs ≡ gens → R ≡ moves_of G b gs E)
-      → IsEchelonOf G.table.p (order G.table * b) R t → IsGreedy G.table.p E t xs → xs ≡ S.positions d
-  positions-found d b E eb eE gens A R t xs =
-      subst (λ b. P b E) (sym eb) (subst (λ E. P (rank_of G d) E) (sym eE) (positions-one G d gens A R t xs))
-    where
-      P : ℕ → List (List ℕ) → Type 0
-      P b E = ((gs : List (Below (order G.table))) → numbers gs ≡ gens → R ≡ moves_of G b gs E)
-          → IsEchelonOf G.table.p (order G.table * b) R t → IsGreedy G.table.p E t xs → xs ≡ S.positions d
 
   pub positions-inside : (d : ℕ) (i : ℕ) → i < length (S.positions d)
       → slice_index (S.positions d) i < length (S.kernel d)

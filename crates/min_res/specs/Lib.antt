@@ -1,10 +1,11 @@
 pub mod Stages
 pub mod Values
 pub mod Defined
-pub mod MoveRows
 pub mod Shapes
 pub mod Refusals
 pub mod Stores
 pub mod RecordChecks
 pub mod Candidates
 pub mod Held
+pub mod LayerProducts
+pub mod Radicals

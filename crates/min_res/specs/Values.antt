@@ -1,6 +1,6 @@
 -- What contracts see of a stage and of a resolution.
-use Rattle.std.specs.Prelude.{ℕ, List, [], Option, unwrap_or, refl}
-use Rattle.std.specs.Coded.{Coded, code_by, coded×, coded_ℕ}
+use Rattle.std.specs.Prelude.{ℕ, Bool, false, List, [], Option, unwrap_or, refl}
+use Rattle.std.specs.Coded.{Coded, code_by, coded×, coded_ℕ, coded_bool}
 use Rattle.fp_rows.specs.Values.{MatrixValue}
 use Rattle.p_groups.specs.PGroups.{PGroup}
 use Rattle.group_algebra.specs.Coded.{coded_p_group}
@@ -38,15 +38,17 @@ pub record ResolutionValue : Type 0 where
   pub last : ℕ
   -- how many of them elimination made
   pub computed : ℕ
+  -- whether it made the last of them
+  pub extended : Bool
 
 -- the stage of degree 0 alone
 abbrev pub first_alone : PGroup → ResolutionValue
-first_alone G = record { group = G; last = 0; computed = 0 }
+first_alone G = record { group = G; last = 0; computed = 0; extended = false }
 
 -- how it is stored
 abbrev pub coded_resolution : Coded ResolutionValue
 coded_resolution =
-    code_by (PGroup × (ℕ × ℕ)) (coded× coded_p_group (coded× coded_ℕ coded_ℕ))
-    (λ r. (r.group, (r.last, r.computed)))
-    (λ p. record { group = p.0; last = p.1.0; computed = p.1.1 })
+    code_by (PGroup × (ℕ × (ℕ × Bool))) (coded× coded_p_group (coded× coded_ℕ (coded× coded_ℕ coded_bool)))
+    (λ r. (r.group, (r.last, (r.computed, r.extended))))
+    (λ p. record { group = p.0; last = p.1.0; computed = p.1.1.0; extended = p.1.1.1 })
     (λ _. refl)

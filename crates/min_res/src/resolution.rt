@@ -2,12 +2,13 @@
 
 ghost use Rattle.fp_rows.specs.Refs.{entries_of, modulus_of};
 ghost use Rattle.min_res.specs.Defined.{InK, IsExactMinimal, IsSectionOf, IsStageAt, σ};
+ghost use Rattle.min_res.specs.Radicals.{IsRadicalBasis};
 ghost use Rattle.min_res.specs.Refusals.{IsRefusal};
 ghost use Rattle.min_res.specs.RecordChecks.{IsNotAdopted, MayFollow};
 ghost use Rattle.min_res.specs.Stages.{rank_of, stage_rows};
 ghost use Rattle.min_res.specs.Values.{first_alone};
 ghost use Rattle.resolution_stages.specs.Chain.{parts_of};
-ghost use Rattle.std.specs.Prelude.{◌≡◌, ◌≤◌, ◌<◌, ◌+◌, ◌-◌, ◌*◌, ◌^◌, ◌↔◌, suc, length};
+ghost use Rattle.std.specs.Prelude.{◌≡◌, ◌≤◌, ◌<◌, ◌+◌, ◌-◌, ◌*◌, ◌^◌, ◌↔◌, ℕ, suc, true, false, length};
 ghost use Rattle.std.specs.Prelude.{IfErr, IfOk, IfSome, IsNone, OnErr, OnOk};
 ghost use Rattle.p_groups.specs.PGroups.{order_of, prime_of};
 
@@ -19,8 +20,9 @@ use crate::next::next_stage;
 use crate::parts::StageParts;
 use crate::stage::Stage;
 use fp_rows::{Row, RowRef};
-use group_algebra::{Algebra, generators};
+use group_algebra::Algebra;
 use group_table::Memory;
+use neg_basis::NegBasis;
 use std::alloc::Global;
 use std::marker::Model;
 use std::rc::Rc;
@@ -28,20 +30,20 @@ use std::rc::Rc;
 /// The stages 0 to `last` of the minimal resolution of the field of p elements over the group algebra of a
 /// p-group.
 ///
-/// It is seen as the group and the numbers `last` and `computed`: the stage of each degree is that of the
-/// group, so a resolution that is extended keeps its algebra and all its stages, and what was made from it is
-/// made from the longer one.
+/// It is seen as the group, the numbers `last` and `computed`, and whether `extend` made the last stage: the
+/// stage of each degree is that of the group, so a resolution that is extended keeps its algebra and all its
+/// stages, and what was made from it is made from the longer one.
 #[derive(Drop)]
 pub struct Resolution {
     alloc: Global,
     algebra: Algebra,
-    generators: Vec<u16>,
     stages: Vec<Rc<Stage>>,
     computed: u32,
+    radical: Option<NegBasis>,
 }
 
 impl Model for Resolution {
-    ghost use Rattle.std.specs.Prelude.{◌-◌, length};
+    ghost use Rattle.std.specs.Prelude.{◌-◌, is_some, length};
     ghost use Rattle.min_res.specs.Values.{ResolutionValue, coded_resolution};
     ghost use Rattle.min_res.specs.Stores.{stage_values, IsResolutionStore};
 
@@ -53,10 +55,10 @@ impl Model for Resolution {
       group = r.algebra;
       last = length r.stages.items - 1;
       computed = r.computed;
+      extended = is_some r.radical;
     } };
 
-    ghost invariant = { λ r. IsResolutionStore r.algebra r.generators.items (stage_values r.stages.items)
-        r.computed };
+    ghost invariant = { λ r. IsResolutionStore r.algebra (stage_values r.stages.items) r.computed r.radical };
 }
 
 impl Resolution {
@@ -64,16 +66,15 @@ impl Resolution {
     pub fn start(alloc: Global, a: Algebra) -> Result<Resolution, Memory>
         ensures { IfOk result (λ r. r ≡ first_alone a) }
     {
-        let generators = generators(alloc, a.group().as_group())?;
         let first = Rc::new(alloc, first_stage(alloc, &a)?)?;
         let mut stages = Vec::new(alloc);
         stages.push(first)?;
         Ok(Resolution {
             alloc,
             algebra: a,
-            generators,
             stages,
             computed: 0,
+            radical: None,
         })
     }
 
@@ -85,6 +86,7 @@ impl Resolution {
         ensures group { self.new.group ≡ self.old.group }
         ensures grown { OnOk result (self.new.last ≡ suc self.old.last) }
         ensures computed { OnOk result (self.new.computed ≡ suc self.old.computed) }
+        ensures extended { OnOk result (self.new.extended ≡ true) }
         ensures within { OnOk result
             (order_of self.old.group * rank_of self.old.group (suc self.old.last) ≤ limit) }
         ensures refused { IfErr result (λ e. IsRefusal self.old.group (suc self.old.last) limit e) }
@@ -94,24 +96,26 @@ impl Resolution {
         ensures exact_minimal { OnOk result (IsExactMinimal self.old.group self.old.last) }
         ensures section { OnOk result (IsSectionOf self.old.group self.old.last) }
     {
-        let stage = self.next(limit)?;
+        let (stage, radical) = self.next(limit)?;
         let shared = Rc::new(self.alloc, stage)?;
         self.stages.push(shared)?;
         self.computed += 1;
+        self.radical = Some(radical);
         Ok(())
     }
 
-    // The stage after the last one.
-    fn next(&self, limit: u64) -> Result<Stage, ResFault>
+    // The stage after the last one, and the basis of J K that the rows of its boundary are chosen against.
+    fn next(&self, limit: u64) -> Result<(Stage, NegBasis), ResFault>
         requires few { self.now.last + 1 < 2 ^ 32 }
         requires limit { limit ≤ 2 ^ 28 }
-        ensures stage { IfOk result (λ s. IsStageAt self.now.group (suc self.now.last) s) }
-        ensures width { IfOk result (λ s. s.kernel.width ≤ limit) }
+        ensures stage { IfOk result (λ next. IsStageAt self.now.group (suc self.now.last) next.0) }
+        ensures width { IfOk result (λ next. next.0.kernel.width ≤ limit) }
+        ensures radical { IfOk result (λ next. IsRadicalBasis self.now.group self.now.last next.1) }
         ensures refusal { IfErr result (λ e. IsRefusal self.now.group (suc self.now.last) limit e) }
     {
         let last = self.stage_at(self.last());
-        match next_stage(self.alloc, &self.algebra, &self.generators, last, limit) {
-            Ok(stage) => Ok(stage),
+        match next_stage(self.alloc, &self.algebra, last, limit) {
+            Ok(next) => Ok(next),
             Err(fault) => Err(fault),
         }
     }
@@ -127,6 +131,7 @@ impl Resolution {
         ensures group { self.new.group ≡ self.old.group }
         ensures grown { OnOk result (self.new.last ≡ suc self.old.last) }
         ensures computed { self.new.computed ≡ self.old.computed }
+        ensures extended { OnOk result (self.new.extended ≡ false) }
         ensures next { OnOk result
             (S.parts given.now ≡ parts_of (stage_rows self.old.group) self.old.last) }
         ensures refused { IfErr result (IsNotAdopted self.old.group self.old.last (S.parts given.now)) }
@@ -135,6 +140,7 @@ impl Resolution {
         let stage = self.adopted(given)?;
         let next = Rc::new(self.alloc, stage)?;
         self.stages.push(next)?;
+        self.radical = None;
         Ok(())
     }
 
@@ -155,6 +161,16 @@ impl Resolution {
             Ok(stage) => Ok(stage),
             Err(fault) => Err(fault),
         }
+    }
+
+    /// A negative standard basis of J K_(d-1), where `extend` added the last stage, that of degree d; and
+    /// `None` exactly where it did not.
+    pub fn radical(&self) -> Option<&NegBasis>
+        ensures none { IsNone result ↔ (self.now.extended ≡ false) }
+        ensures basis { IfSome result (λ b. (d : ℕ) → self.now.last ≡ suc d
+            → IsRadicalBasis self.now.group d b.now) }
+    {
+        self.radical.as_ref()
     }
 
     /// The group algebra.

@@ -61,6 +61,14 @@ fn has_positions(resolution: &Resolution, positions: &[(u32, usize, u32)]) -> bo
     true
 }
 
+// Whether `extend` made the last stage against a basis of J K of this many vectors.
+fn has_radical(resolution: &Resolution, vectors: usize) -> bool {
+    match resolution.radical() {
+        Some(basis) => basis.len() == vectors,
+        None => false,
+    }
+}
+
 fn shows(r: RowRef<'_>, entries: &[u8]) -> bool {
     r.len() == entries.len() && (0..r.len()).all(|i| r.get(i) == entries[i])
 }
@@ -78,6 +86,7 @@ fn resolves_the_dihedral_group(rt: HostRuntime) -> Result<(), Fail> {
     );
     assert!(rt; resolution.stage(3).is_none());
     assert_eq!(rt; resolution.computed(), 2);
+    assert!(rt; has_radical(&resolution, 6));
     Ok(())
 }
 
@@ -86,6 +95,7 @@ fn resolves_the_trivial_group(rt: HostRuntime) -> Result<(), Fail> {
     let resolution = resolved(&rt, rt.alloc(), SmallGroup::Trivial, 1)?;
     assert!(rt; has_ranks(&resolution, &[(0, 1), (1, 0)]));
     assert!(rt; has_kernels(&resolution, &[(0, 0), (1, 0)]));
+    assert!(rt; has_radical(&resolution, 0));
     Ok(())
 }
 
@@ -98,6 +108,13 @@ fn has_the_ranks_of_the_quaternion_group(rt: HostRuntime) -> Result<(), Fail> {
             &[(0, 1), (1, 2), (2, 2), (3, 1), (4, 1), (5, 2), (6, 2)]
         )
     );
+    Ok(())
+}
+
+#[test]
+fn has_no_radical_at_the_start(rt: HostRuntime) -> Result<(), Fail> {
+    let resolution = resolved(&rt, rt.alloc(), SmallGroup::Two, 0)?;
+    assert!(rt; resolution.radical().is_none());
     Ok(())
 }
 

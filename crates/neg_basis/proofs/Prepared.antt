@@ -11,7 +11,9 @@ use Rattle.linear_algebra.proofs.Spans.{in_span_congruent, in_span_add, in_span_
 use Rattle.std.proofs.Common.{replicate, ◌⊎◌}
 use Rattle.std.proofs.lemmas.Bool.{cases_lt}
 use Rattle.linear_algebra.proofs.Reducing.{add_multiple_is_row, entry_congruent}
-use Rattle.linear_algebra.proofs.PivotLemmas.{pivot-le-length}
+use Rattle.linear_algebra.proofs.PivotLemmas.{pivot-le-length, pivot_is, pivot_none}
+use Rattle.linear_algebra.proofs.RowLemmas.{is_scaled}
+use Rattle.fp_rows.specs.Parts.{IsNextPlace}
 use Rattle.linear_algebra.proofs.AddedRow.{scaled_entry, scaled_pivot, zeros_in_span}
 use Rattle.fp_rows.specs.Values.{RowValue}
 use Rattle.neg_basis.specs.Bases.{IsBasis}
@@ -111,3 +113,17 @@ pub same_row_value : {p q : ℕ} {xs ys : List ℕ} → p ≡ q → xs ≡ ys
     } in
     x ≡ y)
 same_row_value e f = cc
+
+-- the first place that is not 0 is the pivot
+pub first_is_pivot : {xs : List ℕ} {i : ℕ} → IsNextPlace xs 0 i → i ≡ pivot xs
+first_is_pivot {xs} {i} n = go (cases_lt i (length xs))
+  where
+    go : (i < length xs) ⊎ (length xs ≤ i) → i ≡ pivot xs
+    go (inl l) = sym (pivot_is xs i (λ j b. n.before j (omega arith) b) (n.here l))
+    go (inr l) = let e : i ≡ length xs = omega (arith, l, n.within) in
+        e ∙ sym (pivot_none xs (λ j b. n.before j (omega arith) (omega (arith, b, e))))
+
+-- once a row is the row
+pub scaled_by_one : {p : ℕ} {xs : List ℕ} → IsRow p (length xs) xs → xs ≡ map (λ x. 1 * x % p) xs
+scaled_by_one {p} {xs} r = is_scaled p 1 xs xs refl (λ j l. sym (mod-eq_of_lt (r.below j l))
+    ∙ ap (λ x. x % p) (let e : entry xs j ≡ 1 * entry xs j = omega arith in e))

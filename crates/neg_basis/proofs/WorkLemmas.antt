@@ -2,8 +2,7 @@
 use Rattle.std.proofs.Common.{◌≡◌, ℕ, ◌+◌, ◌-◌, ◌<◌, ◌≤◌, ◌⊎◌, List, [], ◌∷◌, ◌++◌, length, take, inl, inr}
 use Rattle.std.proofs.Common.{arith, ap, sym, ◌∙◌, refl}
 use Rattle.std.proofs.lemmas.Bool.{cases_eq, cases_lt}
-use Rattle.std.proofs.lemmas.List.{take_more, take-append-le, take_all, length_push, get_or_push}
-use Rattle.std.proofs.lemmas.List.{get_or_append_left}
+use Rattle.std.proofs.lemmas.List.{take_more, take-append-le, take_all, length_push}
 use Rattle.linear_algebra.specs.Modular.{IsCongruent, IsFieldModulo}
 use Rattle.linear_algebra.specs.Rows.{entry, row, IsInSpan, AreInSpan}
 use Rattle.linear_algebra.proofs.Congruences.{congruent_refl, congruent_add, congruent_mul_left}
@@ -15,20 +14,13 @@ use Rattle.neg_basis.specs.Bases.{IsBasis, IsReducedMultiple}
 use Rattle.neg_basis.specs.Origins.{origin_at, source, IsOrigin, IsChosen, IsChosenRightly}
 use Rattle.neg_basis.specs.Results.{IsNegBasisOf}
 use Rattle.neg_basis.specs.Turns.{IsNew, IsAdded, IsWorked}
+use Rattle.neg_basis.proofs.OriginLemmas.{origin_last, origin_before}
 use Rattle.neg_basis.specs.declared.origin.Origin.{Origin}
 use Rattle.neg_basis.specs.declared.origin.Origin.TheVariants.{Chosen, Step}
 use Rattle.neg_basis.proofs.BasisLemmas.{no_vectors, basis_push, in_span_with_new, new_in_span}
 use Rattle.neg_basis.proofs.BasisLemmas.{new_not_in_span}
 use Rattle.neg_basis.proofs.SubmoduleLemmas.{closed, submodule_span, submodule_image, submodule_more}
 use Rattle.neg_basis.proofs.SubmoduleLemmas.{submodule_last}
-
--- the list of origins with one more
-origin_last : (origins : List Origin) (o : Origin) → origin_at (origins ++ o ∷ []) (length origins) ≡ o
-origin_last origins o = get_or_push origins o (Chosen 0) (length origins) refl
-
-origin_before : (origins : List Origin) (o : Origin) (i : ℕ) → i < length origins
-    → origin_at (origins ++ o ∷ []) i ≡ origin_at origins i
-origin_before origins o i l = get_or_append_left origins (o ∷ []) (Chosen 0) i l
 
 -- what an origin stands for is the same with one more vector
 source_push : (image : ℕ → (ℕ → ℕ) → ℕ → ℕ) (gens E : List (List ℕ)) (w : List ℕ) (n m i : ℕ) (o : Origin)

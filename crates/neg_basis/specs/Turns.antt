@@ -1,9 +1,11 @@
 -- One turn of the work: a vector is added, a map is applied, a generator is taken.
-use Rattle.std.specs.Prelude.{◌≡◌, ℕ, ◌<◌, ◌⊎◌, List, [], ◌∷◌, ◌++◌, length, take}
+use Rattle.std.specs.Prelude.{◌≡◌, ℕ, ◌+◌, ◌*◌, ◌<◌, ◌⊎◌, List, [], ◌∷◌, ◌++◌, length, take}
 use Rattle.linear_algebra.specs.Rows.{entry, row, pivot, IsRow, IsInSpan, AreInSpan}
+use Rattle.linear_algebra.specs.Modular.{IsCongruent}
 use Rattle.neg_basis.specs.Maps.{IsInSubmodule}
+use Rattle.neg_basis.specs.Images.{AreImages}
 use Rattle.neg_basis.specs.Bases.{IsBasis, IsReducedMultiple}
-use Rattle.neg_basis.specs.Origins.{origin_at, source, IsOrigin, IsChosenRightly}
+use Rattle.neg_basis.specs.Origins.{origin_at, source, IsBefore, IsOrigin, IsChosenRightly}
 use Rattle.neg_basis.specs.declared.origin.Origin.{Origin}
 
 -- w is a multiple of v, reduced by the vectors, with the entry 1 at its head
@@ -27,6 +29,11 @@ IsAdded p width vectors origins v origin vectors' origins' =
     ⊎ ((w : List ℕ) × (vectors' ≡ vectors ++ w ∷ []) × (origins' ≡ origins ++ origin ∷ [])
     × IsNew p width vectors v w)
 
+-- each vector has an origin, and a step goes out from a vector before
+pub record HaveOrigins (vectors : List (List ℕ)) (origins : List Origin) : Type 0 where
+  pub count : length origins ≡ length vectors
+  pub steps : (i : ℕ) → i < length vectors → IsBefore (origin_at origins i) i
+
 -- the first n generators are taken, all maps are applied to the vectors before position i, and the first k
 -- maps to vector i
 pub record IsWorked (p width m : ℕ) (image : ℕ → (ℕ → ℕ) → ℕ → ℕ) (gens vectors : List (List ℕ))
@@ -48,3 +55,21 @@ abbrev pub Continues : ℕ → ℕ → ℕ → (ℕ → (ℕ → ℕ) → ℕ �
 Continues p width m image vectors origins i k vectors' origins' i' k' = (gens : List (List ℕ)) (n : ℕ) →
     IsWorked p width m image gens vectors origins n i k
     → IsWorked p width m image gens vectors' origins' n i' k'
+
+-- whatever generators the work is for: where v is generator n, it is taken, and all maps are applied to all
+-- vectors
+abbrev pub TakesGenerator : ℕ → ℕ → ℕ → (ℕ → (ℕ → ℕ) → ℕ → ℕ) → (ℕ → ℕ) → ℕ → List (List ℕ) → List Origin
+    → List (List ℕ) → List Origin → Type 0
+TakesGenerator p width m image v n vectors origins vectors' origins' = (gens : List (List ℕ))
+    → n < length gens → ((j : ℕ) → IsCongruent p (v j) (entry (row gens n) j))
+    → IsWorked p width m image gens vectors origins n (length vectors) 0
+    → IsWorked p width m image gens vectors' origins' (n + 1) (length vectors') 0
+
+-- where the generators are the images of rows, those of row r under the first k of the m maps are taken, and
+-- all maps are applied to all vectors
+abbrev pub TakesImages : ℕ → ℕ → ℕ → (ℕ → (ℕ → ℕ) → ℕ → ℕ) → List ℕ → ℕ → ℕ → List (List ℕ) → List Origin
+    → List (List ℕ) → List Origin → Type 0
+TakesImages p width m image v r k vectors origins vectors' origins' = (rows images : List (List ℕ))
+    → AreImages p m image rows images → r < length rows → row rows r ≡ v
+    → IsWorked p width m image images vectors origins (r * m) (length vectors) 0
+    → IsWorked p width m image images vectors' origins' (r * m + k) (length vectors') 0

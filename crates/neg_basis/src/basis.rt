@@ -1,10 +1,12 @@
-ghost use Rattle.std.specs.Prelude.{◌≡◌, ◌↔◌, ℕ, ◌^◌, ◌<◌, ◌≤◌, List, length, IfOk, IsTrue};
+ghost use Rattle.std.specs.Prelude.{◌≡◌, ◌↔◌, ℕ, ◌*◌, ◌^◌, ◌<◌, ◌≤◌, List, length, IfOk, IsTrue};
 ghost use Rattle.linear_algebra.specs.Rows.{entry, row, pivot, IsRow, IsInSpan, IsReduced, IsEchelonOf};
 ghost use Rattle.fp_rows.specs.Refs.{entries_of, modulus_of};
 ghost use Rattle.neg_basis.specs.Bases.{IsBasis};
+ghost use Rattle.neg_basis.specs.Images.{AreImages};
 ghost use Rattle.neg_basis.specs.Origins.{origin_at, chosen_rows};
 ghost use Rattle.neg_basis.specs.Results.{IsNegBasisOf};
 
+use crate::images::take_images;
 use crate::ops::Ops;
 use crate::origin::Origin;
 use crate::steps::{insert, load, reduce_by};
@@ -79,6 +81,51 @@ impl NegBasis {
         })
     }
 
+    /// The negative standard basis of the submodule that the images of the rows of the list generate under
+    /// the maps. Origins count the images of row 0 first, then those of row 1 and so on. No map is applied to
+    /// a row that lies in the span of the vectors and of the rows before it. There are at most 2^32 maps,
+    /// images and places of a row.
+    pub fn of_images<T: Ops>(alloc: Global, ops: &T, list: &Echelon) -> Result<NegBasis, Memory>
+        requires same_field { list.now.p ≡ T.modulus ops.now }
+        requires same_width { list.now.width ≡ T.width ops.now }
+        requires maps_fit { T.maps ops.now ≤ 2 ^ 32 }
+        requires width_fits { list.now.width ≤ 2 ^ 32 }
+        requires images_fit { length list.now.rows * T.maps ops.now ≤ 2 ^ 32 }
+        ensures same_field { IfOk result (λ b. b.p ≡ list.now.p) }
+        ensures same_width { IfOk result (λ b. b.width ≡ list.now.width) }
+        ensures basis { IfOk result (λ b. (images : List (List ℕ))
+            → AreImages list.now.p (T.maps ops.now) (T.image ops.now) list.now.rows images
+            → IsNegBasisOf list.now.p list.now.width (T.maps ops.now) (T.image ops.now) images b.vectors
+            b.origins) }
+    {
+        let mut vectors = Matrix::new(alloc, list.prime(), list.width());
+        let mut heads = Vec::new(alloc);
+        let mut origins = Vec::new(alloc);
+        // What the rows leave that are not in the span of the vectors.
+        let mut rest = Matrix::new(alloc, list.prime(), list.width());
+        let mut rest_heads = Vec::new(alloc);
+        let mut rest_rows = Vec::new(alloc);
+        let mut v = Row::zero(alloc, list.prime(), list.width())?;
+        for r in 0..list.rows() {
+            load(&mut v, list.row(r));
+            reduce_by(&vectors, &heads, &mut v);
+            let before = rest.rows();
+            let origin = Origin::Chosen(r as u32);
+            insert(&mut rest, &mut rest_heads, &mut rest_rows, &mut v, origin)?;
+            if rest.rows() > before {
+                let row = list.row(r);
+                take_images(ops, &mut vectors, &mut heads, &mut origins, r, row, &mut v)?;
+            }
+        }
+        let reduced = echelon(alloc, &vectors)?;
+        Ok(NegBasis {
+            vectors,
+            heads,
+            origins,
+            reduced,
+        })
+    }
+
     /// How many vectors there are: the dimension of the span.
     pub fn len(&self) -> usize
         ensures count { result ≡ length self.now.vectors }
@@ -134,6 +181,15 @@ impl NegBasis {
         ensures { IsTrue result ↔ IsInSpan self.now.p self.now.vectors (entry (entries_of v.entry)) }
     {
         self.reduced.contains(v)
+    }
+
+    /// The reduced row echelon basis of the span of the vectors, which it keeps.
+    pub fn reduced(&self) -> &Echelon
+        ensures same_field { result.now.p ≡ self.now.p }
+        ensures same_width { result.now.width ≡ self.now.width }
+        ensures rows { IsEchelonOf self.now.p self.now.width self.now.vectors result.now.rows }
+    {
+        &self.reduced
     }
 
     /// The chosen rows of the generators, in the order of the vectors.

@@ -2,6 +2,7 @@
 #![tactic(auto)]
 
 mod basis;
+mod images;
 mod ops;
 mod origin;
 mod steps;

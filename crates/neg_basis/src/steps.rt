@@ -33,16 +33,10 @@ pub(crate) fn reduce_by(vectors: &Matrix, heads: &[usize], v: &mut Row)
 }
 
 // The place of the first entry that is not 0, and the length where each is 0.
-#[tactic(auto, using(linear_algebra::proofs::PivotLemmas::pivot_is, linear_algebra::proofs::PivotLemmas::pivot_none))]
 fn head_of(v: &Row) -> usize
     ensures { result ≡ pivot v.now.entries }
 {
-    for i in 0..v.len() {
-        if v.get(i) != 0 {
-            return i;
-        }
-    }
-    v.len()
+    v.view().next_place(0)
 }
 
 // The inverse of a modulo p.
@@ -67,6 +61,10 @@ fn scale(p: Prime, c: u8, v: &mut Row)
     requires same_prime { v.old.p ≡ prime_value p }
     ensures { v.new ≡ record v.old { entries = map (λ x. c * x % prime_value p) v.old.entries } }
 {
+    if c == 1 {
+        let _len = v.len();
+        return;
+    }
     let m = p.value();
     for i in 0..v.len() {
         let product = c * v.get(i);

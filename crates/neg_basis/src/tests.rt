@@ -4,7 +4,7 @@ ghost use Rattle.linear_algebra.specs.Rows.{entry, row, combination};
 ghost use Rattle.linear_algebra.proofs.LinearMaps.{matrix_is_linear};
 
 use super::*;
-use fp_rows::{Matrix, Row, RowRef};
+use fp_rows::{Matrix, Row, RowRef, echelon};
 use group_table::{Memory, Prime};
 use std::alloc::Global;
 use std::process::Abort;
@@ -139,5 +139,24 @@ fn scales_and_reduces(rt: HostRuntime) -> Result<(), Fail> {
     basis.reduce(&mut v);
     assert!(rt; shows(v.view(), 2, 0));
     assert!(rt; basis.contains(pair(&rt, alloc, Prime::P3, [0, 2])?.view()));
+    Ok(())
+}
+
+// The image of (1, 0) is (0, 1), and the image of that is 0.
+#[test]
+fn takes_the_images_of_a_list(rt: HostRuntime) -> Result<(), Fail> {
+    let alloc = rt.alloc();
+    let map = OneMap {
+        matrix: pairs(&rt, alloc, Prime::P2, [0, 1], [0, 0])?,
+    };
+    let mut rows = Matrix::new(alloc, Prime::P2, 2);
+    rows.push(pair(&rt, alloc, Prime::P2, [1, 0])?.view())?;
+    let list = echelon(alloc, &rows)?;
+    assert_eq!(rt; list.rows(), 1);
+    let basis = NegBasis::of_images(alloc, &map, &list)?;
+    assert_eq!(rt; basis.len(), 1);
+    assert!(rt; shows(basis.vector(0), 0, 1));
+    assert!(rt; matches!(basis.origin(0), Origin::Chosen(0)));
+    assert_eq!(rt; basis.reduced().rows(), 1);
     Ok(())
 }

@@ -1,7 +1,7 @@
 ghost use Rattle.std.specs.Prelude.{◌≡◌, ℕ, ◌+◌, ◌^◌, ◌<◌, ◌≤◌, length, OnOk, map};
-ghost use Rattle.linear_algebra.specs.Rows.{pivot, IsRow};
+ghost use Rattle.linear_algebra.specs.Rows.{entry, pivot, IsRow};
 ghost use Rattle.neg_basis.specs.Bases.{IsBasis};
-ghost use Rattle.neg_basis.specs.Turns.{Continues};
+ghost use Rattle.neg_basis.specs.Turns.{Continues, HaveOrigins, TakesGenerator};
 
 use crate::ops::Ops;
 use crate::origin::Origin;
@@ -36,6 +36,8 @@ fn apply_one<T: Ops>(
     ensures basis { OnOk result (IsBasis vectors.old.p vectors.old.width vectors.new.rows) }
     ensures heads_are { OnOk result (heads.new.items ≡ map pivot vectors.new.rows) }
     ensures grown { OnOk result (length vectors.old.rows ≤ length vectors.new.rows) }
+    ensures origins { OnOk result (HaveOrigins vectors.old.rows origins.old.items
+        → HaveOrigins vectors.new.rows origins.new.items) }
     ensures worked { OnOk result (Continues vectors.old.p vectors.old.width (T.maps ops.now) (T.image ops.now)
         vectors.old.rows origins.old.items of number vectors.new.rows origins.new.items of (number + 1)) }
 {
@@ -72,6 +74,8 @@ fn apply_all<T: Ops>(
     ensures basis { OnOk result (IsBasis vectors.old.p vectors.old.width vectors.new.rows) }
     ensures heads_are { OnOk result (heads.new.items ≡ map pivot vectors.new.rows) }
     ensures grown { OnOk result (length vectors.old.rows ≤ length vectors.new.rows) }
+    ensures origins { OnOk result (HaveOrigins vectors.old.rows origins.old.items
+        → HaveOrigins vectors.new.rows origins.new.items) }
     ensures worked { OnOk result (Continues vectors.old.p vectors.old.width (T.maps ops.now) (T.image ops.now)
         vectors.old.rows origins.old.items of 0 vectors.new.rows origins.new.items (of + 1) 0) }
 {
@@ -105,6 +109,8 @@ pub(crate) fn close<T: Ops>(
     ensures same_width { OnOk result (vectors.new.width ≡ vectors.old.width) }
     ensures basis { OnOk result (IsBasis vectors.old.p vectors.old.width vectors.new.rows) }
     ensures heads_are { OnOk result (heads.new.items ≡ map pivot vectors.new.rows) }
+    ensures origins { OnOk result (HaveOrigins vectors.old.rows origins.old.items
+        → HaveOrigins vectors.new.rows origins.new.items) }
     ensures worked { OnOk result (Continues vectors.old.p vectors.old.width (T.maps ops.now) (T.image ops.now)
         vectors.old.rows origins.old.items from 0 vectors.new.rows origins.new.items
         (length vectors.new.rows) 0) }
@@ -114,5 +120,41 @@ pub(crate) fn close<T: Ops>(
         apply_all(ops, vectors, heads, origins, of, v)?;
         of += 1;
     }
+    Ok(())
+}
+
+/// Takes generator v with its number as its origin: adds what is left of it, and then what is left of images,
+/// until each map is applied to each vector.
+pub(crate) fn take<T: Ops>(
+    ops: &T,
+    vectors: &mut Matrix,
+    heads: &mut Vec<usize>,
+    origins: &mut Vec<Origin>,
+    number: u32,
+    v: &mut Row,
+) -> Result<(), Memory>
+    requires maps_fit { T.maps ops.now ≤ 2 ^ 32 }
+    requires width_fits { vectors.old.width ≤ 2 ^ 32 }
+    requires same_field { vectors.old.p ≡ T.modulus ops.now }
+    requires same_width { vectors.old.width ≡ T.width ops.now }
+    requires basis { IsBasis vectors.old.p vectors.old.width vectors.old.rows }
+    requires heads_are { heads.old.items ≡ map pivot vectors.old.rows }
+    requires same_prime { v.old.p ≡ vectors.old.p }
+    requires row { IsRow vectors.old.p vectors.old.width v.old.entries }
+    ensures prime { v.new.p ≡ v.old.p }
+    ensures row { IsRow vectors.old.p vectors.old.width v.new.entries }
+    ensures same_field { OnOk result (vectors.new.p ≡ vectors.old.p) }
+    ensures same_width { OnOk result (vectors.new.width ≡ vectors.old.width) }
+    ensures basis { OnOk result (IsBasis vectors.old.p vectors.old.width vectors.new.rows) }
+    ensures heads_are { OnOk result (heads.new.items ≡ map pivot vectors.new.rows) }
+    ensures origins { OnOk result (HaveOrigins vectors.old.rows origins.old.items
+        → HaveOrigins vectors.new.rows origins.new.items) }
+    ensures taken { OnOk result (TakesGenerator vectors.old.p vectors.old.width (T.maps ops.now)
+        (T.image ops.now) (entry v.old.entries) number vectors.old.rows origins.old.items vectors.new.rows
+        origins.new.items) }
+{
+    let done = vectors.rows();
+    insert(vectors, heads, origins, v, Origin::Chosen(number))?;
+    close(ops, vectors, heads, origins, done, v)?;
     Ok(())
 }

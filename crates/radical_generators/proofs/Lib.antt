@@ -6,4 +6,3 @@ pub mod Radical
 pub mod ChosenRows
 pub mod LayerPlaces
 pub mod Whole
-pub mod ImageLists

@@ -31,13 +31,13 @@ use Rattle.neg_basis.specs.Results.{IsNegBasisOf}
 use Rattle.neg_basis.specs.declared.origin.Origin.{Origin}
 use Rattle.neg_basis.proofs.SubmoduleLemmas.{closed}
 use Rattle.radical_generators.specs.FirstLayer.{product, layer_size, layer_member}
-use Rattle.radical_generators.specs.Images.{AreImages}
+use Rattle.neg_basis.specs.Images.{AreImages}
 use Rattle.radical_generators.specs.Claims.{Spanned, maps, AreGenerators, RadicalGeneratorClaims}
 use Rattle.radical_generators.proofs.ClosedSets.{ideal-product, less-one-in-submodule}
 use Rattle.radical_generators.proofs.ClosedSpans.{span-submodule}
 use Rattle.radical_generators.proofs.Ideal.{ideal-claims}
 use Rattle.radical_generators.proofs.Rows.{layer_map-linear, layer_map-row}
-use Rattle.radical_generators.proofs.ImageLists.{image-place}
+use Rattle.neg_basis.proofs.ImageLemmas.{image-place}
 
 -- the vectors that every g - 1 takes into a submodule
 module _ {n : ℕ} (q : ℕ) (Γ : Group n) (T : Module (suc q) (monoid Γ)) (L : T.of → Type 0)

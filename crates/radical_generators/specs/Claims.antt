@@ -14,7 +14,7 @@ use Rattle.neg_basis.specs.Origins.{chosen_rows}
 use Rattle.neg_basis.specs.Results.{IsNegBasisOf}
 use Rattle.neg_basis.specs.declared.origin.Origin.{Origin}
 use Rattle.radical_generators.specs.FirstLayer.{layer_size, layer_member, layer_map}
-use Rattle.radical_generators.specs.Images.{AreImages}
+use Rattle.neg_basis.specs.Images.{AreImages}
 
 module _ {n : ℕ} (q : ℕ) (Γ : Group n) (K : RowForm n (Table q Γ 1)) (Y : Layers) where
   -- the members of layer 1 lie in J and generate it as a left ideal

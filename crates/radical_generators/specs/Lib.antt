@@ -1,3 +1,2 @@
 pub mod FirstLayer
-pub mod Images
 pub mod Claims

@@ -10,7 +10,7 @@ ghost use Rattle.augmentation_ideal.specs.Claims.{IsPrimePower};
 ghost use Rattle.radical_layers.specs.Coordinates.{RowForm};
 ghost use Rattle.radical_layers.specs.LayerBasis.{Layers, AreLayers};
 ghost use Rattle.radical_generators.specs.FirstLayer.{layer_size};
-ghost use Rattle.radical_generators.specs.Images.{AreImages};
+ghost use Rattle.neg_basis.specs.Images.{AreImages};
 ghost use Rattle.radical_generators.specs.Claims.{IdealClaims, MapClaims, ChosenClaims};
 ghost use Rattle.radical_generators.specs.Claims.{RadicalGeneratorClaims};
 ghost use Rattle.augmentation_ideal.specs.Radical.{IsSubmodule};

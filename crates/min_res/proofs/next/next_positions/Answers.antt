@@ -1,9 +1,7 @@
-use Rattle.std.proofs.Common.{◌≡◌, ◌*◌, arith, ◌∙◌}
+use Rattle.std.proofs.Common.{arith, sym, ◌∙◌}
 use mathlib.Core.Path.{subst}
-use Rattle.group_table.specs.Tables.{order}
-use Rattle.linear_algebra.specs.Rows.{IsEchelonOf}
 use Rattle.linear_algebra.specs.Choices.{IsGreedy}
-use Rattle.min_res.proofs.StageAbove.{positions-found, echelon-count}
+use Rattle.neg_basis.proofs.ImageLemmas.{echelon-count}
 use Rattle.min_res.proofs.next.next_positions.Goals as goal
 
 pub greedy-requires-clause-few : goal.greedy-requires-clause-few
@@ -13,16 +11,15 @@ greedy-requires-clause-few c = omega (
   c.requires.small,
 )
 
-pub returns : goal.returns
-returns c d eb eE =
-    let width : c.in_ok-moved.moved.width ≡ order c.args.algebra.now.table * c.args.rank =
-    c.in_ok-moved.ensures.width ∙ c.requires.list_width in
-    positions-found c.args.algebra.now d c.args.rank c.args.list.now.rows eb eE c.args.generators.now
-    c.requires.generators c.in_ok-moved.moved.rows c.in_ok-span.span.rows c.in_ok-positions.positions
-    c.in_ok-moved.ensures.rows
-    (subst (λ n. IsEchelonOf c.args.algebra.now.table.p n c.in_ok-moved.moved.rows c.in_ok-span.span.rows)
-    width
-    (subst (λ p. IsEchelonOf p c.in_ok-moved.moved.width c.in_ok-moved.moved.rows c.in_ok-span.span.rows)
-    c.in_ok-moved.ensures.prime c.in_ok-span.ensures.rows))
-    (subst (λ p. IsGreedy p c.args.list.now.rows c.in_ok-span.span.rows c.in_ok-positions.positions)
-    c.requires.list_prime c.in_ok-positions.ensures)
+pub greedy-requires-clause-same_prime : goal.greedy-requires-clause-same_prime
+greedy-requires-clause-same_prime c =
+    c.requires.list_prime ∙ sym (c.reduced.ensures.same_field ∙ c.in_ok-basis.ensures.prime)
+
+pub greedy-requires-clause-same_width : goal.greedy-requires-clause-same_width
+greedy-requires-clause-same_width c = sym (c.reduced.ensures.same_width ∙ c.in_ok-basis.ensures.width)
+
+pub returns-clause-positions : goal.returns-clause-positions
+returns-clause-positions c d e f = c.in_ok-basis.ensures.positions d e f c.reduced.result.now.rows
+    c.in_ok-positions.positions c.reduced.ensures.rows
+    (subst (λ p. IsGreedy p c.args.list.now.rows c.reduced.result.now.rows c.in_ok-positions.positions)
+    (c.requires.list_prime ∙ sym c.in_ok-basis.ensures.prime) c.in_ok-positions.ensures)

@@ -20,6 +20,11 @@ overflow_mul-dimension c =
     c.len.result
     (ap (λ (m : MatrixValue). m.width) c.requires.last.kernel_is) c.requires.small c.order.ensures.small
     (c.len.ensures ∙ ap (λ (x : Rattle.std.specs.Prelude.List ℕ). length x)
-    (c.in_ok-positions.ensures c.args.last.now.degree (c.rank.ensures ∙ c.requires.last.rank_is)
+    (c.in_ok-positions.ensures.positions c.args.last.now.degree (c.rank.ensures ∙ c.requires.last.rank_is)
     (ap (λ (m : MatrixValue). m.rows) (c.kernel.ensures ∙ c.requires.last.kernel_is)))) in
     omega (arith, small)
+
+pub returns-clause-radical : goal.returns-clause-radical
+returns-clause-radical c = c.in_ok-positions.ensures.radical c.args.last.now.degree
+    (c.rank.ensures ∙ c.requires.last.rank_is)
+    (ap (λ (m : MatrixValue). m.rows) (c.kernel.ensures ∙ c.requires.last.kernel_is))

@@ -20,6 +20,7 @@ loop-number-preserved g c = let step : Continues c.args.vectors.now.p c.args.vec
           c.in_ok-apply_one.ensures.basis;
       heads_are = c.in_ok-apply_one.ensures.heads_are;
       grown = omega (arith, c.in_ok-apply_one.ensures.grown, c.loop-number.invariant.grown);
+      origins = λ h. c.in_ok-apply_one.ensures.origins (c.loop-number.invariant.origins h);
       worked = λ gens n W. step gens n (c.loop-number.invariant.worked gens n W);
     }
 

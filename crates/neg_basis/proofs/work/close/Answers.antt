@@ -34,6 +34,7 @@ loop-of-preserved g c = let step : Continues c.args.vectors.now.p c.args.vectors
           c.in_ok-apply_all.ensures.basis;
       heads_are = c.in_ok-apply_all.ensures.heads_are;
       inside = omega (arith, c.in_ok-apply_all.ensures.grown, c.loop-of-test.true, c.rows.ensures.count);
+      origins = λ h. c.in_ok-apply_all.ensures.origins (c.loop-of.invariant.origins h);
       worked = λ gens n W. step gens n (c.loop-of.invariant.worked gens n W);
     }
 

@@ -2,7 +2,7 @@ use Rattle.std.proofs.Common.{◌≤◌, arith, ap}
 use mathlib.Core.Path.{subst}
 use Rattle.fp_rows.specs.Values.{MatrixValue}
 use Rattle.min_res.specs.Values.{ResolutionValue}
-use Rattle.min_res.proofs.StageLists.{grown}
+use Rattle.min_res.proofs.StageLists.{grown, this-one}
 use Rattle.min_res.proofs.StageLaws.{exact-minimal, section-is}
 use Rattle.min_res.proofs.resolution.Resolution.extend.Goals as goal
 
@@ -17,10 +17,11 @@ pub returns-clause-section : goal.returns-clause-section
 returns-clause-section c = section-is c.args.self.now.group c.args.self.now.last
 
 pub invariant_of-self-2 : goal.invariant_of-self-2
-invariant_of-self-2 c = grown _ c.args.self.now.group _ c.self.inside.stages.items _
+invariant_of-self-2 c = grown _ c.args.self.now.group _ _ c.self.inside.stages.items _
     c.self.inside.computed _ c.args.self.now.last c.args.limit c.in_ok-shared.shared c.in_ok-stage.stage
     c.self.invariant (omega arith)
     (ap (λ (v : ResolutionValue). v.group) c.self.view_is)
     (ap (λ (v : ResolutionValue). v.last) c.self.view_is) c.requires.few
-    c.in_ok-stage.ensures.stage c.in_ok-stage.ensures.width c.requires.limit c.in_ok-shared.ensures.ok
-    c.in_ok-push.ensures.items
+    c.in_ok-stage.ensures.stage c.in_ok-stage.ensures.width c.requires.limit
+    (this-one c.args.self.now.group c.args.self.now.last c.in_ok-stage.radical c.in_ok-stage.ensures.radical)
+    c.in_ok-shared.ensures.ok c.in_ok-push.ensures.items

@@ -8,11 +8,3 @@ pub record AreImages (p m : ℕ) (image : ℕ → (ℕ → ℕ) → ℕ → ℕ)
   pub count : length images ≡ length rows * m
   pub each : (i k : ℕ) → i < length rows → k < m → (j : ℕ)
       → IsCongruent p (entry (row images (i * m + k)) j) (image k (entry (row rows i)) j)
-
--- behind the rows `before` stand the images of v under the first m maps
-pub record AddsImages (p m : ℕ) (image : ℕ → (ℕ → ℕ) → ℕ → ℕ) (v : ℕ → ℕ) (before images : List (List ℕ))
-    : Type 0 where
-  pub count : length images ≡ length before + m
-  pub kept : (t : ℕ) → t < length before → row images t ≡ row before t
-  pub each : (k : ℕ) → k < m → (j : ℕ)
-      → IsCongruent p (entry (row images (length before + k)) j) (image k v j)
