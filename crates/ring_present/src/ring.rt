@@ -126,8 +126,7 @@ impl Ring {
     }
 
     /// The degree through which the ring is known: 0 for that of no group, and else it has the generators and
-    /// relations of its group through
-    /// this degree.
+    /// relations of its group through this degree.
     pub fn degree(&self) -> u32
         ensures value { result ≡ self.now.degree }
         ensures known { IsKnown self.now }

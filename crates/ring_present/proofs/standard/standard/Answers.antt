@@ -3,7 +3,9 @@ use Rattle.std.proofs.lemmas.Option.{get_or_from_slice_get}
 use Rattle.fp_rows.specs.Refs.{entries_of}
 use Rattle.ring_present.proofs.StandardPlaces.{pivot-left-out, monomial-taken, value-taken, left-are-greater}
 use Rattle.ring_present.proofs.standard.standard.Goals as goal
-use Rattle.ring_present.proofs.standard.standard.Goals.{then-not-is_pivot+in_ok-try_clone+in_ok-push+in_ok-push-2}
+use Rattle.ring_present.proofs.standard.standard.Goals.{
+  then-not-is_pivot+in_ok-try_clone+in_ok-push+in_ok-push-2,
+}
 use Rattle.ring_present.proofs.standard.standard.Goals.{else-not-is_pivot}
 
 pub push-requires : goal.push-requires
