@@ -1,5 +1,5 @@
 -- Negative standard bases of J K_d.
-use Rattle.std.proofs.Common.{◌≡◌, ℕ, suc, ◌*◌, List, length, sym, ap, ◌∙◌}
+use Rattle.std.proofs.Common.{◌≡◌, ℕ, suc, ◌*◌, List, length, sym, ◌∙◌}
 use mathlib.Core.Path.{subst}
 use Rattle.linear_algebra.specs.Rows.{entry, IsInSpan, IsEchelonOf}
 use Rattle.linear_algebra.specs.Choices.{IsGreedy}

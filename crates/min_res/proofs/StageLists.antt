@@ -5,7 +5,7 @@ use Rattle.std.proofs.lemmas.Bool.{cases_lt}
 use Rattle.std.proofs.lemmas.List.{get_or_append_left, get_or_push, length_push, length-map, get_or-map}
 use Rattle.std.proofs.lemmas.List.{map-append}
 use Rattle.std.specs.declared.rc.Rc.{Rc}
-use Rattle.std.specs.Prelude.{Option, None, Some, unwrap_or, refl}
+use Rattle.std.specs.Prelude.{Option, None, Some, unwrap_or}
 use mathlib.Core.Path.{subst}
 use Rattle.p_groups.specs.PGroups.{PGroup}
 use Rattle.neg_basis.specs.Results.{BasisValue}

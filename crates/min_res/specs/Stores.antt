@@ -1,6 +1,6 @@
 -- What a resolution keeps of its stages.
 use Rattle.std.specs.Prelude.{◌≡◌, ℕ, suc, ◌<◌, ◌≤◌, ◌^◌, List, length, map, slice_index_or}
-use Rattle.std.specs.Prelude.{Option, None, Some}
+use Rattle.std.specs.Prelude.{Option, Some}
 use Rattle.std.specs.declared.rc.Rc.{Rc}
 use Rattle.p_groups.specs.PGroups.{PGroup}
 use Rattle.neg_basis.specs.Results.{BasisValue}
