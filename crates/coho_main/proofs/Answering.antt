@@ -1,5 +1,5 @@
 -- The answer to words, from the calls that read them, load a presentation and answer.
-use Rattle.std.proofs.Common.{◌≡◌, ◌∙◌, ◌⊎◌, inl, inr, ℕ, List, [], ◌∷◌, ◌++◌, Bool, true, false, refl, sym}
+use Rattle.std.proofs.Common.{◌≡◌, ◌∙◌, inl, inr, ℕ, zero, suc, List, [], ◌∷◌, true, false, refl, sym}
 use Rattle.std.proofs.Common.{ap, subst, arith}
 use Rattle.std.specs.List.{Contains}
 use Rattle.std.proofs.lemmas.List.Elements.{Contains-append_left, Contains-append_right}
@@ -11,24 +11,22 @@ use Rattle.std.specs.Result.{IfErr}
 use Rattle.coho_io.specs.Causes.{NoneFell}
 use Rattle.coho_io.specs.Content.{Content, file}
 use Rattle.power_commutator.specs.Presentations.{Presentation}
-use Rattle.stage_records.specs.Walks as walks
 use Rattle.coho_main.specs.declared.cause.Cause.TheVariants as cause
 use Rattle.coho_main.specs.declared.cause.FilePart.TheVariants as part
 use Rattle.coho_main.specs.declared.stop.Stop.{Stop}
 use Rattle.coho_main.specs.declared.stop.Stop.TheVariants as stop
 use Rattle.coho_main.specs.declared.words.Command.{Command as Named}
-use Rattle.coho_main.specs.Outcome.{Answer, Ask, Comes, Given, Load, Reply}
-use Rattle.coho_main.specs.Refusals.{file_refused}
-use Rattle.coho_main.specs.Run.{Agrees, Leaves, OfFiles}
-use Rattle.coho_main.specs.Saving.{Answered, AreSameBut, CommandLeaves, FromTo, SavesFront, WordsLeave, Works}
+use Rattle.coho_main.specs.InTurn.{IsSavedInTurn, MayRead, MaySave, WhereTold}
+use Rattle.coho_main.specs.Outcome.{Answer, Ask, Comes, Given, Reply}
+use Rattle.coho_main.specs.Run.{Agrees}
+use Rattle.coho_main.specs.Saving.{Answered, ComesToSave, CommandLeaves, FromTo, WordsLeave, Works}
 use Rattle.coho_main.specs.Saving.{reads_twice}
-use Rattle.coho_main.specs.StageFiles.{IsFrontSaved}
-use Rattle.coho_main.specs.Steps.{Step, ◌>>=◌}
+use Rattle.coho_main.specs.Steps.{Step}
 use Rattle.coho_main.specs.Stops.{HasCause, HasReadCause, KeepsAtRead, Meets, Settles}
 use Rattle.coho_main.specs.Words.{Command, Group, Resolve, Ring, Check, Value, Sample, IsRead, IsSaved, asked}
 use Rattle.coho_main.specs.Words.{command}
 use Rattle.coho_main.specs.Words.{from_of, path_of, paths_of, save_of}
-use Rattle.coho_main.proofs.Chain.{after_ok, settled_meets}
+use Rattle.coho_main.proofs.Chain.{after_ok}
 use Rattle.coho_main.proofs.Replies.{Lines, MeetsOf, ask_stop, ask_then, given_stop, itself, lines_of}
 use Rattle.coho_main.proofs.Twice.{given_same, twice}
 use Rattle.coho_main.proofs.Working.{Counts, cause_map, has_cause, is_kept, read_cause, same_kept}
@@ -41,9 +39,19 @@ there path = (0, omega arith, refl)
 of_path : (o : Option (List ℕ)) (path : List ℕ) → o ≡ Some path → Contains (paths_of o) path
 of_path o path e = subst (λ (o : Option (List ℕ)). Contains (paths_of o) path) (sym e) (there path)
 
+one_path : (o : Option (List ℕ)) (path : List ℕ) → Contains (paths_of o) path → o ≡ Some path
+one_path None path (i, l, e) = absurd (omega (arith, l))
+one_path (Some other) path (zero, l, e) = ap (λ (p : List ℕ). Some p) e
+one_path (Some other) path (suc i, l, e) = absurd (omega (arith, l))
+
 module _ (words : List (List ℕ)) (c : Command) (is : command words ≡ Some c) where
   text_read : (path : List ℕ) → Contains (paths_of (path_of c)) path → IsRead words path
   text_read path h = (c, is, Contains-append_left (paths_of (path_of c)) (paths_of (from_of c)) path h)
+
+  -- the file of the presentation is read first
+  text_may_read : (known : Option Content) (path : List ℕ) → Contains (paths_of (path_of c)) path
+      → MayRead words known path
+  text_may_read known path h = (text_read path h, λ told e. (c, is, inl (one_path (path_of c) path h)))
 
   stages_read : (path : List ℕ) → from_of c ≡ Some path → IsRead words path
   stages_read path e = (
@@ -77,7 +85,8 @@ module _ (words : List (List ℕ)) (known : Option Content) (reads writes : Coun
       → Answered words known known reads reads writes writes (Err s)
   at_words s h = record {
     ends = met lines_of (Comes words) known known (Err s) refl (ask_stop known words s h);
-    cause = has_cause asked (Ask words) (IsRead words) (IsSaved words) reads reads writes writes (Err s) h;
+    cause = has_cause asked (Ask words) (MayRead words known) (MaySave words known)
+        reads reads writes writes (Err s) h;
     left = λ told e. (told, e, inl refl);
     kept = is_kept asked (Ask words) known known (Err s) h;
   }
@@ -91,8 +100,9 @@ module _ (words : List (List ℕ)) (known : Option Content) (reads writes : Coun
     at_given s h cause = record {
       ends = met lines_of (Comes words) known mid (Err s) same
           (ask_then known words c (Err s) ask (given_stop known (asked c) s h));
-      cause = read_cause (λ path. Contains (paths_of (path_of (asked c))) path) (IsRead words) (IsSaved words)
-          (text_read words (asked c) is) reads reads_mid writes writes_mid s cause;
+      cause = read_cause (λ path. Contains (paths_of (path_of (asked c))) path) (MayRead words known)
+          (MaySave words known) (text_may_read words (asked c) is known) reads reads_mid writes writes_mid s
+          cause;
       left = λ told e. (told, same ∙ e, inl refl);
       kept = same_kept known mid same s;
     }
@@ -138,15 +148,53 @@ module _ (words : List (List ℕ)) (known : Option Content) (reads writes : Coun
       leaves told left (Value path k es) is h l = inl l
       leaves told left (Sample k) is h l = inl l
 
+      saves : (told : Content) (path : List ℕ) (c : Command) → command words ≡ Some c
+          → Given c told (Ok P) told
+          → save_of c ≡ Some path → ComesToSave c P told → IsSavedInTurn words path told
+      saves told path (Ring file n stages) is h e t = record {
+        file = file;
+        n = n;
+        stages = stages;
+        asked = is;
+        named = e;
+        presentation = P;
+        loaded = h;
+        taken = t;
+      }
+      saves told path (Group file) is h e t = absurd t
+      saves told path (Resolve file n) is h e t = absurd t
+      saves told path (Check file stages) is h e t = absurd t
+      saves told path (Value file k es) is h e t = absurd t
+      saves told path (Sample k) is h e t = absurd t
+
       told_given : (told : Content) → known ≡ Some told → Given (asked c) told (Ok P) told
       told_given told e = subst (λ (files : Content). Given (asked c) files (Ok P) files) (sym
           (given.1 told e)) given.2
+
+      abbrev Reads : List ℕ → Type 0
+      Reads path = from_of (asked c) ≡ Some path
+
+      abbrev Saves : List ℕ → Type 0
+      Saves path = (save_of (asked c) ≡ Some path) × WhereTold mid (ComesToSave (asked c) P)
+
+      may_read : (path : List ℕ) → Reads path → MayRead words known path
+      may_read path e = (
+        stages_read words (asked c) is path e,
+        λ told k. (asked c, is, inr (e, (P, told_given told k))),
+      )
+
+      may_save : (path : List ℕ) → Saves path → MaySave words known path
+      may_save path h = (
+        stages_saved words (asked c) is path h.0,
+        λ told k. saves told path (asked c) is (told_given told k) h.0 (h.1 told (same ∙ k)),
+      )
 
       module _ (now : Option Content) (reads_now writes_now : Counts) (r : Result Lines Stop)
           (once : reads_twice (asked c) ≡ false) (l : NoneFell reads reads_mid)
           (m : NoneFell writes writes_mid)
           (w : Works lines_of (Answer (asked c) P) (from_of (asked c)) (save_of (asked c))
-          (CommandLeaves (asked c) P) mid now reads_mid reads_now writes_mid writes_now r) where
+          (CommandLeaves (asked c) P) (ComesToSave (asked c) P) mid now reads_mid reads_now writes_mid
+          writes_now r) where
         agrees : Agrees mid given.0
         agrees told e = given.1 told (sym same ∙ e)
 
@@ -168,15 +216,12 @@ module _ (words : List (List ℕ)) (known : Option Content) (reads writes : Coun
         }
           where
             caused : (r : Result Lines Stop)
-                → IfErr r (HasCause (λ path. from_of (asked c) ≡ Some path) (λ path. save_of
-                (asked c) ≡ Some path)
-                reads_mid reads_now writes_mid writes_now)
-                → IfErr r (HasCause (IsRead words) (IsSaved words) reads reads_now writes writes_now)
+                → IfErr r (HasCause Reads Saves reads_mid reads_now writes_mid writes_now)
+                → IfErr r (HasCause (MayRead words known) (MaySave words known) reads reads_now writes
+                writes_now)
             caused (Ok x) h = tt
             caused (Err s) h =
-                cause_map (λ path. from_of (asked c) ≡ Some path) (IsRead words) (λ path. save_of
-                (asked c) ≡ Some path)
-                (IsSaved words) (stages_read words (asked c) is) (stages_saved words (asked c) is)
+                cause_map Reads (MayRead words known) Saves (MaySave words known) may_read may_save
                 reads reads_mid reads_now writes writes_mid writes_now l m s h
 
             stays : (r : Result Lines Stop) → IfErr r (KeepsAtRead mid now) → IfErr r (KeepsAtRead known now)

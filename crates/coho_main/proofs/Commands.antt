@@ -1,6 +1,6 @@
 -- The command of the words, by its name and the words after it.
 use Rattle.std.proofs.Common.{◌≡◌, ◌∙◌, ◌⊎◌, inl, inr, Bool, true, false, not, ◌&&◌, ◌==◌, ℕ, List, [], ◌∷◌}
-use Rattle.std.proofs.Common.{length, slice_index_or, drop, string_bytes, String, Global, ◌<◌, ◌≤◌, cond, sym}
+use Rattle.std.proofs.Common.{length, cond, sym}
 use Rattle.std.proofs.Common.{ap, subst, refl, codes, arith, true≢false}
 use Rattle.std.proofs.lemmas.Slice.Eq.{bytes_eq-Decides}
 use Rattle.std.proofs.lemmas.Bool.Decides.{nat_tests}
@@ -28,7 +28,7 @@ use Rattle.coho_main.specs.Outcome.{Ask}
 use Rattle.coho_main.specs.Words.{Command, Group, Resolve, Check, Value, Sample, asked, command, elements_of}
 use Rattle.coho_main.specs.Words.{file_and_degree, file_and_place, is_path, numbers, place, one_operand}
 use Rattle.coho_main.specs.Words.{plain_command}
-use Rattle.coho_main.specs.Words.{sample_number, texts, two_operands, with_degree}
+use Rattle.coho_main.specs.Words.{sample_number, two_operands, with_degree}
 
 abbrev pub Text : Type 0
 Text = List ℕ

@@ -1,6 +1,5 @@
 -- The number of records of a stage file, or the stop at its fault.
-use Rattle.std.proofs.Common.{◌≡◌, ◌∙◌, ◌⊎◌, inl, inr, ℕ, ◌≤◌, List, refl, sym, ap, subst}
-use Rattle.std.specs.Prelude.{IsSome}
+use Rattle.std.proofs.Common.{◌≡◌, ◌∙◌, inl, ℕ, ◌≤◌, List, refl, sym, ap, subst}
 use Rattle.std.specs.declared.option.Option.{Option}
 use Rattle.std.specs.declared.option.Option.TheVariants.{None, Some}
 use Rattle.std.specs.declared.result.Result.{Result}
@@ -19,7 +18,6 @@ use Rattle.stage_walk.specs.Faults.{IsNumbered, IsWalkStop}
 use Rattle.stage_walk.specs.declared.fault.StagesFault.{StagesFault}
 use Rattle.stage_walk.specs.declared.fault.StagesFault.TheVariants as fault
 use Rattle.coho_main.specs.declared.cause.Cause.TheVariants as cause
-use Rattle.coho_main.specs.declared.cause.FilePart.TheVariants as part
 use Rattle.coho_main.specs.declared.ring_words.StageFiles.{StageFiles as NamedFiles}
 use Rattle.coho_main.specs.declared.stop.Stop.{Stop}
 use Rattle.coho_main.specs.declared.stop.Stop.TheVariants as stop
@@ -48,7 +46,7 @@ module _ (P : Presentation) (G : PGroup) (is : IsTableOf P G) (path : Bor (List 
 
   abbrev Counted : Result ℕ Stop → Type 0
   Counted r = Works (λ (count : ℕ). count) (WalkFile P GREATEST_DEGREE path.now) (Some path.now) None
-      (λ old left. left ≡ old) known now reads reads_now writes writes_now r
+      (λ old left. left ≡ old) (λ files. ⊥) known now reads reads_now writes writes_now r
 
   abbrev Counts_to : ℕ → Content → Type 0
   Counts_to count files = WalkFile P GREATEST_DEGREE path.now files (Ok count) files

@@ -1,5 +1,5 @@
 -- The stops at faults of stages, as the steps that find them are refused.
-use Rattle.std.proofs.Common.{◌≡◌, ◌∙◌, ◌⊎◌, inl, inr, ℕ, ◌≤◌, List, refl, sym, ap, subst, arith}
+use Rattle.std.proofs.Common.{◌≡◌, ◌∙◌, ℕ, List, refl, sym, ap, subst, arith}
 use Rattle.std.specs.Prelude.{IsSome, ⊤}
 use Rattle.std.specs.declared.option.Option.{Option}
 use Rattle.std.specs.declared.option.Option.TheVariants.{None, Some}
@@ -30,11 +30,11 @@ use Rattle.coho_main.specs.declared.stop.Stop.TheVariants as stop
 use Rattle.coho_main.specs.Groups.{IsTableOf}
 use Rattle.coho_main.specs.Refusals.{file_refused, stage_refused}
 use Rattle.coho_main.specs.Saving.{FromAny, Works}
-use Rattle.coho_main.specs.StageFiles.{FindStages, IsFrontSaved}
+use Rattle.coho_main.specs.StageFiles.{AreTaken, FindStages, IsFrontSaved}
 use Rattle.coho_main.specs.Stopping.{HasPath, IsStopAt}
 use Rattle.coho_main.specs.Stops.{Meets}
 use Rattle.coho_main.specs.Words.{path_in, stage_files}
-use Rattle.coho_main.proofs.FoundStages.{anyhow, choose_goes, choose_stops, goes, left_all}
+use Rattle.coho_main.proofs.FoundStages.{anyhow, are_taken, choose_goes, choose_stops, goes, left_all}
 use Rattle.coho_main.proofs.FoundStages.{left_front, left_same, stops}
 use Rattle.coho_main.proofs.SomeFiles.{ends_so, refusing_header, refusing_presentation, refusing_record}
 use Rattle.coho_main.proofs.SomeFiles.{taking}
@@ -69,7 +69,7 @@ module _ (P : Presentation) (G : PGroup) (is : IsTableOf P G) (n : ℕ) (named :
 
   abbrev Found : Result ResolutionValue Stop → Type 0
   Found r = Works (λ (x : ResolutionValue). tt) (FindStages P n (stage_files named)) from save
-      (IsFrontSaved P n save)
+      (IsFrontSaved P n (stage_files named)) (AreTaken P n from)
       known now reads reads_now writes writes_now r
 
   some_taken : (bytes : List ℕ) × ((c : ℕ) × (walk_of G (canonical P) n bytes ≡ ends_so c None))
@@ -91,7 +91,7 @@ module _ (P : Presentation) (G : PGroup) (is : IsTableOf P G) (n : ℕ) (named :
         saves (λ seen agrees. choose_goes P G is n save known from seen agrees
         (λ files k. (let w = walk files k in (w.0, w.1))) some_taken);
     cause = tt;
-    left = left_all P G is n save from known now saves;
+    left = left_all P G is n save from known now saves walk;
     kept = tt;
   }
 
@@ -143,7 +143,7 @@ module _ (P : Presentation) (G : PGroup) (is : IsTableOf P G) (n : ℕ) (named :
         (λ seen agrees. choose_goes P G is n save known from seen agrees
         (λ files k. (let w = h.1 files k in (w.0, w.1))) some_taken);
     cause = tt;
-    left = left_all P G is n save from known now l;
+    left = left_all P G is n save from known now l h.1;
     kept = tt;
   })
   failed fault.Memory s at h l m = subst Failed (sym at) (record {
@@ -170,7 +170,9 @@ module _ (P : Presentation) (G : PGroup) (is : IsTableOf P G) (n : ℕ) (named :
     ends = anyhow P G is n save from known now (λ files left. Meets (λ (x : ResolutionValue). tt)
         (FindStages P n (stage_files named)) files left (Err (stop.Save path))) (λ files left. tt)
         (left_front P G is n save from known now l);
-    cause = rose_at named.save path writes writes_now at h.0;
+    cause =
+        let r = rose_at named.save path writes writes_now at h.0 in
+        ((r.0, are_taken P G is n save from known now h.1), r.1);
     left = left_front P G is n save from known now l;
     kept = tt;
   }

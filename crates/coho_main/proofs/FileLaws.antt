@@ -1,22 +1,20 @@
 -- With a stage file of which nothing is refused the outcome is that without it.
-use Rattle.std.proofs.Common.{◌≡◌, ◌∙◌, ◌⊎◌, inl, inr, ℕ, ◌≤◌, List, take, refl, sym, ap, subst}
+use Rattle.std.proofs.Common.{◌≡◌, ◌∙◌, inl, inr, ℕ, ◌≤◌, List, take, refl, sym, ap, subst}
 use Rattle.std.specs.Prelude.{MatchOption}
 use Rattle.std.specs.declared.option.Option.{Option}
 use Rattle.std.specs.declared.option.Option.TheVariants.{None, Some}
 use Rattle.std.specs.declared.result.Result.{Result}
 use Rattle.std.specs.declared.result.Result.TheVariants.{Ok, Err}
 use Rattle.limits.specs.declared.TheConstants.{GREATEST_DEGREE}
-use Rattle.coho_io.specs.Content.{Content, file}
+use Rattle.coho_io.specs.Content.{Content}
 use Rattle.p_groups.specs.PGroups.{PGroup}
 use Rattle.pc_text.specs.Canonical.{canonical}
 use Rattle.power_commutator.specs.Presentations.{Presentation}
 use Rattle.stage_records.specs.Walks.{Walked, WalkFault}
 use Rattle.stage_file.specs.Honest.{file_of, walk_of}
 use Rattle.stage_file.proofs.Honest.{front}
-use Rattle.coho_main.specs.Groups.{ForGroupOf, IsTableOf}
 use Rattle.coho_main.specs.HonestFiles.{AreWordsWithout, IsAccepted, IsAcceptedFile, IsHonestFile}
-use Rattle.coho_main.specs.Outcome.{Answer, AnswerRing, Comes, Ending, Load, Outcome, Reply, TellReport}
-use Rattle.coho_main.specs.Outcome.{ending}
+use Rattle.coho_main.specs.Outcome.{AnswerRing, Comes, Ending, Load, Outcome, Reply}
 use Rattle.coho_main.specs.Refusals.{file_refused, words_refused}
 use Rattle.coho_main.specs.StageFiles.{FindStages, OrMissing, SaveStages, TakeStages, Walk}
 use Rattle.coho_main.specs.Steps.{OrRefuse, Refusal}

@@ -1,6 +1,7 @@
 -- The stages of a group, found as the walk over one file goes and saved to another.
-use Rattle.std.proofs.Common.{◌≡◌, ◌∙◌, ◌⊎◌, inl, inr, ℕ, ◌≤◌, List, length, take, refl, sym, ap, subst}
+use Rattle.std.proofs.Common.{◌≡◌, ◌∙◌, ◌⊎◌, inl, inr, ℕ, List, length, take, refl, sym, ap, subst}
 use Rattle.std.proofs.Common.{arith}
+use Rattle.std.specs.Prelude.{⊤}
 use Rattle.std.proofs.lemmas.List.{take_all}
 use Rattle.std.specs.Option.{option_map}
 use Rattle.std.specs.declared.option.Option.{Option}
@@ -13,16 +14,16 @@ use Rattle.pc_text.specs.Canonical.{canonical}
 use Rattle.power_commutator.specs.Presentations.{Presentation}
 use Rattle.stage_records.specs.Walks.{WalkFault, Walked}
 use Rattle.stage_file.specs.Honest.{file_of, walk_of}
-use Rattle.stage_walk.specs.Asked.{AfterWalk, Asked, Refuses, WalkRefuses, walk_from}
+use Rattle.stage_walk.specs.Asked.{AfterWalk, Asked, Refuses, WalkRefuses}
 use Rattle.stage_walk.specs.Asked as walking
-use Rattle.stage_walk.specs.Saved.{SavesAll, SavesFront, honest_file, saved}
+use Rattle.stage_walk.specs.Saved.{SavesAll, SavesFront, saved}
 use Rattle.coho_main.specs.Groups.{IsTableOf}
+use Rattle.coho_main.specs.InTurn.{WhereTold}
 use Rattle.coho_main.specs.Refusals.{file_refused}
 use Rattle.coho_main.specs.Run.{Agrees, Leaves}
 use Rattle.coho_main.specs.Saving.{AreSameBut, FromAny, FromTo, OfTold}
-use Rattle.coho_main.specs.StageFiles.{FindStages, FitStages, IsFrontSaved, IsWalkRefusal, OrMissing}
-use Rattle.coho_main.specs.StageFiles.{SaveStages}
-use Rattle.coho_main.specs.StageFiles.{TakeStages, Walk}
+use Rattle.coho_main.specs.StageFiles.{AreTaken, FindStages, FitStages, IsFrontSaved, IsWalkRefusal}
+use Rattle.coho_main.specs.StageFiles.{OrMissing, TakeStages, Walk}
 use Rattle.coho_main.specs.Steps.{Refusal}
 use Rattle.coho_main.specs.Words.{StageFiles}
 use Rattle.coho_main.proofs.SavedFiles.{other_file, there_file}
@@ -64,15 +65,12 @@ module _ (P : Presentation) (G : PGroup) (is : IsTableOf P G) where
     abbrev of_from : Option (List ℕ) → Asked
     of_from from = record { group = G; text = canonical P; degree = n; from = from; save = save }
 
-    -- so it goes on, or is refused
-    abbrev pub Goes : Option (List ℕ) → Content → Type 0
-    Goes from files = (k : ℕ) × TakeStages P n from files (Ok k) files
-
+    -- so it is refused
     abbrev pub Stops : WalkFault → Option (List ℕ) → Content → Type 0
     Stops fault from files = TakeStages P n from files (Err (file_refused fault)) files
 
     known_goes : (from : Option (List ℕ)) (files : Content) (c : ℕ) → walking.Takes (of_from from) files c
-        → Goes from files
+        → AreTaken P n from files
     known_goes None files c h = (0, (refl, refl))
     known_goes (Some path) files c h =
         let b = bytes_of (file files path) (walk_of G (canonical P) n) (ends_so c None) h in
@@ -130,13 +128,13 @@ module _ (P : Presentation) (G : PGroup) (is : IsTableOf P G) where
         → ((files : Content) → walking.AreKnown (of_from from) known files
         → (c : ℕ) × walking.Takes (of_from from) files c)
         → ((bytes : List ℕ) × ((c : ℕ) × (walk_of G (canonical P) n bytes ≡ ends_so c None)))
-        → Chosen known from seen (Goes from)
+        → Chosen known from seen (AreTaken P n from)
     choose_goes (Some told) from seen agrees walk some =
-        let w = walk told (inl refl) in choose_told told from seen (Goes from) agrees
+        let w = walk told (inl refl) in choose_told told from seen (AreTaken P n from) agrees
         (known_goes from told w.0 w.1)
-    choose_goes None None seen agrees walk some = choose_seen seen None (Goes None) (0, (refl, refl))
+    choose_goes None None seen agrees walk some = choose_seen seen None (AreTaken P n None) (0, (refl, refl))
     choose_goes None (Some path) seen agrees walk some =
-        choose_put path some.0 seen (Goes (Some path)) (
+        choose_put path some.0 seen (AreTaken P n (Some path)) (
           some.1.0,
           walk_taken n path some.0 (with_file seen path some.0) some.1.0
               (there_file seen path some.0) some.1.1,
@@ -176,7 +174,7 @@ module _ (P : Presentation) (G : PGroup) (is : IsTableOf P G) where
 
       pub goes : (end : Result (Unit {0}) Refusal)
           → ((files : Content) → FitStages P n files end files) → SavesAll (of_from from) known now
-          → ((seen : Content) → Agrees known seen → Chosen known from seen (Goes from)) → Ends end
+          → ((seen : Content) → Agrees known seen → Chosen known from seen (AreTaken P n from)) → Ends end
       goes end fit saves chosen = λ seen agrees. (let found = chosen seen agrees in (
         found.files,
         all found.files,
@@ -207,44 +205,52 @@ module _ (P : Presentation) (G : PGroup) (is : IsTableOf P G) where
 
       -- ---- what is left
 
-      pub left_all : SavesAll (of_from from) known now → OfTold known now (IsFrontSaved P n save)
-      left_all saves told e = (
+      -- where files are told, nothing is refused
+      pub are_taken : AfterWalk (of_from from) known (λ _. ⊤) → WhereTold known (AreTaken P n from)
+      are_taken walk told e = let w = walk told (inl e) in known_goes from told w.0 w.1
+
+      pub left_all : SavesAll (of_from from) known now → AfterWalk (of_from from) known (λ _. ⊤)
+          → OfTold known now (IsFrontSaved P n named)
+      left_all saves walk told e = (
         all told,
         saves told e,
-        inr (record {
-          group = G;
-          is_table = is;
-          holds = (
-            length (file_of G (canonical P) n),
-            ap (λ (bytes : List ℕ). saved save bytes told)
-                (sym (take_all (length (file_of G (canonical P) n)) (file_of G (canonical P) n)
-                (omega arith))),
-          );
-        }),
+        inr (
+          are_taken walk told e,
+          record {
+            group = G;
+            is_table = is;
+            holds = (
+              length (file_of G (canonical P) n),
+              ap (λ (bytes : List ℕ). saved save bytes told)
+                  (sym (take_all (length (file_of G (canonical P) n)) (file_of G (canonical P) n)
+                  (omega arith))),
+            );
+          },
+        ),
       )
 
-      pub left_front : SavesFront (of_from from) known now → OfTold known now (IsFrontSaved P n save)
+      pub left_front : SavesFront (of_from from) known now → OfTold known now (IsFrontSaved P n named)
       left_front saves told e = go (saves told e)
         where
           go : (now ≡ Some told) ⊎ ((k : ℕ) × (c : ℕ) × walking.Takes (of_from from) told c
               × (now ≡ Some (saved save (take k (file_of G (canonical P) n)) told)))
-              → (left : Content) × (now ≡ Some left) × IsFrontSaved P n save told left
+              → (left : Content) × (now ≡ Some left) × IsFrontSaved P n named told left
           go (inl same) = (told, same, inl refl)
           go (inr s) = (
             saved save (take s.0 (file_of G (canonical P) n)) told,
             s.3,
-            inr (record { group = G; is_table = is; holds = (s.0, refl) }),
+            inr (known_goes from told s.1 s.2, record { group = G; is_table = is; holds = (s.0, refl) }),
           )
 
-      pub left_same : now ≡ known → OfTold known now (IsFrontSaved P n save)
+      pub left_same : now ≡ known → OfTold known now (IsFrontSaved P n named)
       left_same same told e = (told, same ∙ e, inl refl)
 
       -- a fault of reading or saving, and want of memory, say nothing of the step
       pub anyhow : (Q : Content → Content → Type 0) → ((files left : Content) → Q files left)
-          → OfTold known now (IsFrontSaved P n save) → FromAny from known now Q
+          → OfTold known now (IsFrontSaved P n named) → FromAny from known now Q
       anyhow Q q left = λ seen agrees. at known refl left seen agrees
         where
-          at : (o : Option Content) → known ≡ o → OfTold known now (IsFrontSaved P n save) → (seen : Content)
+          at : (o : Option Content) → known ≡ o → OfTold known now (IsFrontSaved P n named) → (seen : Content)
               → Agrees known seen → FromTo known now (λ files after. AreSameBut from seen files × Q files
               after)
           at (Some told) e left seen agrees =

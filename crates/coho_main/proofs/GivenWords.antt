@@ -1,8 +1,7 @@
 -- The command of the words as they are given, by the name that each is read with.
-use Rattle.std.proofs.Common.{◌≡◌, ◌∙◌, ◌⊎◌, inl, inr, true, false, ℕ, List, [], ◌∷◌, length, slice_index_or}
+use Rattle.std.proofs.Common.{◌≡◌, ◌∙◌, ◌⊎◌, inl, inr, true, false, List, [], ◌∷◌, length, slice_index_or}
 use Rattle.std.proofs.Common.{drop, string_bytes, String, Global, ◌<◌, ◌≤◌, sym, ap, subst, refl, codes}
 use Rattle.std.proofs.Common.{arith}
-use Rattle.std.specs.declared.option.Option.{Option}
 use Rattle.std.specs.declared.option.Option.TheVariants.{None, Some}
 use Rattle.std.specs.declared.result.Result.{Result}
 use Rattle.std.specs.declared.result.Result.TheVariants.{Ok, Err}

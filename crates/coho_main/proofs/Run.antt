@@ -14,16 +14,17 @@ use Rattle.coho_main.specs.declared.status.Status.{Status}
 use Rattle.coho_main.specs.declared.status.Status.TheVariants as status
 use Rattle.coho_main.specs.declared.stop.Stop.{Stop}
 use Rattle.coho_main.specs.declared.stop.Stop.TheVariants as stop
+use Rattle.coho_main.specs.InTurn.{MayRead, MaySave}
 use Rattle.coho_main.specs.Outcome.{Ending, ending, Outcome, Comes}
 use Rattle.coho_main.specs.declared.cause.Cause.{Cause}
-use Rattle.coho_main.specs.Refusals.{words_refused, read_refused, save_refused, write_refused, memory_refused}
+use Rattle.coho_main.specs.Refusals.{words_refused, read_refused, write_refused, memory_refused}
 use Rattle.coho_main.specs.Saving.{FromTo}
 use Rattle.coho_main.specs.Steps.{Refusal}
 use Rattle.coho_main.specs.Stops.{refusal_of, told, HasCause, KeepsAtRead, Meets, IsWriteStop}
 use Rattle.coho_main.specs.Run.{Answers, OfFiles, IsSettled, Leaves, Tells, EndsAs, AnswersFront}
-use Rattle.coho_main.specs.Run.{FailsOnOut, FailsOnSave, MayTell, ToldFront, WantsMemory, NoReadFault}
-use Rattle.coho_main.specs.Run.{NoSaveFault}
-use Rattle.coho_main.specs.Words.{AskForValue, Command, IsRead, IsSaved, command}
+use Rattle.coho_main.specs.Run.{FailsOnOut, FailsOnSave, IsReadFault, IsSaveFault, MayTell, ToldFront}
+use Rattle.coho_main.specs.Run.{WantsMemory, NoReadFault, NoSaveFault}
+use Rattle.coho_main.specs.Words.{AskForValue, Command, command}
 use Rattle.coho_main.proofs.Replies.{Lines, lines_of}
 use Rattle.coho_main.proofs.Outcomes.{none_comes, outcome_unique, usage_is}
 use Rattle.coho_main.proofs.Settled.{IsOrMemory, is_memory, no_fault, not_memory}
@@ -85,25 +86,25 @@ module _ (answer : Status) (err err_now : Option (List ℕ)) (n m : ℕ) where
   write_complete stop.Write before now r h none = absurd (none h)
   write_complete stop.Memory before now r h none = reported_memory r
 
-  module _ (words : List (List ℕ)) (before now writes writes_now : List ℕ → ℕ) where
+  module _ (words : List (List ℕ)) (known : Option Content) (before now writes writes_now : List ℕ → ℕ) where
     abbrev CauseHere : Stop → Type 0
-    CauseHere s = HasCause (IsRead words) (IsSaved words) before now writes writes_now s
+    CauseHere s = HasCause (MayRead words known) (MaySave words known) before now writes writes_now s
 
     no_command : (c : Command) → command words ≡ Some c → command words ≡ None → ⊥
     no_command c is none = let no : ◌≡◌ {A = Option Command} (Some c) None = sym is ∙ none in absurd (cc)
 
     -- where the words are not those of a command
-    pub words_stop : (known left : Option Content) (s : Stop) → ReportedHere s
+    pub words_stop : (left : Option Content) (s : Stop) → ReportedHere s
         → FromTo known left (λ files after. Meets lines_of (Comes words) files after (Err s)) → CauseHere s
         → command words ≡ None → IsOrMemory status.Usage answer
-    words_stop known left (stop.Refused why) r k h none =
+    words_stop left (stop.Refused why) r k h none =
         let same = none_comes words k.0 k.1 (Err (refusal_of why)) k.4 none in
         let is : refusal_of why ≡ words_refused = cc in
         subst (λ s. IsOrMemory s answer) (ap (λ q. q.status) is) (reported_status (stop.Refused why) r)
-    words_stop known left (stop.Read path) r k h none = absurd (no_command h.0.0 h.0.1 none)
-    words_stop known left stop.Write r k h none = absurd h
-    words_stop known left (stop.Save path) r k h none = absurd (no_command h.0.0 h.0.1 none)
-    words_stop known left stop.Memory r k h none = inr (reported_memory r)
+    words_stop left (stop.Read path) r k h none = absurd (no_command h.0.0.0 h.0.0.1 none)
+    words_stop left stop.Write r k h none = absurd h
+    words_stop left (stop.Save path) r k h none = absurd (no_command h.0.0.0 h.0.0.1 none)
+    words_stop left stop.Memory r k h none = inr (reported_memory r)
 
     at_read : (s : Stop) → ReportedHere s → answer ≡ status.Read → (told s).status ≡ status.Read
     at_read s r e = sym (r (λ is. let no : status.Read ≡ status.Memory = sym e ∙ is in cc)).0 ∙ e
@@ -118,7 +119,7 @@ module _ (answer : Status) (err err_now : Option (List ℕ)) (n m : ℕ) where
     refused_write why r e = subst IsSettled (at_write (stop.Refused why) r e) (no_fault why)
 
     abbrev ReadTold : Type 0
-    ReadTold = (path : List ℕ) × IsRead words path × Rose (before path) (now path)
+    ReadTold = (path : List ℕ) × IsReadFault words known before now path
         × Tells err err_now n m (read_refused path).line
 
     -- where the status is that of a read, it is the fault of a path that the words name
@@ -126,8 +127,7 @@ module _ (answer : Status) (err err_now : Option (List ℕ)) (n m : ℕ) where
     read_told (stop.Refused why) r h e = absurd (refused_read why r e)
     read_told (stop.Read path) r h e = (
       path.now,
-      h.0,
-      h.1,
+      h,
       (r (λ is. let no : status.Read ≡ status.Memory = sym e ∙ is in cc)).1,
     )
     read_told stop.Write r h e = absurd h
@@ -137,51 +137,50 @@ module _ (answer : Status) (err err_now : Option (List ℕ)) (n m : ℕ) where
         at_read stop.Memory r e in cc)
 
     -- the files are as before then
-    pub read_kept : (known left : Option Content) (s : Stop) → ReportedHere s → KeepsAtRead known left s
+    pub read_kept : (left : Option Content) (s : Stop) → ReportedHere s → KeepsAtRead known left s
         → answer ≡ status.Read → left ≡ known
-    read_kept known left (stop.Refused why) r h e = absurd (refused_read why r e)
-    read_kept known left (stop.Read path) r h e = h
-    read_kept known left stop.Write r h e = absurd (let no : status.Write ≡ status.Read =
+    read_kept left (stop.Refused why) r h e = absurd (refused_read why r e)
+    read_kept left (stop.Read path) r h e = h
+    read_kept left stop.Write r h e = absurd (let no : status.Write ≡ status.Read =
         at_read stop.Write r e in cc)
-    read_kept known left (stop.Save path) r h e =
+    read_kept left (stop.Save path) r h e =
         absurd (let no : status.Write ≡ status.Read = at_read (stop.Save path) r e in cc)
-    read_kept known left stop.Memory r h e = absurd (let no : status.Memory ≡ status.Read =
+    read_kept left stop.Memory r h e = absurd (let no : status.Memory ≡ status.Read =
         at_read stop.Memory r e in cc)
 
     -- where it is that of a write before out was written, it is the fault of a path that the words save to
     pub save_told : (out : Option (List ℕ)) (s : Stop) → ReportedHere s → CauseHere s → answer ≡ status.Write
-        → FailsOnSave words out out err err_now writes writes_now n m
+        → FailsOnSave words known out out err err_now writes writes_now n m
     save_told out (stop.Refused why) r h e = absurd (refused_write why r e)
     save_told out (stop.Read path) r h e =
         absurd (let no : status.Read ≡ status.Write = at_write (stop.Read path) r e in cc)
     save_told out stop.Write r h e = absurd h
     save_told out (stop.Save path) r h e = record {
       path = path.now;
-      saved = h.0;
-      rose = h.1;
+      fault = h;
       line = (r (λ is. let no : status.Write ≡ status.Memory = sym e ∙ is in cc)).1;
       unwritten = refl;
     }
     save_told out stop.Memory r h e = absurd (let no : status.Memory ≡ status.Write =
         at_write stop.Memory r e in cc)
 
-    usage_of : (known left : Option Content) (s : Stop) → (told s).status ≡ status.Usage
+    usage_of : (left : Option Content) (s : Stop) → (told s).status ≡ status.Usage
         → FromTo known left (λ files after. Meets lines_of (Comes words) files after (Err s))
         → (command words ≡ None) ⊎ AskForValue words
-    usage_of known left (stop.Refused why) e k = usage_is words k.0 k.1 (refusal_of why) k.4 e
-    usage_of known left (stop.Read path) e k = absurd (cc)
-    usage_of known left stop.Write e k = absurd (cc)
-    usage_of known left (stop.Save path) e k = absurd (cc)
-    usage_of known left stop.Memory e k = absurd (cc)
+    usage_of left (stop.Refused why) e k = usage_is words k.0 k.1 (refusal_of why) k.4 e
+    usage_of left (stop.Read path) e k = absurd (cc)
+    usage_of left stop.Write e k = absurd (cc)
+    usage_of left (stop.Save path) e k = absurd (cc)
+    usage_of left stop.Memory e k = absurd (cc)
 
     -- where the status is that of the words
-    pub usage_stop : (known left : Option Content) (s : Stop) → ReportedHere s
+    pub usage_stop : (left : Option Content) (s : Stop) → ReportedHere s
         → FromTo known left (λ files after. Meets lines_of (Comes words) files after (Err s))
         → answer ≡ status.Usage
         → (command words ≡ None) ⊎ AskForValue words
-    usage_stop known left s r k e =
+    usage_stop left s r k e =
         let isnt : answer ≢ status.Memory = λ is. let no : status.Usage ≡ status.Memory = sym e ∙ is in cc in
-        usage_of known left s (sym (r isnt).0 ∙ e) k
+        usage_of left s (sym (r isnt).0 ∙ e) k
 
     module _ (files after : Content) (e : Ending) (is : Outcome words files e) where
       same_status : (r : Refusal) → Comes words files (Err r) after → r.status ≡ e.status
@@ -195,9 +194,9 @@ module _ (answer : Status) (err err_now : Option (List ℕ)) (n m : ℕ) where
       complete_stop (stop.Refused why) r k h none nor =
           subst (λ s. IsOrMemory s answer) (same_status (refusal_of why) k)
           (reported_status (stop.Refused why) r)
-      complete_stop (stop.Read path) r k h none nor = absurd (none path.now h.0 h.1)
+      complete_stop (stop.Read path) r k h none nor = absurd (none path.now h.0.0 h.1)
       complete_stop stop.Write r k h none nor = absurd h
-      complete_stop (stop.Save path) r k h none nor = absurd (nor path.now h.0 h.1)
+      complete_stop (stop.Save path) r k h none nor = absurd (nor path.now h.0.0 h.1)
       complete_stop stop.Memory r k h none nor = inr (reported_memory r)
 
 module _ (words : List (List ℕ)) (files after : Content) (lines : List (List ℕ))
@@ -308,13 +307,13 @@ module _ (words : List (List ℕ)) (known now : Option Content) (out out_now err
 
   module _ (before after writes writes_now : List ℕ → ℕ) (Written : Type 0) where
     abbrev ReadFailed : List ℕ → Type 0
-    ReadFailed path = IsRead words path × Rose (before path) (after path)
+    ReadFailed path = IsReadFault words known before after path
 
     abbrev SaveFailed : List ℕ → Type 0
-    SaveFailed path = IsSaved words path × Rose (writes path) (writes_now path)
+    SaveFailed path = IsSaveFault words known writes writes_now path
 
     abbrev CauseOf : Stop → Type 0
-    CauseOf s = HasCause (IsRead words) (IsSaved words) before after writes writes_now s
+    CauseOf s = HasCause (MayRead words known) (MaySave words known) before after writes writes_now s
 
     may_tell : (s : Stop) (files left : Content) → Meets lines_of (Comes words) files left (Err s)
         → CauseOf s → MayTell words ReadFailed SaveFailed Written (told s).line files
@@ -345,10 +344,10 @@ module _ (words : List (List ℕ)) (known now : Option Content) (out out_now err
 
   module _ (before after writes writes_now : List ℕ → ℕ) (n m : ℕ) where
     abbrev ReadRose : List ℕ → Type 0
-    ReadRose path = IsRead words path × Rose (before path) (after path)
+    ReadRose path = IsReadFault words known before after path
 
     abbrev SaveRose : List ℕ → Type 0
-    SaveRose path = IsSaved words path × Rose (writes path) (writes_now path)
+    SaveRose path = IsSaveFault words known writes writes_now path
 
     written_line : (s : Stop) (files : Content) → Answers words files → IsWriteStop n m s
         → AppendsFront err err_now (told s).line ⊎ AppendsFront err err_now memory_refused.line

@@ -1,5 +1,5 @@
 -- What a run has saved leaves all other files.
-use Rattle.std.proofs.Common.{◌≡◌, ◌∙◌, ◌⊎◌, inl, inr, ℕ, List, Bool, true, false, cond, refl, sym, ap, subst}
+use Rattle.std.proofs.Common.{◌≡◌, ◌∙◌, inl, inr, ℕ, List, Bool, true, false, cond, refl, sym, ap, subst}
 use Rattle.std.specs.declared.option.Option.{Option}
 use Rattle.std.specs.declared.option.Option.TheVariants.{None, Some}
 use Rattle.std.specs.FinMap.{get, get-insert}
@@ -50,9 +50,9 @@ words_file words told left path (inr s) other = front s.saved
     is_saved : (p : List ℕ) → s.stages.save ≡ Some p → IsSaved words p
     is_saved p e = stages_saved words (Ring s.path s.n s.stages) s.asked p e
 
-    front : IsFrontSaved s.presentation s.n s.stages.save told left → file left path ≡ file told path
+    front : IsFrontSaved s.presentation s.n s.stages told left → file left path ≡ file told path
     front (inl same) = ap (λ (c : Content). file c path) same
-    front (inr f) = let k = f.holds in saved_file words told left s.stages.save _ path is_saved k.1 other
+    front (inr f) = let k = f.1.holds in saved_file words told left s.stages.save _ path is_saved k.1 other
 
 pub stays : (words : List (List ℕ)) (before now : Option Content) → OfTold before now (WordsLeave words)
     → Stays words before now

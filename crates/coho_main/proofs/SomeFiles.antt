@@ -1,5 +1,5 @@
 -- Bytes over which a walk takes so many records, or refuses this.
-use Rattle.std.proofs.Common.{◌≡◌, ◌∙◌, ℕ, zero, suc, ◌+◌, ◌-◌, ◌<◌, ◌≤◌, Bool, true, false, List, [], ◌∷◌}
+use Rattle.std.proofs.Common.{◌≡◌, ◌∙◌, ℕ, zero, suc, ◌+◌, ◌-◌, ◌<◌, ◌≤◌, true, false, List, [], ◌∷◌}
 use Rattle.std.proofs.Common.{◌++◌}
 use Rattle.std.proofs.Common.{append_assoc, codes, get_or, leb, length, take, refl, sym, ap, subst, arith}
 use Rattle.std.proofs.Common.{None, Some, true≢false, ◌==◌}

@@ -49,22 +49,15 @@ positions_or o = (unwrap_or o (record {
 })).positions
 
 pub rows_above : (s : StageValue) → HasRows s → 0 < s.degree
-    → (summary s).rows ≡ Some (boundary_of s).positions
+    → ((summary s).rows ≡ Some (boundary_of s).positions) × (s.rank ≡ length (boundary_of s).positions)
 rows_above s shape above = go s.boundary shape
   where
     go : (o : Option BoundaryValue) → MatchOption o (s.degree ≡ 0) (λ B. (0 < s.degree)
         × (s.rank ≡ length B.positions))
-        → option_map (λ (B : BoundaryValue). B.positions) o ≡ Some (positions_or o)
+        → (option_map (λ (B : BoundaryValue). B.positions) o ≡ Some (positions_or o))
+        × (s.rank ≡ length (positions_or o))
     go None h = absurd (omega arith)
-    go (Some B) h = refl
-
-pub count_above : (s : StageValue) → HasRows s → 0 < s.degree → s.rank ≡ length (boundary_of s).positions
-count_above s shape above = go s.boundary shape
-  where
-    go : (o : Option BoundaryValue) → MatchOption o (s.degree ≡ 0) (λ B. (0 < s.degree)
-        × (s.rank ≡ length B.positions)) → s.rank ≡ length (positions_or o)
-    go None h = absurd (omega arith)
-    go (Some B) h = h.1
+    go (Some B) h = (refl, h.1)
 
 -- the places, one more
 

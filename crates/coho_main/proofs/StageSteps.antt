@@ -17,7 +17,7 @@ use Rattle.coho_main.specs.Groups.{IsTableOf}
 use Rattle.coho_main.specs.Refusals.{file_refused, read_refused}
 use Rattle.coho_main.specs.StageFiles.{FindStages, FitStages, IsSaved, IsWalkRefusal, OrMissing, SaveStages}
 use Rattle.coho_main.specs.StageFiles.{TakeStages, Takes, Walk, WalkFile}
-use Rattle.coho_main.specs.Steps.{Refusal, Step}
+use Rattle.coho_main.specs.Steps.{Refusal}
 use Rattle.coho_main.specs.Words.{StageFiles}
 use Rattle.coho_main.proofs.OneResolution.{fit_decided}
 use Rattle.coho_main.proofs.OneTable.{one_table}

@@ -1,10 +1,9 @@
 -- The presentation of a file is the same where that file is, and its text is no stage file.
-use Rattle.std.proofs.Common.{◌≡◌, ◌∙◌, ◌⊎◌, inl, inr, ℕ, suc, ◌+◌, min, List, [], ◌∷◌, Bool, true, false}
-use Rattle.std.proofs.Common.{codes, length}
+use Rattle.std.proofs.Common.{◌≡◌, ◌∙◌, inl, inr, ℕ, suc, ◌+◌, min, List, [], ◌∷◌, Bool, true, false}
+use Rattle.std.proofs.Common.{length}
 use Rattle.std.proofs.Common.{take, refl, sym, ap, subst, true≢false, arith, ◌==◌}
 use Rattle.std.proofs.lemmas.Bool.Decides.{nat_tests}
 use Rattle.std.specs.List.{slice_split, onto_first}
-use Rattle.std.specs.Str.{bytes_eq}
 use Rattle.std.proofs.lemmas.Slice.Eq.{bytes_eq-Decides}
 use Rattle.std.specs.Option.{option_map}
 use Rattle.std.specs.declared.option.Option.{Option}
@@ -29,8 +28,8 @@ use Rattle.coho_main.specs.StageFiles.{IsWalkRefusal, OrMissing, TakeStages, Wal
 use Rattle.coho_main.proofs.Outcomes.{loaded, table_of, text_is}
 use Rattle.power_commutator.specs.declared.TestName.{TestName}
 use Rattle.power_commutator.specs.Presentations.{Presentation, first_fault}
-use Rattle.coho_main.specs.Outcome.{Accept, Answer, FitLength, FitOrder, Given, Load, OrFault, Present}
-use Rattle.coho_main.specs.Outcome.{ReadFront, ReadText, Test}
+use Rattle.coho_main.specs.Outcome.{Accept, Answer, FitLength, FitOrder, Given, Load, OrFault}
+use Rattle.coho_main.specs.Outcome.{ReadText}
 use Rattle.coho_main.specs.Outcome.{UnlessFalse}
 use Rattle.coho_main.specs.Refusals.{file_refused, read_refused}
 use Rattle.coho_main.specs.Saving.{AreSameBut, reads_twice, same_path}

@@ -1,8 +1,8 @@
 -- Calls that read one stage file and save another, one after another.
-use Rattle.std.proofs.Common.{◌≡◌, ◌∙◌, ◌⊎◌, inl, inr, ℕ, List, Bool, false, Vec, Global, refl, sym, ap}
-use Rattle.std.proofs.Common.{subst, arith, ◌≤◌}
+use Rattle.std.proofs.Common.{◌≡◌, ◌∙◌, ℕ, List, refl, ap}
+use Rattle.std.proofs.Common.{arith, ◌≤◌}
 use Rattle.std.specs.declared.option.Option.{Option}
-use Rattle.std.specs.declared.option.Option.TheVariants.{None, Some}
+use Rattle.std.specs.declared.option.Option.TheVariants.{Some}
 use Rattle.std.specs.declared.result.Result.{Result}
 use Rattle.std.specs.declared.result.Result.TheVariants.{Ok, Err}
 use Rattle.std.specs.Result.{IfErr}
@@ -10,8 +10,8 @@ use Rattle.coho_io.specs.Causes.{NoneFell, Rose}
 use Rattle.coho_io.specs.Content.{Content}
 use Rattle.coho_main.specs.declared.stop.Stop.{Stop}
 use Rattle.coho_main.specs.declared.stop.Stop.TheVariants as stop
-use Rattle.coho_main.specs.Run.{Agrees}
-use Rattle.coho_main.specs.Saving.{FromAny, OfTold, Works}
+use Rattle.coho_main.specs.InTurn.{WhereTold}
+use Rattle.coho_main.specs.Saving.{FromAny, Works}
 use Rattle.coho_main.specs.Steps.{Step, ◌>>=◌}
 use Rattle.coho_main.specs.Stops.{HasCause, HasReadCause, KeepsAtRead, Meets, Settles}
 use Rattle.coho_main.proofs.Chain.{after_ok, at_stop, settled_meets}
@@ -97,10 +97,11 @@ from_any named known now P Q f h seen agrees =
     let r = h seen agrees in (r.0, r.1, r.2, r.3, (r.4.0, f r.0 r.1 r.4.1))
 
 module _ {T A : Type 0} (view : T → A) (step : Step A) (from save : Option (List ℕ))
-    (MayLeave : Content → Content → Type 0) (known : Option Content) (reads writes : Counts) where
+    (MayLeave : Content → Content → Type 0) (Saves : Content → Type 0) (known : Option Content)
+    (reads writes : Counts) where
   -- a call that reads and writes nothing
   pub settled_works : ((files : Content) → MayLeave files files) → (r : Result T Stop) → Settles view step r
-      → Works view step from save MayLeave known known reads reads writes writes r
+      → Works view step from save MayLeave Saves known known reads reads writes writes r
   settled_works leaves r h = record {
     ends = λ seen agrees. (
       seen,
@@ -110,19 +111,19 @@ module _ {T A : Type 0} (view : T → A) (step : Step A) (from save : Option (Li
       ((λ path other. refl), settled_meets view step seen r h),
     );
     cause = has_cause view step (λ path. from ≡ Some path)
-        (λ path. save ≡ Some path) reads reads writes writes r h;
+        (λ path. (save ≡ Some path) × WhereTold known Saves) reads reads writes writes r h;
     left = λ told e. (told, e, leaves told);
     kept = is_kept view step known known r h;
   }
 
 module _ {T U A B : Type 0} (seen : T → A) (view : U → B) (first : Step A) (next : A → Step B)
-    (from save : Option (List ℕ)) (MayLeave : Content → Content → Type 0) (known now : Option Content)
-    (reads reads_now writes writes_now : Counts) where
+    (from save : Option (List ℕ)) (MayLeave : Content → Content → Type 0) (Saves : Content → Type 0)
+    (known now : Option Content) (reads reads_now writes writes_now : Counts) where
   abbrev First : Result T Stop → Type 0
-  First r = Works seen first from save MayLeave known now reads reads_now writes writes_now r
+  First r = Works seen first from save MayLeave Saves known now reads reads_now writes writes_now r
 
   abbrev Both : Result U Stop → Type 0
-  Both r = Works view (first >>= next) from save MayLeave known now reads reads_now writes writes_now r
+  Both r = Works view (first >>= next) from save MayLeave Saves known now reads reads_now writes writes_now r
 
   -- such a call ended well, and then one that reads and writes nothing
   pub works_then : (x : T) (r : Result U Stop) → First (Ok x) → Settles view (next (seen x)) r → Both r
@@ -131,7 +132,8 @@ module _ {T U A B : Type 0} (seen : T → A) (view : U → B) (first : Step A) (
         (λ files left. Meets view (first >>= next) files left r)
         (λ files left m. after_ok seen view first next files left left x r m
         (settled_meets view (next (seen x)) left r k)) h.ends;
-    cause = has_cause view (next (seen x)) (λ path. from ≡ Some path) (λ path. save ≡ Some path)
+    cause = has_cause view (next (seen x)) (λ path. from ≡ Some path)
+        (λ path. (save ≡ Some path) × WhereTold known Saves)
         reads reads_now writes writes_now r k;
     left = h.left;
     kept = is_kept view (next (seen x)) known now r k;

@@ -7,6 +7,7 @@ pub mod Ringing
 pub mod Evaluating
 pub mod StageFiles
 pub mod Outcome
+pub mod InTurn
 pub mod Stops
 pub mod Reading
 pub mod Run

@@ -9,6 +9,7 @@ use Rattle.coho_io.specs.Content.{Content, file}
 use Rattle.coho_main.specs.declared.status.Status.{Status}
 use Rattle.coho_main.specs.declared.status.Status.TheVariants as status
 use Rattle.coho_main.specs.Refusals.{read_refused, save_refused, write_refused, memory_refused}
+use Rattle.coho_main.specs.InTurn.{MayRead, MaySave}
 use Rattle.coho_main.specs.Words.{IsRead, IsSaved}
 use Rattle.coho_main.specs.Outcome.{Ending, Outcome}
 
@@ -98,6 +99,14 @@ pub record WantsMemory
   pub on_out : WroteFront words out out_now files
   pub on_err : ToldFront words ReadFailed SaveFailed WriteFailed err err_now files
 
+-- a read of a path failed that the words may read: its count rose
+abbrev pub IsReadFault : List (List ℕ) → Option Content → (before now : List ℕ → ℕ) → List ℕ → Type 0
+IsReadFault words known before now path = MayRead words known path × Rose (before path) (now path)
+
+-- the same of a call on a path that the words may save to
+abbrev pub IsSaveFault : List (List ℕ) → Option Content → (before now : List ℕ → ℕ) → List ℕ → Type 0
+IsSaveFault words known before now path = MaySave words known path × Rose (before path) (now path)
+
 -- no count of a path that the words' command reads rose
 abbrev pub NoReadFault : List (List ℕ) → (List ℕ → ℕ) → (List ℕ → ℕ) → Type 0
 NoReadFault words before now = (path : List ℕ) → IsRead words path → Rose (before path) (now path) → ⊥
@@ -117,10 +126,9 @@ pub record FailsOnOut
 -- a call on a file that the words save to failed: its count rose, its line was told, and out has gained
 -- nothing
 pub record FailsOnSave
-    (words : List (List ℕ)) (out out_now err err_now : Option (List ℕ))
+    (words : List (List ℕ)) (known : Option Content) (out out_now err err_now : Option (List ℕ))
     (writes writes_now : List ℕ → ℕ) (err_faults err_faults_now : ℕ) : Type 0 where
   pub path : List ℕ
-  pub saved : IsSaved words path
-  pub rose : Rose (writes path) (writes_now path)
+  pub fault : IsSaveFault words known writes writes_now path
   pub line : Tells err err_now err_faults err_faults_now (save_refused path).line
   pub unwritten : out_now ≡ out

@@ -2,7 +2,7 @@
 use Rattle.std.specs.Prelude.{◌≡◌, ◌⊎◌, ℕ, Bool, false, List, Vec}
 use Rattle.std.specs.declared.alloc.Global.{Global}
 use Rattle.std.specs.declared.option.Option.{Option}
-use Rattle.std.specs.declared.option.Option.TheVariants.{None, Some}
+use Rattle.std.specs.declared.option.Option.TheVariants.{Some}
 use Rattle.std.specs.declared.result.Result.{Result}
 use Rattle.std.specs.declared.result.Result.TheVariants.{Ok}
 use Rattle.std.specs.Result.{IfErr}
@@ -10,18 +10,24 @@ use Rattle.std.specs.Str.{bytes_eq}
 use Rattle.coho_io.specs.Content.{Content, file}
 use Rattle.power_commutator.specs.Presentations.{Presentation}
 use Rattle.coho_main.specs.declared.stop.Stop.{Stop}
+use Rattle.coho_main.specs.InTurn.{MayRead, MaySave, WhereTold}
 use Rattle.coho_main.specs.Outcome.{Comes, Load}
-use Rattle.coho_main.specs.StageFiles.{IsFrontSaved}
+use Rattle.coho_main.specs.StageFiles.{AreTaken, IsFrontSaved}
 use Rattle.coho_main.specs.Run.{Agrees, Leaves}
 use Rattle.coho_main.specs.Steps.{Step}
 use Rattle.coho_main.specs.Stops.{HasCause, KeepsAtRead, Meets}
-use Rattle.coho_main.specs.Words.{Command, Ring, StageFiles, IsRead, IsSaved, command, contents, from_of}
+use Rattle.coho_main.specs.Words.{Command, Ring, StageFiles, command, contents, from_of}
 use Rattle.coho_main.specs.Words.{path_of}
 
 -- a command on P leaves the files, or has saved the first bytes of the honest file
 abbrev pub CommandLeaves : Command → Presentation → Content → Content → Type 0
-CommandLeaves (Ring path n stages) P old new = IsFrontSaved P n stages.save old new
+CommandLeaves (Ring path n stages) P old new = IsFrontSaved P n stages old new
 CommandLeaves _ P old new = new ≡ old
+
+-- a command on P comes to save stages
+abbrev pub ComesToSave : Command → Presentation → Content → Type 0
+ComesToSave (Ring path n stages) P files = AreTaken P n stages.from files
+ComesToSave _ P files = ⊥
 
 -- the words ask for a ring, and the first bytes of the honest file were saved
 pub record SavesFront (words : List (List ℕ)) (old new : Content) : Type 0 where
@@ -31,7 +37,7 @@ pub record SavesFront (words : List (List ℕ)) (old new : Content) : Type 0 whe
   pub asked : command words ≡ Some (Ring path n stages)
   pub presentation : Presentation
   pub loaded : Load path old (Ok presentation) old
-  pub saved : IsFrontSaved presentation n stages.save old new
+  pub saved : IsFrontSaved presentation n stages old new
 
 -- the words leave the files, or have saved the first bytes of the honest file
 abbrev pub WordsLeave : List (List ℕ) → Content → Content → Type 0
@@ -56,16 +62,16 @@ abbrev pub FromAny : Option (List ℕ) → Option Content → Option Content →
 FromAny named known now P = (seen : Content) → Agrees known seen
     → FromTo known now (λ files left. AreSameBut named seen files × P files left)
 
--- A call that reads one stage file and saves another, each where it is named, ended as its step does; it
--- stopped at
--- no fault but one of these two; what it may have left holds of the files; and a read that failed left them.
+-- A call that reads one stage file and saves another, each where it is named, ended as its step does. It
+-- stopped at no fault but one of these two, and at one of saving only where it comes to save. What it may
+-- have left holds of the files, and a read that failed left them.
 pub record Works {T A : Type 0}
     (view : T → A) (step : Step A) (from save : Option (List ℕ)) (MayLeave : Content → Content → Type 0)
-    (known now : Option Content) (reads reads_now writes writes_now : List ℕ
-    → ℕ) (r : Result T Stop) : Type 0 where
+    (Saves : Content → Type 0) (known now : Option Content)
+    (reads reads_now writes writes_now : List ℕ → ℕ) (r : Result T Stop) : Type 0 where
   pub ends : FromAny from known now (λ files left. Meets view step files left r)
-  pub cause : IfErr r (HasCause (λ path. from ≡ Some path) (λ path. save ≡ Some path)
-      reads reads_now writes writes_now)
+  pub cause : IfErr r (HasCause (λ path. from ≡ Some path)
+      (λ path. (save ≡ Some path) × WhereTold known Saves) reads reads_now writes writes_now)
   pub left : OfTold known now MayLeave
   pub kept : IfErr r (KeepsAtRead known now)
 
@@ -74,7 +80,8 @@ pub record Answered
     (words : List (List ℕ)) (known now : Option Content) (reads reads_now writes writes_now : List ℕ → ℕ)
     (r : Result (Vec (Vec ℕ Global) Global) Stop) : Type 0 where
   pub ends : FromTo known now (λ files left. Meets (λ lines. contents lines.items) (Comes words) files left r)
-  pub cause : IfErr r (HasCause (IsRead words) (IsSaved words) reads reads_now writes writes_now)
+  pub cause : IfErr r (HasCause (MayRead words known) (MaySave words known)
+      reads reads_now writes writes_now)
   pub left : OfTold known now (WordsLeave words)
   pub kept : IfErr r (KeepsAtRead known now)
 

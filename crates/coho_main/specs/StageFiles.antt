@@ -2,12 +2,10 @@
 use Rattle.std.specs.Prelude.{◌≡◌, ◌⊎◌, ℕ, List, take, MatchOption}
 use Rattle.std.specs.declared.option.Option.{Option}
 use Rattle.std.specs.declared.option.Option.TheVariants.{None, Some}
-use Rattle.std.specs.declared.result.Result.{Result}
-use Rattle.std.specs.declared.result.Result.TheVariants.{Ok, Err}
+use Rattle.std.specs.declared.result.Result.TheVariants.{Ok}
 use Rattle.coho_io.specs.Content.{Content, file}
 use Rattle.power_commutator.specs.Presentations.{Presentation}
 use Rattle.pc_text.specs.Canonical.{canonical}
-use Rattle.p_groups.specs.PGroups.{PGroup}
 use Rattle.stage_records.specs.Walks.{Walked}
 use Rattle.stage_file.specs.Honest.{file_of, walk_of}
 use Rattle.stage_walk.specs.Saved.{saved}
@@ -53,10 +51,16 @@ FitStages P n = OnGroup P (λ G _. Fit G n) (λ G refusal. IsStageRefusal G n re
 abbrev pub IsSaved : Presentation → ℕ → Option (List ℕ) → Content → Content → Type 0
 IsSaved P n save old new = ForGroupOf P (λ G. new ≡ saved save (file_of G (canonical P) n) old)
 
--- the files are as before, or the first bytes of the honest file to degree n were saved
-abbrev pub IsFrontSaved : Presentation → ℕ → Option (List ℕ) → Content → Content → Type 0
-IsFrontSaved P n save old new = (new ≡ old)
-    ⊎ ForGroupOf P (λ G. (k : ℕ) × (new ≡ saved save (take k (file_of G (canonical P) n)) old))
+-- nothing is refused of the file that stages are taken from
+abbrev pub AreTaken : Presentation → ℕ → Option (List ℕ) → Content → Type 0
+AreTaken P n from files = (k : ℕ) × TakeStages P n from files (Ok k) files
+
+-- the files are as before, or nothing is refused of the file that stages are taken from, and the first bytes
+-- of the honest file to degree n were saved
+abbrev pub IsFrontSaved : Presentation → ℕ → StageFiles → Content → Content → Type 0
+IsFrontSaved P n files old new = (new ≡ old)
+    ⊎ (AreTaken P n files.from old
+    × ForGroupOf P (λ G. (k : ℕ) × (new ≡ saved files.save (take k (file_of G (canonical P) n)) old)))
 
 -- the stages are found and saved, or those before the first one above the limit are
 abbrev pub SaveStages : Presentation → ℕ → Option (List ℕ) → Step (Unit {0})

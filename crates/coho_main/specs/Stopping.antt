@@ -1,5 +1,5 @@
 -- The program's stop at a fault of stages.
-use Rattle.std.specs.Prelude.{◌≡◌, ℕ, List, ⊤}
+use Rattle.std.specs.Prelude.{◌≡◌, ⊤}
 use Rattle.std.specs.declared.option.Option.TheVariants.{Some}
 use Rattle.std.specs.Prelude.{IsSome}
 use Rattle.stage_walk.specs.declared.fault.StagesFault.{StagesFault}

@@ -282,10 +282,11 @@ abbrev pub paths_of : Option (List ℕ) → List (List ℕ)
 paths_of None = []
 paths_of (Some path) = path ∷ []
 
--- the paths that a command reads, and those that it saves to
+-- the paths that a command reads
 abbrev pub read_paths : Command → List (List ℕ)
 read_paths c = paths_of (path_of c) ++ paths_of (from_of c)
 
+-- the paths that a command saves to
 abbrev pub saved_paths : Command → List (List ℕ)
 saved_paths c = paths_of (save_of c)
 

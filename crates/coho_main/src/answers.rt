@@ -65,7 +65,7 @@ fn places(alloc: Global, stage: &Stage) -> Result<String, AllocError>
 }
 
 // The same, and nothing for the stage of degree 0.
-#[tactic(auto, using(crate::proofs::StageRows::no_rows_at_zero, crate::proofs::StageRows::rows_above, crate::proofs::StageRows::count_above))]
+#[tactic(auto, using(crate::proofs::StageRows::no_rows_at_zero, crate::proofs::StageRows::rows_above))]
 fn rows_words(alloc: Global, stage: &Stage) -> Result<String, AllocError>
     requires { HasRows stage.now }
     ensures { IfOk result (λ text. string_bytes text ≡ rows_words (summary stage.now).rows) }

@@ -2,7 +2,7 @@ ghost use Rattle.std.specs.Prelude.{◌≡◌, ◌≢◌, ◌≤◌, ◌⊎◌, 
 ghost use Rattle.std.specs.List.{Contains};
 ghost use Rattle.coho_io.specs.Content.{Content};
 ghost use Rattle.coho_io.specs.Causes.{NoneFell, Rose};
-ghost use Rattle.coho_main.specs.Words.{AskForValue, IsPlace, IsRead, IsSaved, IsWithin, asked, command};
+ghost use Rattle.coho_main.specs.Words.{AskForValue, IsPlace, IsWithin, asked, command};
 ghost use Rattle.coho_main.specs.Words.{contents, from_of, path_of, paths_of, save_of, stage_files, texts};
 ghost use Rattle.coho_main.specs.Outcome.{Answer, AnswerCheck, AnswerGroup, AnswerResolve, AnswerRing};
 ghost use Rattle.coho_main.specs.Outcome.{AnswerSample, TellCount, TellReport};
@@ -10,13 +10,15 @@ ghost use Rattle.coho_main.specs.Outcome.{AnswerValue, Comes, Ending, Given, Out
 ghost use Rattle.coho_main.specs.Refusals.{read_refused, write_refused};
 ghost use Rattle.coho_main.specs.RingAnswers.{TellsRingOf};
 ghost use Rattle.coho_main.specs.ClassAnswers.{HasCocycleClassesOf};
-ghost use Rattle.coho_main.specs.StageFiles.{IsFrontSaved};
+ghost use Rattle.coho_main.specs.StageFiles.{AreTaken, IsFrontSaved};
 ghost use Rattle.coho_main.specs.Stops.{HasReadCause, Meets, OnlyReads, Settles};
 ghost use Rattle.coho_main.specs.Resolving.{IsResolutionTo};
 ghost use Rattle.power_commutator.specs.Presentations.{Presentation};
 ghost use Rattle.coho_main.specs.Run.{OfFiles, IsSettled, MayWrite, Tells, EndsAs, AnswersFront, WantsMemory};
-ghost use Rattle.coho_main.specs.Run.{FailsOnOut, FailsOnSave, NoReadFault, NoSaveFault, Stays};
-ghost use Rattle.coho_main.specs.Saving.{Answered, CommandLeaves, OfTold, WordsLeave, Works, reads_twice};
+ghost use Rattle.coho_main.specs.Run.{FailsOnOut, FailsOnSave, IsReadFault, IsSaveFault, NoReadFault};
+ghost use Rattle.coho_main.specs.Run.{NoSaveFault, Stays};
+ghost use Rattle.coho_main.specs.Saving.{Answered, ComesToSave, CommandLeaves, OfTold, WordsLeave, Works};
+ghost use Rattle.coho_main.specs.Saving.{reads_twice};
 
 use crate::{
     Cause, Command, FilePart, StageFiles, Status, Stop, accept, basis_value, count_records,
@@ -79,7 +81,8 @@ fn answer_ring<'a, F: Files>(
     requires high { n ≤ GREATEST_DEGREE }
     ensures { Works (λ lines. contents lines.items) (AnswerRing consistent.now n (stage_files named.entry))
         (stage_files named.entry).from (stage_files named.entry).save
-        (IsFrontSaved consistent.now n (stage_files named.entry).save)
+        (IsFrontSaved consistent.now n (stage_files named.entry))
+        (AreTaken consistent.now n (stage_files named.entry).from)
         (F.content files.old) (F.content files.new) (F.read_faults files.old) (F.read_faults files.new)
         (F.write_faults files.old) (F.write_faults files.new) result }
 {
@@ -104,7 +107,7 @@ fn answer_check<'a, F: Files>(
     files: &mut F,
 ) -> Result<Vec<Vec<u8>>, Stop<'a>>
     ensures { Works (λ lines. contents lines.items) (AnswerCheck consistent.now stages.now)
-        (Some stages.now) None (λ old left. left ≡ old)
+        (Some stages.now) None (λ old left. left ≡ old) (λ files. ⊥)
         (F.content files.old) (F.content files.new) (F.read_faults files.old) (F.read_faults files.new)
         (F.write_faults files.old) (F.write_faults files.new) result }
 {
@@ -154,6 +157,7 @@ fn answer_on<'a, F: Files>(
     ensures { Works (λ lines. contents lines.items) (Answer (asked command.entry) consistent.now)
         (from_of (asked command.entry)) (save_of (asked command.entry))
         (CommandLeaves (asked command.entry) consistent.now)
+        (ComesToSave (asked command.entry) consistent.now)
         (F.content files.old) (F.content files.new) (F.read_faults files.old) (F.read_faults files.new)
         (F.write_faults files.old) (F.write_faults files.new) result }
 {
@@ -259,30 +263,31 @@ pub fn run<F: Files, O: Sink, E: Sink>(
     ensures words { command (texts words.now) ≡ None
         → (result ≡ Status.Usage) ⊎ (result ≡ Status.Memory) }
 
-    // A read fault is that of a path that the words name.
+    // A read fault is that of a path that the words name. Where files are told, no step before the first
+    // reading of the path refuses.
     ensures read { result ≡ Status.Read → (path : List ℕ)
-        × IsRead (texts words.now) path
-        × Rose (F.read_faults files.old path) (F.read_faults files.new path)
+        × IsReadFault (texts words.now) (F.content files.old) (F.read_faults files.old)
+        (F.read_faults files.new) path
         × Tells (E.written err.old) (E.written err.new) (E.faults err.old) (E.faults err.new)
         (read_refused path).line }
 
     // A write fault is that of out, and comes where the outcome is an answer, or that of the file that the
-    // words save to.
+    // words save to; then, where files are told, no step before that file is made refuses.
     ensures write { result ≡ Status.Write
         → FailsOnOut (texts words.now) (F.content files.old) (O.written out.old) (O.written out.new)
         (E.written err.old) (E.written err.new) (O.faults out.old) (O.faults out.new)
         (E.faults err.old) (E.faults err.new)
-        ⊎ FailsOnSave (texts words.now) (O.written out.old) (O.written out.new)
+        ⊎ FailsOnSave (texts words.now) (F.content files.old) (O.written out.old) (O.written out.new)
         (E.written err.old) (E.written err.new) (F.write_faults files.old) (F.write_faults files.new)
         (E.faults err.old) (E.faults err.new) }
 
     // Want of memory.
     ensures memory { result ≡ Status.Memory → OfFiles (F.content files.old)
         (WantsMemory (texts words.now)
-        (λ path. IsRead (texts words.now) path
-        × Rose (F.read_faults files.old path) (F.read_faults files.new path))
-        (λ path. IsSaved (texts words.now) path
-        × Rose (F.write_faults files.old path) (F.write_faults files.new path))
+        (IsReadFault (texts words.now) (F.content files.old) (F.read_faults files.old)
+        (F.read_faults files.new))
+        (IsSaveFault (texts words.now) (F.content files.old) (F.write_faults files.old)
+        (F.write_faults files.new))
         (Rose (O.faults out.old) (O.faults out.new))
         (O.written out.old) (O.written out.new)
         (E.written err.old) (E.written err.new)) }

@@ -4,7 +4,7 @@ ghost use Rattle.std.specs.Prelude.{◌≡◌, ◌≤◌, IfOk, IsSome, None, So
 ghost use Rattle.limits.specs.declared.TheConstants.{GREATEST_DEGREE};
 ghost use Rattle.coho_main.specs.Resolving.{IsResolutionTo};
 ghost use Rattle.coho_main.specs.Saving.{Works};
-ghost use Rattle.coho_main.specs.StageFiles.{FindStages, IsFrontSaved, WalkFile};
+ghost use Rattle.coho_main.specs.StageFiles.{AreTaken, FindStages, IsFrontSaved, WalkFile};
 ghost use Rattle.coho_main.specs.Stopping.{HasPath, IsStopAt};
 ghost use Rattle.coho_main.specs.Words.{stage_files};
 
@@ -58,7 +58,8 @@ pub fn find_stages<'a, F: Files>(
     ensures found { IfOk result (IsResolutionTo consistent.now n) }
     ensures works { Works (λ _. tt) (FindStages consistent.now n (stage_files named.entry))
         (stage_files named.entry).from (stage_files named.entry).save
-        (IsFrontSaved consistent.now n (stage_files named.entry).save)
+        (IsFrontSaved consistent.now n (stage_files named.entry))
+        (AreTaken consistent.now n (stage_files named.entry).from)
         (F.content files.old) (F.content files.new) (F.read_faults files.old) (F.read_faults files.new)
         (F.write_faults files.old) (F.write_faults files.new) result }
 {
@@ -77,7 +78,7 @@ pub fn count_records<'a, F: Files>(
     files: &mut F,
 ) -> Result<u32, Stop<'a>>
     ensures { Works (λ count. count) (WalkFile consistent.now GREATEST_DEGREE path.now)
-        (Some path.now) None (λ old left. left ≡ old)
+        (Some path.now) None (λ old left. left ≡ old) (λ files. ⊥)
         (F.content files.old) (F.content files.new) (F.read_faults files.old) (F.read_faults files.new)
         (F.write_faults files.old) (F.write_faults files.new) result }
 {

@@ -313,3 +313,46 @@ fn saves_takes_and_checks_stages(rt: HostRuntime) -> Result<(), Fail> {
     assert_eq!(rt; files.get("b").map(|bytes| bytes.len()), Some(178));
     Ok(())
 }
+
+// The files: `t` has a presentation and `f` an inconsistent one, `a` is no stage file, and there is no `c`.
+// The first refusal in the order of the steps is told, and nothing is saved.
+#[test]
+fn refuses_in_turn(rt: HostRuntime) -> Result<(), Fail> {
+    for (texts, failing, status, line) in [
+        (
+            ["ring", "f", "3", "--from", "c"].as_slice(),
+            3,
+            Status::Inconsistent,
+            "coho: inconsistent: fixed 1\n",
+        ),
+        (
+            ["ring", "t", "3", "--from", "a", "--save", "b"].as_slice(),
+            5,
+            Status::Stage,
+            "coho: stage file refused: header\n",
+        ),
+        (
+            ["ring", "t", "3", "--from", "c", "--save", "b"].as_slice(),
+            4,
+            Status::Read,
+            "coho: read failed: c\n",
+        ),
+        (
+            ["ring", "t", "3", "--save", "b"].as_slice(),
+            3,
+            Status::Write,
+            "coho: write failed: b\n",
+        ),
+    ] {
+        let mut files = MemFiles::new(rt.alloc());
+        files.put("t", b"pgroup 1\nprime 2\ngens 1\n")?;
+        files.put("f", b"pgroup 1\nprime 2\ngens 3\ng1^2 = g2\n[g2,g1] = g3\n")?;
+        files.put("a", b"x")?;
+        files.fail_at(failing, 0)?;
+        let ended = run_words(rt.alloc(), &mut files, texts)?;
+        assert_eq!(rt; ended.status, status, "{texts:?}");
+        assert_eq!(rt; ended.err.bytes(), line.as_bytes(), "{texts:?}");
+        assert!(rt; files.get("b").is_none(), "{texts:?}");
+    }
+    Ok(())
+}

@@ -10,7 +10,7 @@ pub returns-in-Ok : goal.returns-in-Ok
 returns-in-Ok g c =
     works_then (λ count. count) lines_of (WalkFile c.args.consistent.now GREATEST_DEGREE c.args.stages.now)
     TellCount
-    (Some c.args.stages.now) None (λ old left. left ≡ old) (g.F.Files.content c.args.files.now)
+    (Some c.args.stages.now) None (λ old left. left ≡ old) (λ files. ⊥) (g.F.Files.content c.args.files.now)
     (g.F.Files.content c.count_records.new.files) (g.F.Files.read_faults c.args.files.now)
     (g.F.Files.read_faults c.count_records.new.files) (g.F.Files.write_faults c.args.files.now)
     (g.F.Files.write_faults c.count_records.new.files) c.in-Ok.count c.check_lines.result c.in-Ok.ensures
@@ -20,7 +20,7 @@ pub returns-in-Err : goal.returns-in-Err
 returns-in-Err g c =
     works_stop (λ count. count) lines_of (WalkFile c.args.consistent.now GREATEST_DEGREE c.args.stages.now)
     TellCount
-    (Some c.args.stages.now) None (λ old left. left ≡ old) (g.F.Files.content c.args.files.now)
+    (Some c.args.stages.now) None (λ old left. left ≡ old) (λ files. ⊥) (g.F.Files.content c.args.files.now)
     (g.F.Files.content c.count_records.new.files) (g.F.Files.read_faults c.args.files.now)
     (g.F.Files.read_faults c.count_records.new.files) (g.F.Files.write_faults c.args.files.now)
     (g.F.Files.write_faults c.count_records.new.files) c.in-Err.stop c.in-Err.ensures

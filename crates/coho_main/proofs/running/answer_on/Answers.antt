@@ -7,14 +7,14 @@ use Rattle.coho_main.proofs.running.answer_on.Goals as goal
 
 pub returns-in-Group : goal.returns-in-Group
 returns-in-Group g c = rw c.in-Group.is (settled_works lines_of (AnswerGroup c.args.consistent.now) None None
-    (λ old left. left ≡ old)
+    (λ old left. left ≡ old) (λ files. ⊥)
     (g.F.Files.content c.args.files.now) (g.F.Files.read_faults c.args.files.now)
     (g.F.Files.write_faults c.args.files.now) (λ files. refl) c.answer_group.result
     c.answer_group.ensures)
 
 pub returns-in-Resolve : goal.returns-in-Resolve
 returns-in-Resolve g c = rw c.in-Resolve.is (settled_works lines_of
-    (AnswerResolve c.args.consistent.now c.in-Resolve.n) None None (λ old left. left ≡ old)
+    (AnswerResolve c.args.consistent.now c.in-Resolve.n) None None (λ old left. left ≡ old) (λ files. ⊥)
     (g.F.Files.content c.args.files.now) (g.F.Files.read_faults c.args.files.now)
     (g.F.Files.write_faults c.args.files.now) (λ files. refl) c.answer_resolve.result
     c.answer_resolve.ensures)
@@ -28,7 +28,7 @@ returns-in-Check g c = rw c.in-Check.is c.answer_check.ensures
 pub returns-in-Value : goal.returns-in-Value
 returns-in-Value g c = rw c.in-Value.is (settled_works lines_of
     (AnswerValue c.args.consistent.now c.in-Value.class c.in-Value.elements.items) None None
-    (λ old left. left ≡ old)
+    (λ old left. left ≡ old) (λ files. ⊥)
     (g.F.Files.content c.args.files.now) (g.F.Files.read_faults c.args.files.now)
     (g.F.Files.write_faults c.args.files.now) (λ files. refl) c.answer_value.result
     (subst (λ es. Settles lines_of (AnswerValue c.args.consistent.now c.in-Value.class es)
@@ -37,7 +37,7 @@ returns-in-Value g c = rw c.in-Value.is (settled_works lines_of
 
 pub returns-in-Sample : goal.returns-in-Sample
 returns-in-Sample g c = rw c.in-Sample.is (settled_works lines_of
-    (AnswerSample c.args.consistent.now c.in-Sample.k) None None (λ old left. left ≡ old)
+    (AnswerSample c.args.consistent.now c.in-Sample.k) None None (λ old left. left ≡ old) (λ files. ⊥)
     (g.F.Files.content c.args.files.now) (g.F.Files.read_faults c.args.files.now)
     (g.F.Files.write_faults c.args.files.now) (λ files. refl) c.answer_sample.result
     c.answer_sample.ensures)

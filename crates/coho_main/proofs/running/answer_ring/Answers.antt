@@ -1,5 +1,5 @@
 use Rattle.coho_main.specs.Outcome.{TellReport}
-use Rattle.coho_main.specs.StageFiles.{FindStages, IsFrontSaved}
+use Rattle.coho_main.specs.StageFiles.{AreTaken, FindStages, IsFrontSaved}
 use Rattle.coho_main.specs.Words.{stage_files}
 use Rattle.coho_main.proofs.Replies.{lines_of}
 use Rattle.coho_main.proofs.Working.{works_stop, works_then}
@@ -11,7 +11,7 @@ returns-in-Ok g c =
     let stages = stage_files c.args.named in
     works_then (λ _. tt) lines_of (FindStages P c.args.n stages)
     (λ _. TellReport P c.args.n) stages.from stages.save
-    (IsFrontSaved P c.args.n stages.save) (g.F.Files.content c.args.files.now)
+    (IsFrontSaved P c.args.n stages) (AreTaken P c.args.n stages.from) (g.F.Files.content c.args.files.now)
     (g.F.Files.content c.find_stages.new.files) (g.F.Files.read_faults c.args.files.now)
     (g.F.Files.read_faults c.find_stages.new.files) (g.F.Files.write_faults c.args.files.now)
     (g.F.Files.write_faults c.find_stages.new.files) c.in-Ok.resolution c.ring_lines.result
@@ -24,7 +24,7 @@ returns-in-Err g c =
     let stages = stage_files c.args.named in
     works_stop (λ _. tt) lines_of (FindStages P c.args.n stages)
     (λ _. TellReport P c.args.n) stages.from stages.save
-    (IsFrontSaved P c.args.n stages.save) (g.F.Files.content c.args.files.now)
+    (IsFrontSaved P c.args.n stages) (AreTaken P c.args.n stages.from) (g.F.Files.content c.args.files.now)
     (g.F.Files.content c.find_stages.new.files) (g.F.Files.read_faults c.args.files.now)
     (g.F.Files.read_faults c.find_stages.new.files) (g.F.Files.write_faults c.args.files.now)
     (g.F.Files.write_faults c.find_stages.new.files) c.in-Err.stop c.in-Err.ensures.works

@@ -1,4 +1,4 @@
-use Rattle.std.proofs.Common.{◌≡◌, None, Some, refl, sym, subst, ◌∙◌, ap}
+use Rattle.std.proofs.Common.{◌≡◌, None, Some, refl}
 use Rattle.std.proofs.lemmas.Result.{err_from_is_err_and}
 use Rattle.limits.specs.declared.TheConstants.{GREATEST_DEGREE}
 use Rattle.coho_main.specs.StageFiles.{WalkFile}
@@ -11,7 +11,7 @@ pub returns-in_err-algebra : goal.returns-in_err-algebra
 returns-in_err-algebra g c =
     let p = err_from_is_err_and c.from_residual.result c.from_residual.ensures.1 in
     rw p.1 (settled_works (λ count. count) (WalkFile c.args.consistent.now GREATEST_DEGREE c.args.path.now)
-    (Some c.args.path.now) None (λ old left. left ≡ old) (g.F.Files.content c.args.files.now)
+    (Some c.args.path.now) None (λ old left. left ≡ old) (λ files. ⊥) (g.F.Files.content c.args.files.now)
     (g.F.Files.read_faults c.args.files.now) (g.F.Files.write_faults c.args.files.now) (λ files. refl) _
     (memory_settles (λ count. count) (WalkFile c.args.consistent.now GREATEST_DEGREE c.args.path.now) p.0
     p.2))

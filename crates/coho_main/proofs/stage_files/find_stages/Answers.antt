@@ -1,11 +1,11 @@
-use Rattle.std.proofs.Common.{◌≡◌, refl, sym, subst, inl}
+use Rattle.std.proofs.Common.{refl, sym, subst, inl}
 use Rattle.std.proofs.lemmas.Result.{err_from_is_err_and}
 use Rattle.p_groups.specs.PGroups.{PGroup}
 use Rattle.min_res.specs.Values.{ResolutionValue}
 use Rattle.stage_walk.specs.Dimensions.{Fit}
 use Rattle.coho_main.specs.Groups.{IsTableOf}
-use Rattle.coho_main.specs.StageFiles.{FindStages, IsFrontSaved}
-use Rattle.coho_main.specs.Words.{path_in, stage_files}
+use Rattle.coho_main.specs.StageFiles.{AreTaken, FindStages, IsFrontSaved}
+use Rattle.coho_main.specs.Words.{stage_files}
 use Rattle.coho_main.proofs.Chain.{memory_settles}
 use Rattle.coho_main.proofs.FaultStops.{failed, found, has_path}
 use Rattle.coho_main.proofs.Working.{settled_works}
@@ -17,7 +17,7 @@ returns-in_err-algebra-clause-works g c =
     let P = c.args.consistent.now in
     let stages = stage_files c.args.named in
     rw p.1 (settled_works (λ (r : ResolutionValue). tt) (FindStages P c.args.n stages) stages.from stages.save
-    (IsFrontSaved P c.args.n stages.save) (g.F.Files.content c.args.files.now)
+    (IsFrontSaved P c.args.n stages) (AreTaken P c.args.n stages.from) (g.F.Files.content c.args.files.now)
     (g.F.Files.read_faults c.args.files.now) (g.F.Files.write_faults c.args.files.now) (λ files. inl refl) _
     (memory_settles (λ (r : ResolutionValue). tt) (FindStages P c.args.n stages) p.0 p.2))
 
