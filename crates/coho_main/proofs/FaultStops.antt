@@ -186,12 +186,12 @@ pub has_path : (named : NamedFiles) (A : Asked) (known : Option Content)
     (reads reads_now writes writes_now : Counts)
     → A.from ≡ path_in named.from → A.save ≡ path_in named.save → (e : StagesFault)
     → IsStagesFault A known reads reads_now writes writes_now e → HasPath named e
-has_path named A known reads reads_now writes writes_now from save fault.Read h =
-    is_named named.from h.0 (sym from ∙ h.1)
-has_path named A known reads reads_now writes writes_now from save fault.Write h =
-    is_named named.save h.0.0 (sym save ∙ h.0.1)
-has_path named A known reads reads_now writes writes_now from save fault.Header h = tt
-has_path named A known reads reads_now writes writes_now from save fault.Presentation h = tt
-has_path named A known reads reads_now writes writes_now from save (fault.Record d) h = tt
-has_path named A known reads reads_now writes writes_now from save (fault.TooLarge d X) h = tt
-has_path named A known reads reads_now writes writes_now from save fault.Memory h = tt
+has_path named A known reads reads_now writes writes_now reads_at saves_at fault.Read h =
+    is_named named.from h.0 (sym reads_at ∙ h.1)
+has_path named A known reads reads_now writes writes_now reads_at saves_at fault.Write h =
+    is_named named.save h.0.0 (sym saves_at ∙ h.0.1)
+has_path named A known reads reads_now writes writes_now reads_at saves_at fault.Header h = tt
+has_path named A known reads reads_now writes writes_now reads_at saves_at fault.Presentation h = tt
+has_path named A known reads reads_now writes writes_now reads_at saves_at (fault.Record d) h = tt
+has_path named A known reads reads_now writes writes_now reads_at saves_at (fault.TooLarge d X) h = tt
+has_path named A known reads reads_now writes writes_now reads_at saves_at fault.Memory h = tt
