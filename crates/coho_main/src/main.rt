@@ -4,6 +4,8 @@
 #![tactic(auto)]
 
 mod answers;
+#[cfg(test)]
+mod candidate_tests;
 mod cause;
 #[cfg(test)]
 mod cocycle_values;
