@@ -64,10 +64,8 @@ module _ {n : ℕ} (q : ℕ) (Γ : Group n) (K : RowForm n (Table q Γ 1)) (Y : 
           → AreGenerators E (rows_at E (chosen_rows origins))
 
     -- for generators R of the submodule S that the rows E span: the products of R by layer 1 generate
-    -- J S, the
-    -- span of all (g - 1) v with v in S; and a greedy choice modulo it can be made from their negative
-    -- standard
-    -- basis
+    -- J S, the span of all (g - 1) v with v in S, and a greedy choice modulo it can be made from their
+    -- negative standard basis
     pub record RadicalGeneratorClaims (E R products : List (List ℕ)) : Type 0 where
       pub generate : (v : (Table q Γ b).of)
           → IsInSubmodule (suc q) (layer_size q Γ K Y) maps products (entry (C.row v))

@@ -29,7 +29,7 @@ use Rattle.radical_layers.proofs.BasisForm.{list_of, entry-list_of, length-list_
 use Rattle.radical_layers.proofs.BlockForm.{block-form, part-row, part-row-at, part-to, to-row}
 use Rattle.radical_layers.proofs.Places.{placing, placing-place}
 
-matrix-append : (p w : ℕ) (xs ys : List (List ℕ)) → IsMatrix p w xs → IsMatrix p w ys
+pub matrix-append : (p w : ℕ) (xs ys : List (List ℕ)) → IsMatrix p w xs → IsMatrix p w ys
     → IsMatrix p w (xs ++ ys)
 matrix-append p w xs ys h k i l = go (cases_lt i (length xs))
   where

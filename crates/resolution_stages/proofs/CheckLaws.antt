@@ -1,10 +1,9 @@
 -- The six checks make the parts those of the next stage.
-use Rattle.std.proofs.Common.{◌≡◌, ◌≢◌, ℕ, zero, suc, ◌+◌, ◌*◌, ◌-◌, ◌%◌, ◌<◌, ◌≤◌, ◌⊎◌, List, [], ◌∷◌, ◌++◌}
+use Rattle.std.proofs.Common.{◌≡◌, ◌≢◌, ℕ, suc, ◌+◌, ◌*◌, ◌-◌, ◌%◌, ◌<◌, ◌≤◌, ◌⊎◌, List, [], ◌++◌}
 use Rattle.std.proofs.Common.{length, get_or, take, inl, inr, arith, ap, ap₂, sym, ◌∙◌, refl}
-use Rattle.std.proofs.lemmas.Bool.{cases_eq, cases_lt}
-use Rattle.std.proofs.lemmas.List.{length-append, length-map, get_or_append_left, get_or-append-add}
-use Rattle.std.proofs.lemmas.List.{get_or-map, get_or-take, length-take-le}
-use Rattle.std.proofs.Math.Seq.{take-suc, take-length}
+use Rattle.std.proofs.lemmas.Bool.{cases_lt}
+use Rattle.std.proofs.lemmas.List.{length-append, length-map, get_or-map}
+use Rattle.std.proofs.Math.Seq.{take-length}
 use Rattle.std.proofs.Math.Nat.{zero-mod, mod-eq_of_lt, le_refl}
 use mathlib.Core.Path.{subst, fun_ext}
 use Rattle.group_modules.specs.Module.{Module, sub, times, IsLinear}
@@ -23,8 +22,8 @@ use Rattle.linear_algebra.proofs.Sums.{sum_below-same, sum_below-vanishes, sum_b
 use Rattle.linear_algebra.proofs.Sums.{update_other}
 use Rattle.linear_algebra.proofs.Spans.{in_span_congruent, in_span_add}
 use Rattle.linear_algebra.proofs.Congruences.{congruent_refl, congruent_add, congruent_trans, congruent_eq}
-use Rattle.linear_algebra.proofs.Congruences.{congruent_sym, congruent_mod, congruent_mul_left}
-use Rattle.linear_algebra.proofs.Congruences.{congruent_mul_right, congruent_minus}
+use Rattle.linear_algebra.proofs.Congruences.{congruent_sym, congruent_mod, congruent_mul_left, to_congruent}
+use Rattle.linear_algebra.proofs.Congruences.{congruent_mul_right}
 use Rattle.linear_algebra.proofs.Independence.{Independent}
 use Rattle.radical_layers.specs.Coordinates.{Coordinates}
 use Rattle.radical_layers.specs.Moves.{moves, IsEchelonFor}
@@ -35,11 +34,12 @@ use Rattle.linear_algebra.proofs.GreedyChoice.{in-left, in-right, in-combination
 use Rattle.radical_layers.proofs.Bridge.{at, at-zero, at-times, at-sub, at-total, tabs, at-tabs, same-table}
 use Rattle.radical_layers.proofs.Bridge.{from-span, moved-from-span, span-from-moved}
 use Rattle.radical_layers.proofs.Basis.{in-span-append, combination-append}
+use Rattle.radical_layers.proofs.LayerForm.{matrix-append}
 use Rattle.radical_layers.proofs.SameDimension.{echelon-independent, full}
 use Rattle.radical_layers.proofs.Blocks.{block-is-linear, spread, block-spread, f-linear, f-spread}
 use Rattle.radical_layers.proofs.Blocks.{moved-value}
-use Rattle.resolution_stages.proofs.Sequences.{sum_below-prefix, masked, masked-below, masked-from, sequence}
-use Rattle.resolution_stages.proofs.Sequences.{sequence-at}
+use Rattle.resolution_stages.proofs.Sequences.{masked, masked-below, masked-from, sequence, sequence-at}
+use Rattle.resolution_stages.proofs.TakenRows.{AreChosen, firsts-form, firsts-only, greedy}
 
 module _ {n : ℕ} (q : ℕ) (F : IsFieldModulo (suc q)) (Γ : Group n) (K : Coordinates q Γ) (b : ℕ)
     (L : (Table q Γ b).of → Type 0) (U : IsSubmodule (Table q Γ b) L)
@@ -92,29 +92,6 @@ module _ {n : ℕ} (q : ℕ) (F : IsFieldModulo (suc q)) (Γ : Group n) (K : Coo
   abbrev firsts : ℕ → List (List ℕ)
   firsts k = rows_at E (take k Q.positions)
 
-  pub full-form : (u : ℕ → ℕ) (j : ℕ) → combination u R j ≡ sum_below m (λ i. u i * entry (row E (pos i)) j)
-  full-form u j = ap (λ k. sum_below k (λ i. u i * entry (row R i) j)) (length-map Q.positions (row E))
-      ∙ sum_below-same m (λ i. u i * entry (row R i) j) (λ i. u i * entry (row E (pos i)) j)
-      (λ i l. ap (λ r. u i * entry r j) (taken i l))
-
-  pub firsts-form : (u : ℕ → ℕ) (k : ℕ) → k ≤ m → (j : ℕ)
-      → combination u (firsts k) j ≡ sum_below k (λ i. u i * entry (row E (pos i)) j)
-  firsts-form u k l j = ap (λ x. sum_below x (λ i. u i * entry (row (firsts k) i) j))
-      (length-map (take k Q.positions) (row E) ∙ length-take-le k Q.positions l)
-      ∙ sum_below-same k (λ i. u i * entry (row (firsts k) i) j) (λ i. u i * entry (row E (pos i)) j)
-      (λ i d. ap (λ r. u i * entry r j) (get_or-map (row E) (take k Q.positions) i 0 []
-      (subst (λ x. i < x) (sym (length-take-le k Q.positions l)) d)
-      ∙ ap (row E) (get_or-take k Q.positions i 0 d)))
-
-  -- coefficients that are 0 from k on
-  pub firsts-only : (u : ℕ → ℕ) (k : ℕ) → k ≤ m → ((i : ℕ) → k ≤ i → i < m → IsCongruent (suc q) (u i) 0)
-      → (j : ℕ) → IsCongruent (suc q) (combination u R j) (combination u (firsts k) j)
-  firsts-only u k l h j = congruent_trans (congruent_eq (full-form u j))
-      (congruent_trans (sum_below-prefix (suc q) k m (λ i. u i * entry (row E (pos i)) j) l
-      (λ i c d. congruent_trans (congruent_mul_right (entry (row E (pos i)) j) (h i c d))
-      (congruent_eq (let z : 0 * entry (row E (pos i)) j ≡ 0 = omega arith in z))))
-      (congruent_eq (sym (firsts-form u k l j))))
-
   pub at-combine : (c : Below m → Below (suc q)) (u : ℕ → ℕ)
       → ((i : Below m) → IsCongruent (suc q) (c i).0 (u i.0)) → (j : ℕ)
       → IsCongruent (suc q) (atT (combine T m rows c) j) (combination u R j)
@@ -141,12 +118,7 @@ module _ {n : ℕ} (q : ℕ) (F : IsFieldModulo (suc q)) (Γ : Group n) (K : Coo
   at-row k l j = ap (λ r. entry r j) ((K b).row-table (row E k) (LE.matrix k l))
 
   pub minus-plus : (a x : ℕ) → IsCongruent (suc q) (a + q * x + 1 * x) a
-  minus-plus a x = congruent_trans (congruent_eq
-      (let e : a + q * x + 1 * x ≡ a + (x + (suc q - 1) * x) =
-      (let y : a + q * x + 1 * x ≡ a + (x + q * x) = omega arith in y)
-      ∙ ap (λ k. a + (x + k * x)) (let z : q ≡ suc q - 1 = omega arith in z) in e))
-      (congruent_trans (congruent_add (congruent_refl a) (congruent_minus x F.above_one))
-      (congruent_eq (omega arith)))
+  minus-plus a x = to_congruent 0 x (omega arith)
 
   -- a row with its section differs from the combination by the sums of the section's blocks by a member of
   -- the span of all (g - 1) v
@@ -257,23 +229,12 @@ module _ {n : ℕ} (q : ℕ) (F : IsFieldModulo (suc q)) (Γ : Group n) (K : Coo
             ≡ length Q.kernel + length Q.sections = length-append Q.kernel Q.sections in
             let c : length Q.sections ≡ length E = H.section_count in omega (arith, s, c, d, k)))
 
+    pub W-matrix-of : IsMatrix (suc q) (n * m) (Q.kernel ++ Q.sections)
+    W-matrix-of = matrix-append (suc q) (n * m) Q.kernel Q.sections H.kernel_rows H.section_rows
+
     W-matrix : IsMatrix (suc q) (n * m) W
     unfolding W
-    W-matrix i d = go (cases_lt i (length Q.kernel))
-      where
-        go : (i < length Q.kernel) ⊎ (length Q.kernel ≤ i)
-            → IsRow (suc q) (n * m) (row (Q.kernel ++ Q.sections) i)
-        go (inl k) = rw (get_or_append_left Q.kernel Q.sections [] i k) (H.kernel_rows i k)
-        go (inr k) = let e : i ≡ length Q.kernel + (i - length Q.kernel) = omega (arith, k) in
-            rw (e, get_or-append-add Q.kernel Q.sections (i - length Q.kernel) [])
-            (H.section_rows (i - length Q.kernel)
-            (let s : length (Q.kernel ++ Q.sections)
-            ≡ length Q.kernel + length Q.sections = length-append Q.kernel Q.sections in
-            omega (arith, s, d, k)))
-
-    pub W-matrix-of : IsMatrix (suc q) (n * m) (Q.kernel ++ Q.sections)
-    unfolding W
-    W-matrix-of = W-matrix
+    W-matrix = W-matrix-of
 
     pub W-independent-of : Independent (suc q) (length (Q.kernel ++ Q.sections))
         (λ i j. entry (row (Q.kernel ++ Q.sections) i) j)
@@ -358,14 +319,15 @@ module _ {n : ℕ} (q : ℕ) (F : IsFieldModulo (suc q)) (Γ : Group n) (K : Coo
 
           sums : (j : ℕ) → combination u (firsts (suc k)) j ≡ entry (row E (pos k)) j + q * combination c
               (firsts k) j
-          sums j = firsts-form u (suc k) d j
+          sums j = firsts-form q E Q.positions u (suc k) d j
               ∙ ap₂ ◌+◌ (sum_below-same k (λ i. u i * entry (row E (pos i)) j)
               (λ i. q * (c i * entry (row E (pos i)) j))
               (λ i l. ap (λ x. x * entry (row E (pos i)) j) (u-before i l)
               ∙ (let z : q * c i * entry (row E (pos i)) j ≡ q *
               (c i * entry (row E (pos i)) j) = omega arith in z))
               ∙ sum_below-mul k q (λ i. c i * entry (row E (pos i)) j)
-              ∙ ap (λ x. q * x) (sym (firsts-form c k (let y : k ≤ m = omega (arith, d) in y) j)))
+              ∙ ap (λ x. q * x)
+              (sym (firsts-form q E Q.positions c k (let y : k ≤ m = omega (arith, d) in y) j)))
               (ap (λ x. x * entry (row E (pos k)) j) u-k)
               ∙ (let z : q * combination c (firsts k) j + 1 * entry (row E (pos k)) j ≡ entry
               (row E (pos k)) j + q * combination c (firsts k) j = omega arith in z)
@@ -373,7 +335,8 @@ module _ {n : ℕ} (q : ℕ) (F : IsFieldModulo (suc q)) (Γ : Group n) (K : Coo
           in-t : IsInSpan (suc q) t (atT (combine T m rows (λ i. residue q (u i.0))))
           in-t = in_span_congruent (λ j. congruent_sym
               (congruent_trans (at-combine (λ i. residue q (u i.0)) u (λ i. congruent_mod (u i.0)) j)
-              (congruent_trans (firsts-only u (suc k) d u-after j) (congruent_eq (sums j))))) r.1
+              (congruent_trans (firsts-only q E Q.positions u (suc k) d u-after j)
+              (congruent_eq (sums j))))) r.1
 
           zero-k : residue q (u k) ≡ residue q 0
           zero-k = independent (λ i. residue q (u i.0))
@@ -409,69 +372,19 @@ module _ {n : ℕ} (q : ℕ) (F : IsFieldModulo (suc q)) (Γ : Group n) (K : Coo
               (at-sub q Γ (n * b) T (K b) ((K b).table (row E x)) (combine T m rows sums) j)
               (congruent_add (congruent_eq (at-row x d j)) (congruent_mul_left q
               (congruent_trans (at-combine sums e (λ i. congruent_eq (sequence-at sums i)) j)
-              (firsts-only e k l e-after j)))))
+              (firsts-only q E Q.positions e k l e-after j)))))
               (moved-in-span _ (row-moved s x (C.sections_to_rows x d)))
 
-      -- so the positions are the greedy choice
-      greedy : (x k : ℕ) → x ≤ length E → k ≤ m → ((i : ℕ) → i < k → pos i < x)
-          → ((i : ℕ) → k ≤ i → i < m → x ≤ pos i) → IsGreedyBelow (suc q) E t x (take k Q.positions)
-      greedy zero zero d l below above = refl
-      greedy zero (suc k) d l below above =
-          absurd (let z : pos 0 < 0 = below 0 (omega arith) in omega (arith, z))
-      greedy (suc x) zero d l below above =
-          inl (
-            greedy x zero (let y : x ≤ length E = omega (arith, d) in y) l (λ i z. absurd (omega (arith, z)))
-                (λ i c h. let z : suc x ≤ pos i = above i c h in omega (arith, z)),
-            within x d (λ i e. let z : suc x ≤ pos i.0 = above i.0 (omega arith) i.1 in absurd
-                (omega (arith, z, e))) zero l (λ i c h. above i c h),
-          )
-      greedy (suc x) (suc k) d l below above =
-          at-end (cases_eq (pos k) x) (λ j c u v. greedy x j
-          (let y : x ≤ length E = omega (arith, d) in y) c u v)
-        where
-          at-end : (pos k ≡ x) ⊎ (pos k ≡ x → ⊥)
-              → ((j : ℕ) → j ≤ m → ((i : ℕ) → i < j → pos i < x) → ((i : ℕ) → j ≤ i → i < m → x ≤ pos i)
-              → IsGreedyBelow (suc q) E t x (take j Q.positions))
-              → IsGreedyBelow (suc q) E t (suc x) (take (suc k) Q.positions)
-          at-end (inl e) ih = inr (
-            take k Q.positions,
-            ih k (omega (arith, l)) (λ i c. let z : pos i < pos k = H.ascending i k c l in omega (
-              arith,
-              z,
-              e,
-            )) (λ i c h. at-or-after i c h (cases_eq i k)),
-            (λ s. outside k l (subst (λ y. IsInSpan (suc q) (t ++ firsts k) (entry (row E y))) (sym e) s)),
-            take-suc Q.positions k 0 l ∙ ap (λ y. take k Q.positions ++ y ∷ []) e,
-          )
-            where
-              at-or-after : (i : ℕ) → k ≤ i → i < m → (i ≡ k) ⊎ (i ≡ k → ⊥) → x ≤ pos i
-              at-or-after i c h (inl u) = let z : pos i ≡ x = ap pos u ∙ e in omega (arith, z)
-              at-or-after i c h (inr u) = let z : pos k < pos i = H.ascending k i (omega (arith, c, u)) h in
-                  omega (arith, z, e)
-          at-end (inr e) ih = inl (
-            ih (suc k) l (λ i c. smaller i c (cases_eq i k))
-                (λ i c h. let z : suc x ≤ pos i = above i c h in omega (arith, z)),
-            within x d (λ i u. apart i u (cases_lt i.0 (suc k))) (suc k) l above,
-          )
-            where
-              last : pos k < x
-              last = let z : pos k < suc x = below k (omega arith) in omega (arith, z, e)
-
-              smaller : (i : ℕ) → i < suc k → (i ≡ k) ⊎ (i ≡ k → ⊥) → pos i < x
-              smaller i c (inl u) = subst (λ y. pos y < x) (sym u) last
-              smaller i c (inr u) = let z : pos i < pos k = H.ascending i k (omega (arith, c, u)) l in
-                  let w : pos k < x = last in omega (arith, z, w)
-
-              apart : (i : Below m) → pos i.0 ≡ x → (i.0 < suc k) ⊎ (suc k ≤ i.0) → ⊥
-              apart i u (inl c) = let z : pos i.0 < x = smaller i.0 c (cases_eq i.0 k) in omega (arith, z, u)
-              apart i u (inr c) = let z : suc x ≤ pos i.0 = above i.0 c i.1 in omega (arith, z, u)
+      chosen : AreChosen q E Q.positions (moves Γ T (K b) E)
+      unfolding t
+      chosen = record { ascending = H.ascending; outside = outside; within = within }
 
       pub is-next : IsNextStage q Γ K b E Q
       unfolding t
       is-next = record {
         rows_are = subst (IsGreedyBelow (suc q) E (moves Γ T (K b) E) (length E)) (take-length Q.positions)
-            (greedy (length E) m (le_refl (length E)) (le_refl m) (λ i c. H.inside i c)
-            (λ i c h. absurd (omega (arith, c, h))));
+            (greedy q E Q.positions (moves Γ T (K b) E) chosen (length E) m (le_refl (length E)) (le_refl m)
+            (λ i c. H.inside i c) (λ i c h. absurd (omega (arith, c, h))));
         kernel_is = record {
           matrix = H.kernel_rows;
           echelon = C.echelon;

@@ -1,5 +1,6 @@
 pub mod FromDefinitions
 pub mod Sequences
+pub mod TakenRows
 pub mod CheckLaws
 pub mod NextChecks
 pub mod CheckClaims

@@ -30,7 +30,8 @@ use Rattle.radical_layers.proofs.Basis.{in-span-append, basis}
 use Rattle.augmentation_ideal.proofs.Nakayama.{times-in}
 use Rattle.radical_layers.proofs.LayerForm.{size-at-most, size-at-least}
 use Rattle.resolution_stages.proofs.Sequences.{masked, masked-below, masked-from}
-use Rattle.resolution_stages.proofs.CheckLaws.{members, spans, rows-in, firsts-form, firsts-only, at-combine}
+use Rattle.resolution_stages.proofs.TakenRows.{firsts-form, firsts-only}
+use Rattle.resolution_stages.proofs.CheckLaws.{members, spans, rows-in, at-combine}
 use Rattle.resolution_stages.proofs.CheckLaws.{at-row, minus-plus, row-moved, sections-of, f-sections}
 use Rattle.resolution_stages.proofs.CheckLaws.{W-matrix-of, W-independent-of, l}
 
@@ -116,13 +117,13 @@ module _ {n : ℕ} (q : ℕ) (F : IsFieldModulo (suc q)) (Γ : Group n) (K : Coo
                 (congruent_add (congruent_eq ((at-row q F Γ K b L U E LE Q H) x d j)) (congruent_mul_left q
                 (congruent_trans ((at-combine q F Γ K b L U E LE Q H) c (masked k u)
                 (λ i. congruent_mod (masked k u i.0)) j)
-                (congruent_trans ((firsts-only q F Γ K b L U E LE Q H) (masked k u) k r.1
+                (congruent_trans ((firsts-only q E Q.positions) (masked k u) k r.1
                 (λ i a h. congruent_eq (masked-from k u i a)) j)
-                (congruent_eq ((firsts-form q F Γ K b L U E LE Q H) (masked k u) k r.1 j
+                (congruent_eq ((firsts-form q E Q.positions) (masked k u) k r.1 j
                 ∙ sum_below-same k (λ i. masked k u i * entry (row E (pos i)) j)
                 (λ i. u i * entry (row E (pos i)) j)
                 (λ i a. ap (λ y. y * entry (row E (pos i)) j) (masked-below k u i a))
-                ∙ sym ((firsts-form q F Γ K b L U E LE Q H) u k r.1 j))))))))) s.1)
+                ∙ sym ((firsts-form q E Q.positions) u k r.1 j))))))))) s.1)
 
             same : block-sum q Γ m ((K m).table (row Q.sections x)) ≡ c
             same = same-coefficients q Γ T L m rows next-basis

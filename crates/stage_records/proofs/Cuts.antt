@@ -20,6 +20,9 @@ pub record AreAlike (records : ℕ → Option (List ℕ)) (d k : ℕ) (front who
   pub kept : (i : ℕ) → i ≤ whole.taken → length (records_from records i d) ≤ k → i ≤ front.taken
 
 module _ (o : Option (List ℕ)) (F : (r : List ℕ) → o ≡ Some r → IsFramed r) (bytes : List ℕ) (k : ℕ) where
+  abbrev part : List ℕ
+  part = take k bytes
+
   -- bytes that are not cut are not cut without the limit
   pub whole-uncut : is_cut (take k bytes) ≡ false → is_cut bytes ≡ false
   whole-uncut u =
@@ -52,15 +55,7 @@ module _ (o : Option (List ℕ)) (F : (r : List ℕ) → o ≡ Some r → IsFram
       let l : length (take (4 + length_at (take k bytes)) (take k bytes)) ≡ length T.honest
       = ap length T.same in
       let w : 4 + length_at bytes ≤ k
-      = omega (
-        arith,
-        t,
-        l,
-        e,
-        length-take (4 + length_at (take k bytes))
-            (take k bytes),
-        length-take k bytes,
-      ) in
+      = omega (arith, t, l, e, length-take (4 + length_at part) part, length-take k bytes) in
       let same : take (4 + length_at bytes) bytes ≡ T.honest = sym (take-take (4 + length_at bytes) k bytes w)
       ∙ ap (λ (n : ℕ). take (4 + n) (take k bytes)) (sym e) ∙ T.same in
       let split : k ≡ (4 + length_at bytes) + (k - (4 + length_at bytes)) = omega (arith, w) in (
