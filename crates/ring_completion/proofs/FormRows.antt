@@ -19,7 +19,7 @@ use Rattle.presentation_rows.specs.Values.{vector}
 use Rattle.linear_algebra.proofs.PivotTests.{pivot-if-found}
 use Rattle.ring_completion.specs.Candidates.{AreSome, IsListed}
 use Rattle.ring_completion.specs.Completions.{generator_times}
-use Rattle.ring_completion.specs.Left.{without_pivots, entries_without}
+use Rattle.ring_completion.specs.Left.{without_pivots}
 use Rattle.ring_completion.proofs.ListRows.{same-as-list, over-list}
 use Rattle.ring_completion.proofs.Rests.{rest-zero, row-of-rest, over-plus, at-plus}
 
@@ -68,7 +68,7 @@ module _ (q : ℕ) (mul : ℕ → ℕ → Vector q → Vector q → Vector q) (g
 -- a row that is 0 at the pivots stands for the same polynomial over what is left of the list
 left-from : (E ms : List (List ℕ)) (k : ℕ) (r : List ℕ)
     → ((j : ℕ) → is_pivot E (k + j) ≡ true → entry r j ≡ 0)
-    → polynomial_of ms r ≡ polynomial_of (without_pivots E k ms) (entries_without E k r)
+    → polynomial_of ms r ≡ polynomial_of (without_pivots E k ms) (without_pivots E k r)
 left-from E [] k r h = refl
 left-from E (m ∷ ms) k [] h = empty (without_pivots E k (m ∷ ms))
   where
@@ -83,7 +83,7 @@ left-from E (m ∷ ms) k (x ∷ r) h = go (is_pivot E k) refl x (h 0)
     rest = without_pivots E (suc k) ms
 
     left : List ℕ
-    left = entries_without E (suc k) r
+    left = without_pivots E (suc k) r
 
     go : (b : Bool) → is_pivot E k ≡ b → (x : ℕ) → (is_pivot E (k + 0) ≡ true → x ≡ 0)
         → polynomial_of ms r ≡ polynomial_of rest left
@@ -97,7 +97,7 @@ left-from E (m ∷ ms) k (x ∷ r) h = go (is_pivot E k) refl x (h 0)
 
 pub rows-over-left : (E ms : List (List ℕ)) (r : List ℕ)
     → ((i : ℕ) → i < length E → entry r (pivot (row E i)) ≡ 0)
-    → polynomial_of ms r ≡ polynomial_of (without_pivots E 0 ms) (entries_without E 0 r)
+    → polynomial_of ms r ≡ polynomial_of (without_pivots E 0 ms) (without_pivots E 0 r)
 rows-over-left E ms r h = left-from E ms 0 r
     (λ j p. let i = pivot-if-found E j (ap (is_pivot E) (let z : j ≡ 0 + j = omega arith in z) ∙ p) in
     ap (entry r) (sym i.2) ∙ h i.0 i.1)

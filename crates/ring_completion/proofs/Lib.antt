@@ -42,6 +42,7 @@ pub mod Witness
 pub mod ThreePowers
 pub mod ExchangeExample
 pub mod LeftLists
+pub mod LeftPlaces
 pub mod Choosing
 pub mod Reached
 pub mod Results

@@ -30,7 +30,7 @@ use Rattle.linear_algebra.proofs.PivotTests.{pivot-if-found}
 use Rattle.presentation_rows.proofs.RowTerms.{each-term}
 use Rattle.presentation_rows.proofs.RowValues.{value-of-combination}
 use Rattle.ring_completion.specs.Candidates.{AreSome, IsListed, AreCandidates, AreLeft}
-use Rattle.ring_completion.specs.Left.{without_pivots, entries_without, IsCompletion}
+use Rattle.ring_completion.specs.Left.{without_pivots, IsCompletion}
 use Rattle.graded_polynomials.specs.AllMonomials.{all_monomials}
 use Rattle.graded_polynomials.proofs.AllMonomials.{all-monomials}
 use Rattle.ring_completion.proofs.AddedGenerators.{up, left-with-last, list-values-with-last}
@@ -134,7 +134,7 @@ module _ (q n : ℕ) (field : IsFieldModulo (suc q)) (G : GradedAlgebra q) (gs :
         → IsConsequence q (algebra q G) gs rs (suc n) (f ++ scaled q (polynomial_of ms r))
         → IsRowReduced (suc q) E r w
         → IsConsequence q (algebra q G) gs rs (suc n)
-        (f ++ scaled q (polynomial_of (without_pivots E 0 ms) (entries_without E 0 w)))
+        (f ++ scaled q (polynomial_of (without_pivots E 0 ms) (without_pivots E 0 w)))
     form-of-list f r w o x c D = subst (λ g. IsConsequence q (algebra q G) gs rs (suc n) (f ++ scaled q g))
         (rows-over-left E ms w D.zero_at_pivots)
         (reduced-form q field G.mul (IsOfDegree q G) G.laws gs positive free n rs R ms S
@@ -164,7 +164,7 @@ module _ (q n : ℕ) (field : IsFieldModulo (suc q)) (G : GradedAlgebra q) (gs :
         → IsConsequence q (algebra q G) gs rs (suc n) (f ++ scaled q (polynomial_of ms r))
         → IsRowReduced (suc q) E r w
         → IsConsequence q (algebra q G) gs rs (suc n)
-        (f ++ scaled q (polynomial_of (without_pivots E 0 ms) (entries_without E 0 w)))
+        (f ++ scaled q (polynomial_of (without_pivots E 0 ms) (without_pivots E 0 w)))
     form-over-left = form-of-list ms products forms rows E C.candidates.some
         (separates-candidates ms C.candidates) quotients-of C.products_are C.forms_are C.critical e
 

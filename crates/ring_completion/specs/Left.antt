@@ -9,16 +9,10 @@ use Rattle.ring_completion.specs.Completions.{AreProducts}
 use Rattle.ring_completion.specs.Eliminations.{AreForms, AreCritical}
 
 -- the members of a list, counted from k on, whose place is the pivot of none of the rows
-abbrev pub without_pivots : List (List ℕ) → ℕ → List (List ℕ) → List (List ℕ)
+abbrev pub without_pivots : {A : Type 0} → List (List ℕ) → ℕ → List A → List A
 without_pivots rows k [] = []
 without_pivots rows k (x ∷ xs) =
     cond (is_pivot rows k) (without_pivots rows (suc k) xs) (x ∷ without_pivots rows (suc k) xs)
-
--- the entries of a row, counted from k on, whose place is the pivot of none of the rows
-abbrev pub entries_without : List (List ℕ) → ℕ → List ℕ → List ℕ
-entries_without rows k [] = []
-entries_without rows k (x ∷ xs) =
-    cond (is_pivot rows k) (entries_without rows (suc k) xs) (x ∷ entries_without rows (suc k) xs)
 
 -- ms are the candidates of degree d, with the products and forms of standard monomials and the critical rows
 pub record IsCompletion (q : ℕ) (mul : ℕ → ℕ → Vector q → Vector q → Vector q)

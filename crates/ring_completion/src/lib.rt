@@ -31,7 +31,7 @@ ghost use Rattle.ring_completion.specs.Completions.{generator_times, degree_of, 
 ghost use Rattle.ring_completion.specs.Completions.{IsClearBefore, AreProducts};
 ghost use Rattle.ring_completion.specs.Borders.{AreReached};
 ghost use Rattle.ring_completion.specs.Eliminations.{AreForms, AreCritical, exchange, form_of};
-ghost use Rattle.ring_completion.specs.Left.{without_pivots, entries_without, IsCompletion};
+ghost use Rattle.ring_completion.specs.Left.{without_pivots, IsCompletion};
 ghost use Rattle.ring_completion.specs.Listings.{AreStandardLists, candidates_of, is_clear_before, is_listed};
 ghost use Rattle.ring_completion.specs.Listings.{standard_of};
 
@@ -97,7 +97,7 @@ pub fn monomials_that_are_left()
         → IsConsequence q (algebra q G) gs rs (suc n) (f ++ scaled q (polynomial_of ms u))
         → IsRowReduced (suc q) reduced u w
         → IsConsequence q (algebra q G) gs rs (suc n)
-        (f ++ scaled q (polynomial_of (without_pivots reduced 0 ms) (entries_without reduced 0 w))) }
+        (f ++ scaled q (polynomial_of (without_pivots reduced 0 ms) (without_pivots reduced 0 w))) }
 {}
 
 /// The candidates are those monomials with a standard quotient of which each quotient is standard.
@@ -252,7 +252,7 @@ pub fn forms_over_left_candidates()
         → IsConsequence q (algebra q G) gs rs (suc n) (f ++ scaled q (polynomial_of ms u))
         → IsRowReduced (suc q) reduced u w
         → IsConsequence q (algebra q G) gs rs (suc n)
-        (f ++ scaled q (polynomial_of (without_pivots reduced 0 ms) (entries_without reduced 0 w))) }
+        (f ++ scaled q (polynomial_of (without_pivots reduced 0 ms) (without_pivots reduced 0 w))) }
 {}
 
 /// A form over the monomials that lead in no consequence, reduced by the kernel of their values, is the row

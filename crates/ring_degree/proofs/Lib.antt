@@ -13,7 +13,6 @@ pub mod Multiplying
 pub mod WrittenForms
 pub mod Gaining
 pub mod Places
-pub mod LeftPlaces
 pub mod LeftEntries
 pub mod Lookups
 pub mod Pushed

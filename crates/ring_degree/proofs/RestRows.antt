@@ -10,7 +10,7 @@ use Rattle.std.proofs.lemmas.List.Elements.{All-from_get_or, All-get_or}
 use Rattle.fp_rows.specs.Values.{MatrixValue, RowValue}
 use Rattle.linear_algebra.specs.Rows.{entry, row, add_multiple, IsRow, IsMatrix, IsReduced}
 use Rattle.linear_algebra.proofs.RowLemmas.{length-add_multiple, entry-add_multiple}
-use Rattle.ring_completion.specs.Left.{entries_without}
+use Rattle.ring_completion.specs.Left.{without_pivots}
 use Rattle.ring_degree.specs.Rests.{IsRest, AreRests}
 use Rattle.ring_degree.specs.Tables.{rows_at}
 use Rattle.ring_degree.proofs.Lookups.{rows-are}
@@ -63,7 +63,7 @@ rest-more p E rows old new k x l A R z = rw z record { count = counted; each = e
 
 -- a row that was reduced
 pub is-rest : (p w : ℕ) (E : List (List ℕ)) (r v u x : List ℕ) → IsRow p w r
-    → v ≡ add_multiple p 1 (replicate w 0) r → IsReduced p E v u → IsRow p w u → x ≡ entries_without E 0 u
+    → v ≡ add_multiple p 1 (replicate w 0) r → IsReduced p E v u → IsRow p w u → x ≡ without_pivots E 0 u
     → IsRest p E r x
 is-rest p w E r v u x R e D U z = record {
   reduced = u;
@@ -77,7 +77,7 @@ pub rest-written : (p w : ℕ) (E : List (List ℕ)) (r s x : List ℕ) (none su
     → IsRow p w r → none ≡ record { p = P; entries = replicate n 0 } → P ≡ p → n ≡ w → s ≡ r
     → sum ≡ record { p = none.p; entries = add_multiple none.p 1 none.entries s }
     → IsReduced p E sum.entries reduced.entries → IsRow p w reduced.entries
-    → x ≡ entries_without E 0 reduced.entries → IsRest p E r x
+    → x ≡ without_pivots E 0 reduced.entries → IsRest p E r x
 rest-written p w E r s x none sum reduced P n R z a b c t D U y =
     is-rest p w E r sum.entries reduced.entries x R
     (ap (λ (v : RowValue). v.entries) t ∙ rw (z, a, b, c) refl) D U y

@@ -4,7 +4,7 @@ use Rattle.linear_algebra.specs.Rows.{row, IsRow, IsReduced}
 use Rattle.gc_poly.specs.Lists.{IsDescending}
 use Rattle.graded_polynomials.specs.Monomials.{exponent}
 use Rattle.ring_completion.specs.Candidates.{IsListed}
-use Rattle.ring_completion.specs.Left.{entries_without}
+use Rattle.ring_completion.specs.Left.{without_pivots}
 use Rattle.ring_completion.specs.Listings.{without_factor}
 use Rattle.ring_degree.specs.Tables.{at_generator, standard_at}
 use Rattle.ring_degree.specs.declared.table.Table.{Table}
@@ -14,7 +14,7 @@ pub record IsRest (p : ℕ) (rows : List (List ℕ)) (v w : List ℕ) : Type 0 w
   pub reduced : List ℕ
   pub is_reduced : IsReduced p rows v reduced
   pub is_row : IsRow p (length v) reduced
-  pub entries : w ≡ entries_without rows 0 reduced
+  pub entries : w ≡ without_pivots rows 0 reduced
 
 -- the new rows are what is left of the old ones
 pub record AreRests (p : ℕ) (rows old new : List (List ℕ)) : Type 0 where

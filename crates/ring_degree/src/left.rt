@@ -3,7 +3,6 @@
 ghost use Rattle.std.specs.Prelude.{◌≡◌, ℕ, ◌-◌, ◌<◌, ◌≤◌, ◌↔◌, true, List, length, All, IfOk};
 ghost use Rattle.linear_algebra.specs.Rows.{IsMatrix};
 ghost use Rattle.ring_completion.specs.Left as rests;
-ghost use Rattle.ring_completion.specs.Left.{entries_without};
 ghost use Rattle.graded_polynomials.specs.Monomials.{exponent};
 ghost use Rattle.ring_completion.specs.Candidates.{IsListed};
 ghost use Rattle.ring_completion.specs.Listings.{without_factor};
@@ -33,8 +32,8 @@ pub(crate) fn without_pivots(alloc: Global, list: &Monos, e: &Echelon) -> Result
 // Writes the entries whose places are no pivots.
 fn write_without_pivots(v: &Row, e: &Echelon, out: &mut Row)
     requires prime { out.old.p ≡ v.now.p }
-    requires length { length out.old.entries ≡ length (entries_without e.now.rows 0 v.now.entries) }
-    ensures { out.new ≡ record out.old { entries = entries_without e.now.rows 0 v.now.entries } }
+    requires length { length out.old.entries ≡ length (rests.without_pivots e.now.rows 0 v.now.entries) }
+    ensures { out.new ≡ record out.old { entries = rests.without_pivots e.now.rows 0 v.now.entries } }
 {
     let _room = out.len();
     let mut at = 0;
@@ -50,7 +49,7 @@ fn write_without_pivots(v: &Row, e: &Echelon, out: &mut Row)
 fn reduced_rows(alloc: Global, rows: &Matrix, e: &Echelon, left: usize) -> Result<Matrix, Memory>
     requires prime { rows.now.p ≡ e.now.p }
     requires width { rows.now.width ≡ e.now.width }
-    requires left { (v : List ℕ) → length v ≡ e.now.width → length (entries_without e.now.rows 0 v) ≡ left }
+    requires left { (v : List ℕ) → length v ≡ e.now.width → length (rests.without_pivots e.now.rows 0 v) ≡ left }
     ensures prime { IfOk result (λ m. m.p ≡ rows.now.p) }
     ensures width { IfOk result (λ m. m.width ≡ left) }
     ensures rows { IfOk result (λ m. AreRests e.now.p e.now.rows rows.now.rows m.rows) }
@@ -78,7 +77,7 @@ pub(crate) fn reduced_matrices(
 ) -> Result<Vec<Matrix>, Memory>
     requires primes { All (λ m. m.p ≡ e.now.p) matrices.now }
     requires widths { All (λ m. m.width ≡ e.now.width) matrices.now }
-    requires left { (v : List ℕ) → length v ≡ e.now.width → length (entries_without e.now.rows 0 v) ≡ left }
+    requires left { (v : List ℕ) → length v ≡ e.now.width → length (rests.without_pivots e.now.rows 0 v) ≡ left }
     ensures count { IfOk result (λ f. length f.items ≡ length matrices.now) }
     ensures primes { IfOk result (λ f. All (λ m. m.p ≡ e.now.p) f.items) }
     ensures widths { IfOk result (λ f. All (λ m. m.width ≡ left) f.items) }

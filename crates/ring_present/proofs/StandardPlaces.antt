@@ -1,94 +1,11 @@
--- The members of a list at the places that are no pivots, one place after another.
-use Rattle.std.proofs.Common.{◌≡◌, ℕ, zero, suc, ◌+◌, ◌<◌, Bool, true, false, cond, List, [], ◌∷◌, ◌++◌}
-use Rattle.std.proofs.Common.{length, get_or, take, add-one, arith, ap, sym, ◌∙◌, refl}
-use Rattle.std.specs.Prelude.{All, AllPairs}
-use Rattle.std.specs.List.{AllByRecursion as Each}
-use Rattle.std.proofs.lemmas.List.{get_or-take, length-take}
-use Rattle.std.proofs.lemmas.List.Elements.{All-from_recursion, All-from_get_or, recursion_from_All}
-use Rattle.graded_polynomials.specs.Monomials.{IsGreater}
+-- The values at the places that are no pivots, one place after another.
+use Rattle.std.proofs.Common.{◌≡◌, ℕ, ◌+◌, ◌<◌, false, List, [], ◌∷◌, ◌++◌, length, get_or, take, ap, sym, ◌∙◌}
 use Rattle.linear_algebra.specs.Rows.{is_pivot}
 use Rattle.fp_rows.specs.Values.{MatrixValue}
 use Rattle.ring_present.specs.Standard.{without_pivots}
+use Rattle.ring_completion.proofs.LeftPlaces.{taken}
 
-cond-cons : (b : Bool) (x : List ℕ) (xs ys : List (List ℕ)) (c : Bool)
-    → cond b (cond c xs ys) (x ∷ cond c xs ys) ≡ cond c (cond b xs (x ∷ xs)) (cond b ys (x ∷ ys))
-cond-cons true x xs ys true = refl
-cond-cons true x xs ys false = refl
-cond-cons false x xs ys true = refl
-cond-cons false x xs ys false = refl
-
-cond-append : (b : Bool) (x : List ℕ) (xs ys : List (List ℕ))
-    → cond b (xs ++ ys) (x ∷ (xs ++ ys)) ≡ cond b xs (x ∷ xs) ++ ys
-cond-append true x xs ys = refl
-cond-append false x xs ys = refl
-
-more : (rows xs : List (List ℕ)) (k i : ℕ) (d : List ℕ) → i < length xs
-    → without_pivots rows k (take (suc i) xs)
-    ≡ cond (is_pivot rows (k + i)) (without_pivots rows k (take i xs))
-    (without_pivots rows k (take i xs) ++ get_or xs i d ∷ [])
-more rows [] k i d l = absurd (omega arith)
-more rows (x ∷ xs) k zero d l = ap (λ n. cond (is_pivot rows n) [] (x ∷ []))
-    (let e : k ≡ k + 0 = omega arith in e)
-more rows (x ∷ xs) k (suc i) d l =
-    ap (λ ys. cond (is_pivot rows k) ys (x ∷ ys)) (more rows xs (suc k) i d (omega arith)
-    ∙ ap (λ n. cond (is_pivot rows n) (without_pivots rows (suc k) (take i xs))
-    (without_pivots rows (suc k) (take i xs) ++ get_or xs i d ∷ []))
-    (let e : suc k + i ≡ k + suc i = omega arith in e))
-    ∙ cond-cons (is_pivot rows k) x (without_pivots rows (suc k) (take i xs))
-    (without_pivots rows (suc k) (take i xs) ++ get_or xs i d ∷ [])
-    (is_pivot rows (k + suc i))
-    ∙ ap (λ ys. cond (is_pivot rows (k + suc i)) (without_pivots rows k (x ∷ take i xs)) ys)
-    (cond-append (is_pivot rows k) x (without_pivots rows (suc k) (take i xs)) (get_or xs i d ∷ []))
-
-pub pivot-left-out : (rows xs : List (List ℕ)) (i : ℕ) → i < length xs → is_pivot rows i ≡ true
-    → without_pivots rows 0 (take (i + 1) xs) ≡ without_pivots rows 0 (take i xs)
-pivot-left-out rows xs i l e = rw add-one (more rows xs 0 i [] l
-    ∙ ap (λ b. cond b (without_pivots rows 0 (take i xs))
-    (without_pivots rows 0 (take i xs) ++ get_or xs i [] ∷ []))
-    (ap (is_pivot rows) (let z : 0 + i ≡ i = omega arith in z) ∙ e))
-
-pub other-taken : (rows xs : List (List ℕ)) (i : ℕ) → i < length xs → is_pivot rows i ≡ false
-    → without_pivots rows 0 (take (i + 1) xs) ≡ without_pivots rows 0 (take i xs) ++ get_or xs i [] ∷ []
-other-taken rows xs i l e = rw add-one (more rows xs 0 i [] l
-    ∙ ap (λ b. cond b (without_pivots rows 0 (take i xs))
-    (without_pivots rows 0 (take i xs) ++ get_or xs i [] ∷ []))
-    (ap (is_pivot rows) (let z : 0 + i ≡ i = omega arith in z) ∙ e))
-
-each-left : (P : List ℕ → Type 0) (rows : List (List ℕ)) (k : ℕ) (xs : List (List ℕ)) → Each P xs
-    → Each P (without_pivots rows k xs)
-each-left P rows k [] h = tt
-each-left P rows k (x ∷ xs) h = go (is_pivot rows k) (each-left P rows (suc k) xs h.1)
-  where
-    go : (b : Bool) → Each P (without_pivots rows (suc k) xs)
-        → Each P (cond b (without_pivots rows (suc k) xs) (x ∷ without_pivots rows (suc k) xs))
-    go true r = r
-    go false r = (h.0, r)
-
--- those left of the first i are greater than the next
-pub left-are-greater : (rows ms : List (List ℕ)) (i : ℕ) (m : List ℕ) → AllPairs (λ m n. IsGreater m n) ms
-    → i < length ms → get_or ms i [] ≡ m
-    → All (λ n. IsGreater n m) (without_pivots rows 0 (take i ms))
-left-are-greater rows ms i m h l e = All-from_recursion (λ (n : List ℕ). IsGreater n m)
-    (without_pivots rows 0 (take i ms))
-    (each-left (λ n. IsGreater n m) rows 0 (take i ms)
-    (recursion_from_All (λ (n : List ℕ). IsGreater n m) (take i ms) before))
-  where
-    before : All (λ (n : List ℕ). IsGreater n m) (take i ms)
-    before = All-from_get_or (λ (n : List ℕ). IsGreater n m) (take i ms) []
-        (λ k b. let a : k < i = omega (
-          arith,
-          b,
-          length-take i ms,
-        ) in rw (get_or-take i ms k [] a) (rw e at (h k i [] a l)))
-
--- one more monomial is taken
-pub monomial-taken : (rows ms old new : List (List ℕ)) (i : ℕ) (m : List ℕ) → i < length ms
-    → is_pivot rows i ≡ false → m ≡ get_or ms i []
-    → old ≡ without_pivots rows 0 (take i ms) → new ≡ old ++ m ∷ []
-    → new ≡ without_pivots rows 0 (take (i + 1) ms)
-monomial-taken rows ms old new i m l p e f h = h ∙ rw (e, f) (sym (other-taken rows ms i l p))
-
--- and its value
+-- one more value is taken
 pub value-taken : (rows : List (List ℕ)) (all old new : MatrixValue) (i : ℕ) (v : List ℕ)
     → i < length all.rows → is_pivot rows i ≡ false
     → v ≡ get_or all.rows i []
@@ -96,4 +13,4 @@ pub value-taken : (rows : List (List ℕ)) (all old new : MatrixValue) (i : ℕ)
     → new ≡ record old { rows = old.rows ++ v ∷ [] }
     → new ≡ record all { rows = without_pivots rows 0 (take (i + 1) all.rows) }
 value-taken rows all old new i v l p e f h = h
-    ∙ rw (e, f) (ap (λ ys. record all { rows = ys }) (sym (other-taken rows all.rows i l p)))
+    ∙ rw (e, f) (ap (λ ys. record all { rows = ys }) (sym (taken rows all.rows i [] l p)))

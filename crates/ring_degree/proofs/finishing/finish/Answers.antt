@@ -5,7 +5,7 @@ use Rattle.ring_degree.specs.Finishing.{IsProductForm}
 use Rattle.ring_degree.specs.Rests.{AreRests}
 use Rattle.ring_degree.specs.Tables.{rows_at}
 use Rattle.ring_degree.proofs.FinishedTables.{are-tables, are-tables-of}
-use Rattle.ring_degree.proofs.LeftEntries.{as-many}
+use Rattle.ring_completion.proofs.LeftPlaces.{as-many}
 use Rattle.ring_degree.proofs.ProductForms.{all-primes, all-widths, positive-generators}
 use Rattle.ring_degree.proofs.Pushed.{each-pushed}
 use Rattle.ring_degree.proofs.finishing.finish.Goals as goal

@@ -1,6 +1,6 @@
 use Rattle.std.proofs.Common.{◌≡◌, ◌<◌, length, get_or, [], arith, sym, ◌∙◌}
 use Rattle.std.proofs.lemmas.Option.{get_or_from_slice_get}
-use Rattle.ring_degree.proofs.LeftPlaces.{pivot-left-out, monomial-taken, left-are-greater}
+use Rattle.ring_completion.proofs.LeftPlaces.{left-out, monomial-taken, left-are-greater}
 use Rattle.ring_degree.proofs.left.without_pivots.Goals as goal
 use Rattle.ring_degree.proofs.left.without_pivots.Goals.{then-not-is_pivot+in_ok-try_clone+in_ok-push}
 use Rattle.ring_degree.proofs.left.without_pivots.Goals.{else-not-is_pivot}
@@ -24,6 +24,6 @@ loop-k-preserved c =
           (w.in_ok-try_clone.ensures ∙ sym m) c.loop-k.invariant w.in_ok-push.ensures.ok
       | else-not-is_pivot w ↦
           w.left-is ∙ c.loop-k.invariant
-          ∙ sym (pivot-left-out c.args.e.now.rows c.args.list.now c.loop-k.k l
+          ∙ sym (left-out c.args.e.now.rows c.args.list.now c.loop-k.k [] l
           (sym w.if-not-is_pivot.ensures))
     ]

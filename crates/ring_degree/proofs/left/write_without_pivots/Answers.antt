@@ -1,6 +1,7 @@
 use Rattle.std.proofs.Common.{◌<◌, arith, ap, sym, length, ◌∙◌}
 use Rattle.std.proofs.Math.ListN.{length-set}
-use Rattle.ring_degree.proofs.LeftEntries.{room, next-written, entry-left-out}
+use Rattle.ring_completion.proofs.LeftPlaces.{left-out}
+use Rattle.ring_degree.proofs.LeftEntries.{room, next-written}
 use Rattle.ring_degree.proofs.left.write_without_pivots.Goals as goal
 use Rattle.ring_degree.proofs.left.write_without_pivots.Goals.{then-not-is_pivot, else-not-is_pivot}
 
@@ -40,7 +41,7 @@ loop-k-preserved c =
       | else-not-is_pivot w ↦
           let l : c.loop-k.k < length c.args.v.now.entries =
           omega (arith, c.loop-k-test.true, c.len-k-end.ensures.count) in
-          let e = sym (entry-left-out c.args.e.now.rows c.args.v.now.entries c.loop-k.k l
+          let e = sym (left-out c.args.e.now.rows c.args.v.now.entries c.loop-k.k 0 l
           (sym w.if-not-is_pivot.ensures)) in
           rw (w.out-is, w.at-is) record {
             prime = c.loop-k.invariant.prime;

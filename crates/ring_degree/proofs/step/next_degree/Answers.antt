@@ -5,7 +5,7 @@ use Rattle.ring_completion.specs.Candidates.{AreSome, IsListed}
 use Rattle.ring_degree.specs.Critical.{IsCriticalRow}
 use Rattle.ring_degree.specs.Rests.{AreRests}
 use Rattle.ring_degree.specs.Tables.{AreMatrices, rows_at}
-use Rattle.ring_degree.proofs.LeftEntries.{as-many}
+use Rattle.ring_completion.proofs.LeftPlaces.{as-many}
 use Rattle.ring_degree.proofs.StepFound.{found, found-step, all-primes, all-widths, rests-shape, left-some}
 use Rattle.ring_degree.proofs.StepFound.{low-of}
 use Rattle.ring_degree.proofs.step.next_degree.Goals as goal

@@ -1,7 +1,8 @@
 use Rattle.std.proofs.Common.{◌≡◌, ◌<◌, length, get_or, [], arith, ap, sym, ◌∙◌}
 use Rattle.std.proofs.lemmas.Option.{get_or_from_slice_get}
 use Rattle.fp_rows.specs.Refs.{entries_of}
-use Rattle.ring_present.proofs.StandardPlaces.{pivot-left-out, monomial-taken, value-taken, left-are-greater}
+use Rattle.ring_completion.proofs.LeftPlaces.{left-out, monomial-taken, left-are-greater}
+use Rattle.ring_present.proofs.StandardPlaces.{value-taken}
 use Rattle.ring_present.proofs.standard.standard.Goals as goal
 use Rattle.ring_present.proofs.standard.standard.Goals.{
   then-not-is_pivot+in_ok-try_clone+in_ok-push+in_ok-push-2,
@@ -41,11 +42,11 @@ loop-i-preserved c =
       | else-not-is_pivot w ↦
           record {
             monomials_are = w.monomials-is ∙ c.loop-i.invariant.monomials_are
-                ∙ sym (pivot-left-out c.args.kernel.now.rows c.args.left.now.monomials c.loop-i.i l
+                ∙ sym (left-out c.args.kernel.now.rows c.args.left.now.monomials c.loop-i.i [] l
                 (sym w.if-not-is_pivot.ensures));
             values_are = w.values-is ∙ c.loop-i.invariant.values_are
                 ∙ ap (λ ys. record c.args.left.now.values { rows = ys })
-                (sym (pivot-left-out c.args.kernel.now.rows c.args.left.now.values.rows c.loop-i.i b
+                (sym (left-out c.args.kernel.now.rows c.args.left.now.values.rows c.loop-i.i [] b
                 (sym w.if-not-is_pivot.ensures)));
           }
     ]

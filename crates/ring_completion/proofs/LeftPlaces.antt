@@ -9,19 +9,19 @@ use Rattle.graded_polynomials.specs.Monomials.{IsGreater}
 use Rattle.linear_algebra.specs.Rows.{is_pivot}
 use Rattle.ring_completion.specs.Left.{without_pivots}
 
-cond-cons : (b : Bool) (x : List ℕ) (xs ys : List (List ℕ)) (c : Bool)
+cond-cons : {A : Type 0} (b : Bool) (x : A) (xs ys : List A) (c : Bool)
     → cond b (cond c xs ys) (x ∷ cond c xs ys) ≡ cond c (cond b xs (x ∷ xs)) (cond b ys (x ∷ ys))
 cond-cons true x xs ys true = refl
 cond-cons true x xs ys false = refl
 cond-cons false x xs ys true = refl
 cond-cons false x xs ys false = refl
 
-cond-append : (b : Bool) (x : List ℕ) (xs ys : List (List ℕ))
+cond-append : {A : Type 0} (b : Bool) (x : A) (xs ys : List A)
     → cond b (xs ++ ys) (x ∷ (xs ++ ys)) ≡ cond b xs (x ∷ xs) ++ ys
 cond-append true x xs ys = refl
 cond-append false x xs ys = refl
 
-more : (rows xs : List (List ℕ)) (k i : ℕ) (d : List ℕ) → i < length xs
+more : {A : Type 0} (rows : List (List ℕ)) (xs : List A) (k i : ℕ) (d : A) → i < length xs
     → without_pivots rows k (take (suc i) xs)
     ≡ cond (is_pivot rows (k + i)) (without_pivots rows k (take i xs))
     (without_pivots rows k (take i xs) ++ get_or xs i d ∷ [])
@@ -39,19 +39,34 @@ more rows (x ∷ xs) k (suc i) d l =
     ∙ ap (λ ys. cond (is_pivot rows (k + suc i)) (without_pivots rows k (x ∷ take i xs)) ys)
     (cond-append (is_pivot rows k) x (without_pivots rows (suc k) (take i xs)) (get_or xs i d ∷ []))
 
-pub pivot-left-out : (rows xs : List (List ℕ)) (i : ℕ) → i < length xs → is_pivot rows i ≡ true
-    → without_pivots rows 0 (take (i + 1) xs) ≡ without_pivots rows 0 (take i xs)
-pivot-left-out rows xs i l e = rw add-one (more rows xs 0 i [] l
+pub left-out : {A : Type 0} (rows : List (List ℕ)) (xs : List A) (i : ℕ) (d : A) → i < length xs
+    → is_pivot rows i ≡ true → without_pivots rows 0 (take (i + 1) xs) ≡ without_pivots rows 0 (take i xs)
+left-out rows xs i d l e = rw add-one (more rows xs 0 i d l
     ∙ ap (λ b. cond b (without_pivots rows 0 (take i xs))
-    (without_pivots rows 0 (take i xs) ++ get_or xs i [] ∷ []))
+    (without_pivots rows 0 (take i xs) ++ get_or xs i d ∷ []))
     (ap (is_pivot rows) (let z : 0 + i ≡ i = omega arith in z) ∙ e))
 
-pub other-taken : (rows xs : List (List ℕ)) (i : ℕ) → i < length xs → is_pivot rows i ≡ false
-    → without_pivots rows 0 (take (i + 1) xs) ≡ without_pivots rows 0 (take i xs) ++ get_or xs i [] ∷ []
-other-taken rows xs i l e = rw add-one (more rows xs 0 i [] l
+pub taken : {A : Type 0} (rows : List (List ℕ)) (xs : List A) (i : ℕ) (d : A) → i < length xs
+    → is_pivot rows i ≡ false
+    → without_pivots rows 0 (take (i + 1) xs) ≡ without_pivots rows 0 (take i xs) ++ get_or xs i d ∷ []
+taken rows xs i d l e = rw add-one (more rows xs 0 i d l
     ∙ ap (λ b. cond b (without_pivots rows 0 (take i xs))
-    (without_pivots rows 0 (take i xs) ++ get_or xs i [] ∷ []))
+    (without_pivots rows 0 (take i xs) ++ get_or xs i d ∷ []))
     (ap (is_pivot rows) (let z : 0 + i ≡ i = omega arith in z) ∙ e))
+
+cond-length : {A B : Type 0} (b : Bool) (x : A) (xs : List A) (y : B) (ys : List B) → length xs ≡ length ys
+    → length (cond b xs (x ∷ xs)) ≡ length (cond b ys (y ∷ ys))
+cond-length true x xs y ys e = e
+cond-length false x xs y ys e = omega (arith, e)
+
+-- as many are left of two lists of the same length
+pub as-many : {A B : Type 0} (rows : List (List ℕ)) (k : ℕ) (xs : List A) (ys : List B)
+    → length xs ≡ length ys → length (without_pivots rows k xs) ≡ length (without_pivots rows k ys)
+as-many rows k [] [] e = refl
+as-many rows k [] (y ∷ ys) e = absurd (omega (arith, e))
+as-many rows k (x ∷ xs) [] e = absurd (omega (arith, e))
+as-many rows k (x ∷ xs) (y ∷ ys) e = cond-length (is_pivot rows k) x (without_pivots rows (suc k) xs) y
+    (without_pivots rows (suc k) ys) (as-many rows (suc k) xs ys (omega (arith, e)))
 
 each-left : (P : List ℕ → Type 0) (rows : List (List ℕ)) (k : ℕ) (xs : List (List ℕ)) → Each P xs
     → Each P (without_pivots rows k xs)
@@ -85,4 +100,4 @@ pub monomial-taken : (rows ms old new : List (List ℕ)) (i : ℕ) (m : List ℕ
     → is_pivot rows i ≡ false → m ≡ get_or ms i []
     → old ≡ without_pivots rows 0 (take i ms) → new ≡ old ++ m ∷ []
     → new ≡ without_pivots rows 0 (take (i + 1) ms)
-monomial-taken rows ms old new i m l p e f h = h ∙ rw (e, f) (sym (other-taken rows ms i l p))
+monomial-taken rows ms old new i m l p e f h = h ∙ rw (e, f) (sym (taken rows ms i [] l p))
