@@ -49,7 +49,8 @@ fn write_without_pivots(v: &Row, e: &Echelon, out: &mut Row)
 fn reduced_rows(alloc: Global, rows: &Matrix, e: &Echelon, left: usize) -> Result<Matrix, Memory>
     requires prime { rows.now.p ≡ e.now.p }
     requires width { rows.now.width ≡ e.now.width }
-    requires left { (v : List ℕ) → length v ≡ e.now.width → length (rests.without_pivots e.now.rows 0 v) ≡ left }
+    requires left { (v : List ℕ) → length v ≡ e.now.width
+        → length (rests.without_pivots e.now.rows 0 v) ≡ left }
     ensures prime { IfOk result (λ m. m.p ≡ rows.now.p) }
     ensures width { IfOk result (λ m. m.width ≡ left) }
     ensures rows { IfOk result (λ m. AreRests e.now.p e.now.rows rows.now.rows m.rows) }
@@ -77,7 +78,8 @@ pub(crate) fn reduced_matrices(
 ) -> Result<Vec<Matrix>, Memory>
     requires primes { All (λ m. m.p ≡ e.now.p) matrices.now }
     requires widths { All (λ m. m.width ≡ e.now.width) matrices.now }
-    requires left { (v : List ℕ) → length v ≡ e.now.width → length (rests.without_pivots e.now.rows 0 v) ≡ left }
+    requires left { (v : List ℕ) → length v ≡ e.now.width
+        → length (rests.without_pivots e.now.rows 0 v) ≡ left }
     ensures count { IfOk result (λ f. length f.items ≡ length matrices.now) }
     ensures primes { IfOk result (λ f. All (λ m. m.p ≡ e.now.p) f.items) }
     ensures widths { IfOk result (λ f. All (λ m. m.width ≡ left) f.items) }

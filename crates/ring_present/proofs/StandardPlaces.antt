@@ -1,5 +1,6 @@
 -- The values at the places that are no pivots, one place after another.
-use Rattle.std.proofs.Common.{◌≡◌, ℕ, ◌+◌, ◌<◌, false, List, [], ◌∷◌, ◌++◌, length, get_or, take, ap, sym, ◌∙◌}
+use Rattle.std.proofs.Common.{◌≡◌, ℕ, ◌+◌, ◌<◌, false, List, [], ◌∷◌, ◌++◌, length, get_or, take}
+use Rattle.std.proofs.Common.{ap, sym, ◌∙◌}
 use Rattle.linear_algebra.specs.Rows.{is_pivot}
 use Rattle.fp_rows.specs.Values.{MatrixValue}
 use Rattle.ring_present.specs.Standard.{without_pivots}
