@@ -10,5 +10,3 @@ mod values;
 pub use laws::class_map_law;
 pub use values::value;
 
-#[cfg(test)]
-mod tests;

@@ -17,5 +17,3 @@ pub use embedding_laws::{
 };
 pub use lift::Lift;
 
-#[cfg(test)]
-mod tests;

@@ -14,8 +14,6 @@ mod no_fault_sink;
 mod sink;
 mod std_sink;
 mod streams;
-#[cfg(test)]
-mod tests;
 
 pub use disk_files::DiskFiles;
 pub use fault::Fault;

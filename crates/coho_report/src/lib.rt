@@ -14,8 +14,6 @@ mod restrictors;
 mod rings;
 mod subgroup_lines;
 mod subgroups;
-#[cfg(test)]
-mod tests;
 
 pub use composition::compose;
 pub use fault::ReportFault;

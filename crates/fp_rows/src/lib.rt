@@ -22,8 +22,6 @@ mod row_ref;
 mod short_row;
 mod solutions;
 mod spans;
-#[cfg(test)]
-mod tests;
 mod words;
 
 pub use arithmetic::add_product;

@@ -24,5 +24,3 @@ pub use substitution::subst;
 pub use sums::{add, sub};
 pub use text::{power_bytes, write_text};
 
-#[cfg(test)]
-mod tests;

@@ -17,5 +17,3 @@ pub use generation::generators;
 pub use laws::inverse_law;
 pub use p_group::PGroup;
 
-#[cfg(test)]
-mod tests;

@@ -30,5 +30,3 @@ pub use parts::StageParts;
 pub use resolution::Resolution;
 pub use stage::Stage;
 
-#[cfg(test)]
-mod tests;

@@ -6,8 +6,6 @@ mod images;
 mod ops;
 mod origin;
 mod steps;
-#[cfg(test)]
-mod tests;
 mod work;
 
 pub use basis::NegBasis;

@@ -6,8 +6,6 @@
 pub mod collection;
 pub mod consistency;
 pub mod elements;
-#[cfg(test)]
-mod known_groups;
 mod layer;
 mod layer_lists;
 mod layer_product;
@@ -15,8 +13,6 @@ mod layer_tests;
 pub mod presentation;
 mod rounds;
 mod square;
-#[cfg(test)]
-mod tests;
 mod word_numbers;
 
 pub use collection::collect;

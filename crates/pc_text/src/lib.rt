@@ -11,8 +11,6 @@ mod numerals;
 mod place;
 mod reader;
 mod relations;
-#[cfg(test)]
-mod tests;
 mod texts;
 mod words;
 mod writer;

@@ -12,5 +12,3 @@ mod values;
 pub use fault::PolyFault;
 pub use reader::read_poly;
 
-#[cfg(test)]
-mod tests;

@@ -16,5 +16,3 @@ pub use finishing::finish;
 pub use step::{Step, next_degree};
 pub use table::Table;
 
-#[cfg(test)]
-mod tests;

@@ -14,5 +14,3 @@ mod values;
 
 pub use ring::Ring;
 
-#[cfg(test)]
-mod tests;

@@ -13,5 +13,3 @@ pub use fault::StagesFault;
 pub use resolving::stages;
 pub use walking::taken_stages;
 
-#[cfg(test)]
-mod tests;

@@ -13,5 +13,3 @@ mod subgroups;
 pub use elem_ab::ElemAb;
 pub use subgroups::{Subgroups, max_elementary};
 
-#[cfg(test)]
-mod tests;

@@ -1,0 +1,7 @@
+//! Tests of group algebras and minimal resolutions.
+#![tactic(auto)]
+
+#[cfg(test)]
+mod algebras;
+#[cfg(test)]
+mod resolutions;

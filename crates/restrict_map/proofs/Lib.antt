@@ -1,2 +1,0 @@
-pub mod Restrictions
-pub mod RestrictedClasses
