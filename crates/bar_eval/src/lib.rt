@@ -9,4 +9,3 @@ mod values;
 
 pub use laws::class_map_law;
 pub use values::value;
-

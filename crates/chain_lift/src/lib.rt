@@ -16,4 +16,3 @@ pub use embedding_laws::{
     embedding_maps_law,
 };
 pub use lift::Lift;
-

@@ -3,12 +3,12 @@
 ghost use Rattle.std.specs.Prelude.{◌<◌, ◌+◌, ◌^◌, length};
 ghost use Rattle.stage_file.specs.Honest.{IsShapeAt};
 
-use stage_file::{Record, Shape, next_record};
 use group_algebra::Algebra;
 use group_table::{Group, Memory, Prime};
 use min_res::{AdoptFault, Resolution};
 use sha2::{Digest, Sha256};
 use small_groups::SmallGroup;
+use stage_file::{Record, Shape, next_record};
 use std::alloc::Global;
 use std::process::Abort;
 use std::test::Fail;

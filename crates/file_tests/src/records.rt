@@ -1,10 +1,10 @@
-use stage_file::*;
 use fp_rows::RowRef;
 use group_algebra::Algebra;
 use group_table::Prime;
 use min_res::{Resolution, Stage, StageParts};
 use pc_group::Presentation;
 use small_groups::SmallGroup;
+use stage_file::*;
 use std::alloc::Global;
 use std::process::Abort;
 use std::test::Fail;

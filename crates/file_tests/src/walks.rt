@@ -1,10 +1,10 @@
-use stage_walk::*;
 use coho_io::{Files, MemFiles};
 use group_algebra::Algebra;
 use group_table::{Memory, Prime};
 use min_res::Resolution;
 use pc_group::{Consistent, Presentation, check};
 use sha2::{Digest, Sha256};
+use stage_walk::*;
 use std::alloc::Global;
 use std::process::Abort;
 use std::test::Fail;

@@ -23,4 +23,3 @@ pub use products::mul;
 pub use substitution::subst;
 pub use sums::{add, sub};
 pub use text::{power_bytes, write_text};
-

@@ -16,4 +16,3 @@ pub use algebra::Algebra;
 pub use generation::generators;
 pub use laws::inverse_law;
 pub use p_group::PGroup;
-

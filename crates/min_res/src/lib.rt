@@ -29,4 +29,3 @@ pub use laws::{
 pub use parts::StageParts;
 pub use resolution::Resolution;
 pub use stage::Stage;
-

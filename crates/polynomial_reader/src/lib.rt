@@ -11,4 +11,3 @@ mod values;
 
 pub use fault::PolyFault;
 pub use reader::read_poly;
-

@@ -6,10 +6,10 @@ ghost use Rattle.limits.specs.declared.TheConstants.{GREATEST_DEGREE};
 ghost use Rattle.graded_polynomials.specs.Texts.{power};
 ghost use Rattle.ring_degree.specs.Tables.{AreTables, standard_at};
 
-use ring_degree::{Table, finish, next_degree};
 use fp_rows::{Echelon, Matrix, Row, echelon};
 use gc_poly::{Gens, Mono, Monos};
 use group_table::{Memory, Prime};
+use ring_degree::{Table, finish, next_degree};
 use std::alloc::Global;
 use std::process::Abort;
 use std::test::Fail;

@@ -4,10 +4,10 @@ ghost use Rattle.std.specs.Prelude.{◌≡◌, ◌+◌, ◌≤◌, [], ◌∷◌
 ghost use Rattle.limits.specs.declared.TheConstants.{GREATEST_DEGREE};
 ghost use Rattle.gc_poly.specs.Polynomials.{IsOverGenerators};
 
-use param_test::{Finite, ParamTable, bound, combinations, finite_on, search};
 use fp_rows::RowRef;
 use gc_poly::{Gens, Poly, Polys, monomials};
 use group_table::{Memory, Prime};
+use param_test::{Finite, ParamTable, bound, combinations, finite_on, search};
 use std::alloc::Global;
 use std::test::Fail;
 

@@ -2,10 +2,10 @@
 
 ghost use Rattle.std.specs.Prelude.{◌≤◌, length};
 
-use polynomial_reader::read_poly;
 use gc_poly::{Gens, write_text};
 use group_table::Prime;
 use limits::LONGEST_TEXT;
+use polynomial_reader::read_poly;
 use std::alloc::Global;
 use std::test::Fail;
 

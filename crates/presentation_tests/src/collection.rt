@@ -3,10 +3,10 @@ ghost use Rattle.group_table.specs.Tables.{order};
 ghost use Rattle.group_table.specs.Prime.{prime_value};
 ghost use Rattle.power_commutator.specs.Presentations.{IsWord};
 
-use pc_group::*;
 use crate::known_groups::*;
 use group_table::{Group, Prime};
 use limits::MOST_GENERATORS;
+use pc_group::*;
 use smallvec::SmallVec;
 use std::alloc::Global;
 use std::process::Abort;

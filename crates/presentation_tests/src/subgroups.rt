@@ -1,8 +1,8 @@
-use subgroup_list::*;
 use small_groups::SmallGroup;
 use std::alloc::Global;
 use std::process::Abort;
 use std::test::Fail;
+use subgroup_list::*;
 
 fn has_basis(s: &ElemAb, basis: &[u16]) -> bool {
     s.rank() == basis.len() && (0..s.rank()).all(|i| s.basis(i) == basis[i])

@@ -1,7 +1,7 @@
 //! Texts with faults, texts at the edges of the grammar, and canonical texts.
 
-use pc_text::{Kind, TextFault, read_presentation, write_presentation};
 use limits::{LONGEST_TEXT, MOST_GENERATORS};
+use pc_text::{Kind, TextFault, read_presentation, write_presentation};
 use std::alloc::Global;
 use std::process::Abort;
 use std::test::Fail;

@@ -2,8 +2,8 @@ ghost use Rattle.std.specs.Prelude.{◌≡◌, ◌<◌, ◌*◌, All, IfOk, leng
 ghost use Rattle.group_table.specs.Prime.{prime_value};
 ghost use Rattle.p_groups.specs.PGroups.{order_of, prime_of};
 
-use group_algebra::*;
 use fp_rows::{Matrix, Row};
+use group_algebra::*;
 use group_table::{Group, Prime};
 use std::alloc::{AllocError, Global};
 use std::process::Abort;

@@ -4,10 +4,10 @@ ghost use Rattle.min_res.specs.Stages.{rank_of};
 ghost use Rattle.std.specs.Prelude.{◌≡◌, ◌*◌, IfOk, IsTrue, length};
 ghost use Rattle.p_groups.specs.PGroups.{order_of, prime_of};
 
-use min_res::*;
 use fp_rows::{Row, RowRef};
 use group_algebra::Algebra;
 use group_table::Prime;
+use min_res::*;
 use small_groups::SmallGroup;
 use std::alloc::Global;
 use std::process::Abort;

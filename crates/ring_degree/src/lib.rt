@@ -15,4 +15,3 @@ mod table;
 pub use finishing::finish;
 pub use step::{Step, next_degree};
 pub use table::Table;
-

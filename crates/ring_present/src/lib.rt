@@ -13,4 +13,3 @@ mod standard;
 mod values;
 
 pub use ring::Ring;
-

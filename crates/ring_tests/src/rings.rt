@@ -3,13 +3,13 @@
 ghost use Rattle.std.specs.Prelude.{◌≡◌, ◌≤◌, ◌<◌, IfOk, IfSome, length};
 ghost use Rattle.ring_present.specs.Values.{standard_of};
 
-use ring_present::Ring;
 use fp_rows::RowRef;
 use gc_poly::write_text;
 use group_algebra::Algebra;
 use group_table::{Group, Memory};
 use limits::{GREATEST_DEGREE, GREATEST_DIMENSION};
 use min_res::Resolution;
+use ring_present::Ring;
 use small_groups::SmallGroup;
 use std::alloc::Global;
 use std::process::Abort;

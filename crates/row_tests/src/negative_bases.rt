@@ -3,9 +3,9 @@ ghost use Rattle.group_table.specs.Prime.{prime_value};
 ghost use Rattle.linear_algebra.specs.Rows.{entry, row, combination};
 ghost use Rattle.linear_algebra.proofs.LinearMaps.{matrix_is_linear};
 
-use neg_basis::*;
 use fp_rows::{Matrix, Row, RowRef, echelon};
 use group_table::{Memory, Prime};
+use neg_basis::*;
 use std::alloc::Global;
 use std::process::Abort;
 use std::test::Fail;

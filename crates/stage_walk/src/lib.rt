@@ -12,4 +12,3 @@ mod walking;
 pub use fault::StagesFault;
 pub use resolving::stages;
 pub use walking::taken_stages;
-

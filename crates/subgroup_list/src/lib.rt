@@ -12,4 +12,3 @@ mod subgroups;
 
 pub use elem_ab::ElemAb;
 pub use subgroups::{Subgroups, max_elementary};
-
