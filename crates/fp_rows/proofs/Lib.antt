@@ -7,6 +7,7 @@ pub mod BitLemmas
 pub mod SolvingLemmas
 pub mod TableLemmas
 mod PivotSearch
+pub mod PivotPlaces
 pub mod Turns
 pub mod ReducedRowLemmas
 pub mod ShortLemmas

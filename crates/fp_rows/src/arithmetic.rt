@@ -87,7 +87,7 @@ pub fn add_times(p: Prime, c: u8, dst: &mut [u8], src: &[u8])
 }
 
 /// The place of the first entry that is not 0, and the length where each is 0.
-#[tactic(auto, using(linear_algebra::proofs::PivotLemmas::pivot_is, linear_algebra::proofs::PivotLemmas::pivot_none))]
+#[tactic(auto, using(crate::proofs::PivotPlaces::pivot_places))]
 pub fn pivot_of(r: &[u8]) -> usize
     ensures { result ≡ pivot r.now }
 {

@@ -1,15 +1,18 @@
-ghost use Rattle.std.specs.Prelude.{◌≡◌, ◌↔◌, ℕ, ◌<◌, length, IsTrue};
+ghost use Rattle.std.specs.Prelude.{◌≡◌, ◌↔◌, ℕ, ◌<◌, length, map, IsTrue};
 ghost use Rattle.group_table.specs.Prime.{prime_value};
 ghost use Rattle.linear_algebra.specs.Rows.{entry, row, pivot, is_pivot, IsRow, IsMatrix, IsEchelon};
 ghost use Rattle.linear_algebra.specs.Rows.{IsInSpan, IsReduced};
 ghost use Rattle.fp_rows.specs.Refs.{entries_of, modulus_of};
+ghost use Rattle.fp_rows.specs.Lists.{lists, AreOver};
 ghost use Rattle.fp_rows.specs.Iterations.{IsOverRows};
 
 use crate::elimination::reduce_by;
+use crate::matrix::Matrix;
 use crate::membership::is_member;
 use crate::row::Row;
 use crate::row_ref::RowRef;
 use group_table::Prime;
+use std::alloc::Global;
 use std::marker::Model;
 use std::slice;
 
@@ -17,47 +20,66 @@ use std::slice;
 /// and 0 elsewhere.
 #[derive(Drop)]
 pub struct Echelon {
-    pub(crate) prime: Prime,
-    pub(crate) width: usize,
-    pub(crate) rows: Vec<Row>,
+    pub(crate) matrix: Matrix,
     pub(crate) pivots: Vec<usize>,
 }
 
 impl Model for Echelon {
-    ghost use Rattle.group_table.specs.Prime.{prime_value};
     ghost use Rattle.fp_rows.specs.Values.{MatrixValue};
-    ghost use Rattle.fp_rows.specs.Lists.{lists};
     ghost use Rattle.fp_rows.specs.Stores.{IsEchelonStore};
 
     ghost Value = { MatrixValue };
 
-    ghost view = { λ a. record { p = prime_value a.prime; width = a.width; rows = lists a.rows.items } };
+    ghost view = { λ a. a.matrix };
 
-    ghost invariant = { λ a. IsEchelonStore (prime_value a.prime) a.width a.rows.items a.pivots.items };
+    ghost invariant = { λ a. IsEchelonStore a.matrix a.pivots.items };
 }
 
 impl Echelon {
+    /// The list of these rows, with their pivots.
+    pub(crate) fn of_parts(
+        alloc: Global,
+        prime: Prime,
+        width: usize,
+        rows: Vec<Row>,
+        pivots: Vec<usize>,
+    ) -> Echelon
+        requires matrix { IsMatrix (prime_value prime) width (lists rows.items) }
+        requires over { AreOver (prime_value prime) rows.items }
+        requires echelon { IsEchelon (lists rows.items) }
+        requires pivots_are { pivots.items ≡ map pivot (lists rows.items) }
+        ensures { result ≡ record { p = prime_value prime; width = width; rows = lists rows.items } }
+    {
+        let matrix = Matrix {
+            alloc,
+            prime,
+            width,
+            rows,
+        };
+        Echelon { matrix, pivots }
+    }
+
     /// How many rows there are: the dimension of the span.
     pub fn rows(&self) -> usize
         ensures count { result ≡ length self.now.rows }
         ensures matrix { IsMatrix self.now.p self.now.width self.now.rows }
         ensures echelon { IsEchelon self.now.rows }
     {
-        self.rows.len()
+        self.matrix.rows()
     }
 
     /// The length of each row.
     pub fn width(&self) -> usize
         ensures { result ≡ self.now.width }
     {
-        self.width
+        self.matrix.width()
     }
 
     /// The prime.
     pub fn prime(&self) -> Prime
         ensures { prime_value result ≡ self.now.p }
     {
-        self.prime
+        self.matrix.prime()
     }
 
     /// Row i, which is below the number of rows.
@@ -67,7 +89,7 @@ impl Echelon {
         ensures modulus { modulus_of result ≡ self.now.p }
         ensures is_row { IsRow self.now.p self.now.width (row self.now.rows i) }
     {
-        self.rows[i].view()
+        self.matrix.row(i)
     }
 
     /// The place of the first entry of row i that is not 0.
@@ -85,7 +107,8 @@ impl Echelon {
         requires same_width { length (entries_of v) ≡ self.now.width }
         ensures { IsTrue result ↔ IsInSpan self.now.p self.now.rows (entry (entries_of v.entry)) }
     {
-        is_member(self.prime, &self.rows, &self.pivots, v)
+        let matrix = &self.matrix;
+        is_member(matrix.prime, &matrix.rows, &self.pivots, v)
     }
 
     /// Subtracts from v, which has the width, the one member of the span that makes it 0 at every pivot.
@@ -96,7 +119,8 @@ impl Echelon {
         ensures row { IsRow self.now.p self.now.width v.new.entries }
         ensures reduced { IsReduced self.now.p self.now.rows v.old.entries v.new.entries }
     {
-        reduce_by(&self.rows, &self.pivots, v);
+        let matrix = &self.matrix;
+        reduce_by(&matrix.rows, &self.pivots, v);
     }
 
     /// Whether one of the rows has its first entry that is not 0 at place j.
@@ -110,7 +134,7 @@ impl Echelon {
     pub fn iter(&self) -> slice::Iter<'_, Row>
         ensures { IsOverRows self.now result }
     {
-        self.rows.iter()
+        self.matrix.iter()
     }
 }
 

@@ -50,19 +50,15 @@ fn add_bits_to_bytes(p: Prime, c: u8, v: &mut [u8], s: BitsRef<'_>)
     }
 }
 
-// Adds c times the numbers.
-fn add_to_bits(c: u8, b: &mut Bits, r: Numbers<'_>)
-    requires factor { c < 2 }
+// Adds numbers below 2.
+fn add_to_bits(b: &mut Bits, r: Numbers<'_>)
     requires below { (j : ℕ) → j < length (numbers_of r) → entry (numbers_of r) j < 2 }
     requires same_length { length (numbers_of r) ≡ length b.old }
-    ensures { b.new ≡ add_multiple 2 c b.old (numbers_of r.entry) }
+    ensures { b.new ≡ add_multiple 2 1 b.old (numbers_of r.entry) }
 {
-    let _len = b.len();
-    if c == 1 {
-        match r {
-            Numbers::Bytes(s) => add_bytes_to_bits(b, s),
-            Numbers::Bits(s) => b.add(s),
-        }
+    match r {
+        Numbers::Bytes(s) => add_bytes_to_bits(b, s),
+        Numbers::Bits(s) => b.add(s),
     }
 }
 
@@ -81,15 +77,15 @@ pub(crate) fn add_to_bytes(p: Prime, c: u8, v: &mut [u8], r: Numbers<'_>)
     }
 }
 
-// Adds c times a list of the same length, word by word.
-fn add_bits_to_bits(c: u8, b: &mut Bits, s: &Bits)
-    requires factor { c < 2 }
-    requires same_length { length s.now ≡ length b.old }
-    ensures { b.new ≡ add_multiple 2 c b.old s.now }
+// Adds an owned list of numbers below 2, word by word where it is packed.
+fn add_cells_to_bits(b: &mut Bits, r: &Cells)
+    requires below { (j : ℕ) → j < length (cells_of r.now) → entry (cells_of r.now) j < 2 }
+    requires same_length { length (cells_of r.now) ≡ length b.old }
+    ensures { b.new ≡ add_multiple 2 1 b.old (cells_of r.now) }
 {
-    let _len = b.len();
-    if c == 1 {
-        b.add_whole(s);
+    match r {
+        Cells::Bits(s) => b.add_whole(s),
+        Cells::Bytes(s) => add_bytes_to_bits(b, s),
     }
 }
 
@@ -115,19 +111,6 @@ fn add_at(b: &mut Bits, at: usize, r: Numbers<'_>)
     }
 }
 
-// Adds c times numbers below 2 from place `at` on.
-fn add_part_to_bits(c: u8, b: &mut Bits, at: usize, r: Numbers<'_>)
-    requires factor { c < 2 }
-    requires below { (j : ℕ) → j < length (numbers_of r) → entry (numbers_of r) j < 2 }
-    requires within { at + length (numbers_of r) ≤ length b.old }
-    ensures { GainsPart 2 at c (numbers_of r.entry) b.old b.new }
-{
-    let _len = b.len();
-    if c == 1 {
-        add_at(b, at, r);
-    }
-}
-
 // Adds c times the numbers from place `at` on.
 fn add_part_to_bytes(p: Prime, c: u8, v: &mut [u8], at: usize, r: Numbers<'_>)
     requires factor { c < prime_value p }
@@ -146,7 +129,7 @@ fn packed_copy(alloc: Global, r: Numbers<'_>) -> Result<Cells, Memory>
     ensures packed { IfOk result (IsPackedFor 2) }
 {
     let mut b = Bits::zero(alloc, r.len())?;
-    add_to_bits(1, &mut b, r);
+    add_to_bits(&mut b, r);
     Ok(Cells::Bits(b))
 }
 
@@ -264,6 +247,7 @@ impl Cells {
     }
 
     /// Adds c times the numbers.
+    #[tactic(auto, using(crate::proofs::BitLemmas::nothing_added))]
     pub(crate) fn add(&mut self, p: Prime, c: u8, r: Numbers<'_>)
         requires factor { c < prime_value p }
         requires packed { IsPackedFor (prime_value p) self.old }
@@ -273,13 +257,17 @@ impl Cells {
             (numbers_of r.entry) }
         ensures packed { IsPackedFor (prime_value p) self.new }
     {
+        if c == 0 {
+            return;
+        }
         match self {
             Cells::Bytes(v) => add_to_bytes(p, c, v, r),
-            Cells::Bits(b) => add_to_bits(c, b, r),
+            Cells::Bits(b) => add_to_bits(b, r),
         }
     }
 
     /// Adds c times another list.
+    #[tactic(auto, using(crate::proofs::BitLemmas::nothing_added))]
     pub(crate) fn add_cells(&mut self, p: Prime, c: u8, r: &Cells)
         requires factor { c < prime_value p }
         requires packed { IsPackedFor (prime_value p) self.old }
@@ -289,16 +277,17 @@ impl Cells {
             (cells_of r.now) }
         ensures packed { IsPackedFor (prime_value p) self.new }
     {
+        if c == 0 {
+            return;
+        }
         match self {
             Cells::Bytes(v) => add_to_bytes(p, c, v, r.view()),
-            Cells::Bits(b) => match r {
-                Cells::Bits(s) => add_bits_to_bits(c, b, s),
-                Cells::Bytes(s) => add_to_bits(c, b, Numbers::Bytes(s)),
-            },
+            Cells::Bits(b) => add_cells_to_bits(b, r),
         }
     }
 
     /// Adds c times the numbers from place `at` on.
+    #[tactic(auto, using(crate::proofs::PartLemmas::no_part))]
     pub(crate) fn add_part(&mut self, p: Prime, at: usize, c: u8, r: Numbers<'_>)
         requires factor { c < prime_value p }
         requires packed { IsPackedFor (prime_value p) self.old }
@@ -309,9 +298,12 @@ impl Cells {
             (cells_of self.new) }
         ensures packed { IsPackedFor (prime_value p) self.new }
     {
+        if c == 0 {
+            return;
+        }
         match self {
             Cells::Bytes(v) => add_part_to_bytes(p, c, v, at, r),
-            Cells::Bits(b) => add_part_to_bits(c, b, at, r),
+            Cells::Bits(b) => add_at(b, at, r),
         }
     }
 
@@ -354,9 +346,7 @@ impl Cells {
     {
         match self {
             Cells::Bytes(v) => scale(p, c, v),
-            Cells::Bits(b) => {
-                let _len = b.len();
-            }
+            Cells::Bits(_) => {}
         }
     }
 }

@@ -37,9 +37,11 @@ pub fn greedy(alloc: Global, s: &Echelon, t: &Echelon) -> Result<Positions, Memo
     ensures { IfOk result (λ positions. IsGreedy s.now.p s.now.rows t.now.rows positions) }
 {
     let mut positions = Positions::new(alloc);
-    let mut rows = copies_of(alloc, &t.rows)?;
+    let taken = &t.matrix;
+    let offered = &s.matrix;
+    let mut rows = copies_of(alloc, &taken.rows)?;
     let mut pivots = places_of(alloc, &t.pivots)?;
-    for (i, r) in s.rows.iter().enumerate() {
+    for (i, r) in offered.rows.iter().enumerate() {
         let v = Row::copy_of(alloc, r.view())?;
         if insert_row(&mut rows, &mut pivots, v)? {
             positions.push(i as u32)?;

@@ -3,6 +3,7 @@ ghost use Rattle.std.specs.Prelude.{slice_index, map};
 ghost use Rattle.group_table.specs.Prime.{prime_value};
 ghost use Rattle.linear_algebra.specs.Rows.{entry, row, pivot, IsRow, IsMatrix, IsEchelon, IsEchelonOf};
 ghost use Rattle.linear_algebra.specs.Rows.{IsInSpan, IsReduced};
+ghost use Rattle.linear_algebra.specs.Modular.{IsFieldModulo};
 ghost use Rattle.linear_algebra.specs.Elimination.{IsCleared, AreCleared, IsPrepared, IsPlace};
 ghost use Rattle.fp_rows.specs.Lists.{lists, AreOver};
 
@@ -18,8 +19,8 @@ pub fn reduce_by(rows: &[Row], pivots: &[usize], v: &mut Row)
     ensures prime { v.new.p ≡ v.old.p }
     ensures row_is { IsRow v.old.p (length v.old.entries) v.new.entries }
     ensures reduced { IsReduced v.old.p (lists rows.now) v.old.entries v.new.entries }
+    ensures field { IsFieldModulo v.old.p }
 {
-    let _len = v.len();
     let m = v.prime().value();
     for (i, r) in rows.iter().enumerate() {
         let c = v.get(pivots[i]);
@@ -38,7 +39,6 @@ fn clear_column(rows: &mut [Row], t: usize, v: &Row)
         (lists rows.new) }
     ensures over { AreOver v.now.p rows.new }
 {
-    let _len = v.len();
     let m = v.prime().value();
     for r in rows.iter_mut() {
         let c = r.get(t);
@@ -72,9 +72,8 @@ fn prepare(rows: &[Row], pivots: &[usize], v: &mut Row) -> usize
     ensures place { result ≡ pivot v.new.entries }
     ensures prepared { IsPrepared v.old.p (length v.old.entries)
         (lists rows.now) v.old.entries v.new.entries }
+    ensures field { IsFieldModulo v.old.p }
 {
-    let _len = v.len();
-    let _prime = v.prime();
     reduce_by(rows, pivots, v);
     let t = v.first();
     if t < v.len() {
@@ -93,6 +92,7 @@ fn prepare_vec(rows: &Vec<Row>, pivots: &Vec<usize>, v: &mut Row) -> usize
     ensures place { result ≡ pivot v.new.entries }
     ensures prepared { IsPrepared v.old.p (length v.old.entries)
         (lists rows.now.items) v.old.entries v.new.entries }
+    ensures field { IsFieldModulo v.old.p }
 {
     prepare(rows, pivots, v)
 }
@@ -131,7 +131,6 @@ pub fn insert_row(rows: &mut Vec<Row>, pivots: &mut Vec<usize>, mut v: Row) -> R
     ensures inside { IfOk result (λ added. added ≡ false
         → IsInSpan v.p (lists rows.old.items) (entry v.entries)) }
 {
-    let _prime = v.prime();
     let t = prepare_vec(rows, pivots, &mut v);
     if t < v.len() {
         let at = clear_vec(rows, pivots, t, &v);

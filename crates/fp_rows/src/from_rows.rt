@@ -115,18 +115,7 @@ impl Echelon {
         if let Some(row) = first_bad_row(&m.rows, &pivots) {
             return Err(FromRows::Not { row, matrix: m });
         }
-        let Matrix {
-            alloc: _,
-            prime,
-            width,
-            rows,
-        } = m;
-        Ok(Echelon {
-            prime,
-            width,
-            rows,
-            pivots,
-        })
+        Ok(Echelon { matrix: m, pivots })
     }
 }
 

@@ -2,6 +2,7 @@ ghost use Rattle.std.specs.Prelude.{◌≡◌, ℕ, List, suc, ◌+◌, ◌<◌,
 ghost use Rattle.group_table.specs.Prime.{prime_value};
 ghost use Rattle.linear_algebra.specs.Rows.{entry, row, pivot, IsRow, IsMatrix, IsEchelon, IsEchelonOf};
 ghost use Rattle.linear_algebra.specs.Rows.{IsReduced, IsCombination};
+ghost use Rattle.linear_algebra.specs.Modular.{IsFieldModulo};
 ghost use Rattle.linear_algebra.specs.Elimination.{AreCleared, IsPrepared, IsPlace};
 ghost use Rattle.linear_algebra.specs.Kernels.{unit_row, IsKernelOf};
 ghost use Rattle.linear_algebra.specs.Choices.{ArePreimages};
@@ -58,8 +59,8 @@ fn reduce_pair(rows: &[Row], pivots: &[usize], made: &[Row], v: &mut Row, u: &mu
         → IsCombination v.old.p (entry u.new.entries) generators (entry v.new.entries) }
     ensures kept { (s : ℕ) → ((i : ℕ) → i < length (lists made.now) → entry (row (lists made.now) i) s ≡ 0)
         → entry u.new.entries s ≡ entry u.old.entries s }
+    ensures field { IsFieldModulo v.old.p }
 {
-    let _len = v.len();
     let _made = u.len();
     let m = v.prime().value();
     for (i, r) in rows.iter().enumerate() {
@@ -95,8 +96,8 @@ fn clear_pairs(rows: &mut [Row], made: &mut [Row], t: usize, v: &Row, u: &Row)
         (entry (row (lists rows.new) i)) }
     ensures kept { (i s : ℕ) → i < length rows.old → entry u.now.entries s ≡ 0
         → entry (row (lists made.new) i) s ≡ entry (row (lists made.old) i) s }
+    ensures field { IsFieldModulo v.now.p }
 {
-    let _len = v.len();
     let _made = u.len();
     let m = v.prime().value();
     for (i, r) in rows.iter_mut().enumerate() {
@@ -136,9 +137,6 @@ fn prepare_pair(rows: &[Row], pivots: &[usize], made: &[Row], v: &mut Row, u: &m
         → ((i : ℕ) → i < length (lists made.now) → entry (row (lists made.now) i) s ≡ 0)
         → entry u.new.entries s ≡ entry u.old.entries s }
 {
-    let _len = v.len();
-    let _made = u.len();
-    let _prime = v.prime();
     reduce_pair(rows, pivots, made, v, u);
     let t = v.first();
     if t < v.len() {
@@ -174,6 +172,7 @@ fn clear_vecs(rows: &mut Vec<Row>, made: &mut Vec<Row>, t: usize, v: &Row, u: &R
         (entry (row (lists rows.new.items) i)) }
     ensures kept { (i s : ℕ) → i < length rows.old.items → entry u.now.entries s ≡ 0
         → entry (row (lists made.new.items) i) s ≡ entry (row (lists made.old.items) i) s }
+    ensures field { IsFieldModulo v.now.p }
 {
     clear_pairs(rows, made, t, v, u);
 }
@@ -215,7 +214,6 @@ fn insert_pair(
     ensures made_over { OnOk result (AreOver v.p made.new.items) }
     ensures pivots_are { OnOk result (pivots.new.items ≡ map pivot (lists rows.new.items)) }
 {
-    let _prime = v.prime();
     clear_vecs(rows, made, t, &v, &u);
     let at = place_of(pivots, t);
     pivots.insert(at, t)?;
@@ -276,7 +274,6 @@ fn step(alloc: Global, m: &Matrix, k: usize, e: &mut Elimination) -> Result<(), 
     requires state { IsElimination m.now.p m.now.width m.now.rows (suc k) e.old }
     ensures { OnOk result (IsElimination m.now.p m.now.width m.now.rows k e.new) }
 {
-    let _width = m.width();
     let mut v = Row::copy_of(alloc, m.row(k))?;
     let mut u = unit(alloc, m.prime(), m.rows(), k)?;
     let t = prepare_vecs(&e.rows, &e.pivots, &e.made, &mut v, &mut u);
@@ -322,21 +319,10 @@ pub fn solve(alloc: Global, m: &Matrix) -> Result<Solution, Memory>
     let mut e = eliminate(alloc, m)?;
     let n = m.rows();
     let prime = m.prime();
-    let width = m.width();
     e.kernel.reverse();
     e.kernel_pivots.reverse();
-    let kernel = Echelon {
-        prime,
-        width: n,
-        rows: e.kernel,
-        pivots: e.kernel_pivots,
-    };
-    let image = Echelon {
-        prime,
-        width,
-        rows: e.rows,
-        pivots: e.pivots,
-    };
+    let kernel = Echelon::of_parts(alloc, prime, n, e.kernel, e.kernel_pivots);
+    let image = Echelon::of_parts(alloc, prime, m.width(), e.rows, e.pivots);
     let preimages = Matrix {
         alloc,
         prime,

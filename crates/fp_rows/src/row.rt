@@ -45,10 +45,10 @@ impl Row {
     }
 
     /// The row with these numbers.
+    #[tactic(auto, using(crate::proofs::RefLemmas::ref_is_row))]
     pub(crate) fn copy_of(alloc: Global, r: RowRef<'_>) -> Result<Row, Memory>
         ensures { IfOk result (λ v. v ≡ record { p = modulus_of r.entry; entries = entries_of r.entry }) }
     {
-        let _len = r.len();
         let cells = Cells::copy_of(alloc, r.modulus, r.entries)?;
         Ok(Row {
             prime: r.modulus,
@@ -66,7 +66,8 @@ impl Row {
 
     /// The prime.
     pub(crate) fn prime(&self) -> Prime
-        ensures { prime_value result ≡ self.now.p }
+        ensures value { prime_value result ≡ self.now.p }
+        ensures row { IsRow self.now.p (length self.now.entries) self.now.entries }
     {
         self.prime
     }
@@ -101,9 +102,8 @@ impl Row {
         requires { i < length self.old.entries }
         ensures { self.new ≡ record self.old { entries = unit_row (length self.old.entries) i } }
     {
-        let _prime = self.prime();
-        self.clear();
-        self.set(i, 1);
+        self.cells.clear(self.prime);
+        self.cells.set(self.prime, i, 1);
     }
 
     /// The row, borrowed.

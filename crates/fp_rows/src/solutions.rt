@@ -43,6 +43,7 @@ fn preimage_of(
 }
 
 // For each target row, which is in the span, the preimage that is 0 at the kernel's pivots.
+#[tactic(auto, using(crate::proofs::Primes::prime_above_one))]
 fn preimages_by(
     alloc: Global,
     m: &Matrix,
@@ -60,6 +61,7 @@ fn preimages_by(
     ensures width { IfOk result (λ u. u.width ≡ length m.now.rows) }
     ensures rows { IfOk result
         (λ u. ArePreimages m.now.p m.now.rows s.now.kernel.rows targets.now.rows u.rows) }
+    ensures above_one { IfOk result (λ _. 1 < m.now.p) }
 {
     let n = m.rows();
     let mut rows = Matrix::new(alloc, m.prime(), n);
@@ -86,8 +88,6 @@ pub fn preimages(
     ensures width { IfOk result (λ u. u.width ≡ length m.now.rows) }
     ensures rows { IfOk result (λ u. ArePreimages m.now.p m.now.rows free.now.rows targets.now.rows u.rows) }
 {
-    let _free = free.rows();
-    let _prime = m.prime();
     let s = solve(alloc, m)?;
     let rows = preimages_by(alloc, m, &s, targets)?;
     Ok(rows)

@@ -20,10 +20,5 @@ pub fn echelon(alloc: Global, m: &Matrix) -> Result<Echelon, Memory>
         let v = Row::copy_of(alloc, r.view())?;
         insert_row(&mut rows, &mut pivots, v)?;
     }
-    Ok(Echelon {
-        prime: m.prime,
-        width: m.width,
-        rows,
-        pivots,
-    })
+    Ok(Echelon::of_parts(alloc, m.prime, m.width, rows, pivots))
 }

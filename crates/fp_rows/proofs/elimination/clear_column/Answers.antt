@@ -22,7 +22,7 @@ loop-r-preserved c = let l : c.loop-r.r-index < length (lists c.args.rows.now) =
     let o : x.p ≡ c.args.v.now.p = All-get_or
     (λ r. r.p ≡ c.args.v.now.p) c.loop-r.rows c.loop-r.r-index c.r-item.result m c.loop-r.invariant.over
     in
-    let one : 1 < c.args.v.now.p = rw c.prime.ensures at (prime_above_one c.prime.result) in
+    let one : 1 < c.args.v.now.p = rw c.prime.ensures.value at (prime_above_one c.prime.result) in
     let r : IsRow c.args.v.now.p (length c.args.v.now.entries)
     (row (lists c.args.rows.now) c.loop-r.r-index) = c.requires.rows_are c.loop-r.r-index l in
     let k : c.get-c.result ≡ entry (row (lists c.args.rows.now) c.loop-r.r-index) c.args.t =
@@ -39,10 +39,10 @@ loop-r-preserved c = let l : c.loop-r.r-index < length (lists c.args.rows.now) =
               o,
               ← s,
               c.value-m.ensures,
-              c.prime.ensures,
+              c.prime.ensures.value,
               k,
             ) (cleared_by c.args.v.now.entries (row (lists c.args.rows.now) c.loop-r.r-index)
-            (omega arith) c.len-len.ensures.row r)));
+            (omega arith) c.prime.ensures.row r)));
       }
       | else-c-ne0 w ↦ record {
         over = rw w.rows-is (All-set (λ r. r.p

@@ -6,7 +6,6 @@ use Rattle.linear_algebra.specs.Elimination.{AreCleared}
 use Rattle.linear_algebra.specs.Modular.{IsFieldModulo}
 use Rattle.linear_algebra.proofs.PivotLemmas.{pivot-le-length}
 use Rattle.linear_algebra.proofs.Prepared.{prepared_outside, prepared_inside}
-use Rattle.fp_rows.proofs.Primes.{prime_above_one, prime_field}
 use Rattle.fp_rows.proofs.ListLemmas.{lists-insert, over-insert}
 use Rattle.linear_algebra.proofs.AddedRow.{added_nothing, added_row, added_pivots}
 use Rattle.fp_rows.proofs.elimination.insert_row.Goals as goal
@@ -14,7 +13,7 @@ use Rattle.fp_rows.proofs.elimination.insert_row.Goals as goal
 pub returns-in_ok-insert-2-clause-rows_are : goal.returns-in_ok-insert-2-clause-rows_are
 returns-in_ok-insert-2-clause-rows_are c =
     let pr : c.prepare_vec-t.new.v.p ≡ c.args.v.p = c.prepare_vec-t.ensures.prime in
-    let one : 1 < c.args.v.p = rw c.prime-prime.ensures at (prime_above_one c.prime-prime.result) in
+    let one : 1 < c.args.v.p = c.prepare_vec-t.ensures.field.above_one in
     let s : List ℕ = c.prepare_vec-t.new.v.entries in
     let e : lists c.insert-then-t-len.new.self.items ≡ insert
     (lists c.clear_vec-at.new.rows.items) c.clear_vec-at.result s =
@@ -43,7 +42,7 @@ returns-in_ok-insert-2-clause-over c =
 pub returns-in_ok-insert-2-clause-pivots_are : goal.returns-in_ok-insert-2-clause-pivots_are
 returns-in_ok-insert-2-clause-pivots_are c =
     let pr : c.prepare_vec-t.new.v.p ≡ c.args.v.p = c.prepare_vec-t.ensures.prime in
-    let one : 1 < c.args.v.p = rw c.prime-prime.ensures at (prime_above_one c.prime-prime.result) in
+    let one : 1 < c.args.v.p = c.prepare_vec-t.ensures.field.above_one in
     let s : List ℕ = c.prepare_vec-t.new.v.entries in
     let e : lists c.insert-then-t-len.new.self.items ≡ insert
     (lists c.clear_vec-at.new.rows.items) c.clear_vec-at.result s =
@@ -86,7 +85,7 @@ returns-in_ok-insert-2-clause-outside c =
       c.prepare_vec-t.ensures.prepared.is_row.length_is,
       c.if-t-len.true,
     ) in
-    let field : IsFieldModulo c.args.v.p = rw c.prime-prime.ensures at (prime_field c.prime-prime.result) in
+    let field : IsFieldModulo c.args.v.p = c.prepare_vec-t.ensures.field in
     λ t s. prepared_outside c.args.v.entries c.prepare_vec-t.new.v.entries field c.requires.matrix
     c.requires.echelon c.prepare_vec-t.ensures.prepared inside s
 

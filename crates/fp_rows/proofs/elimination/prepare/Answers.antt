@@ -3,7 +3,6 @@ use Rattle.linear_algebra.specs.Rows.{entry}
 use Rattle.fp_rows.specs.Lists.{lists}
 use Rattle.fp_rows.specs.Values.{RowValue}
 use Rattle.linear_algebra.proofs.PivotLemmas.{not_zero_at_pivot, pivot-le-length}
-use Rattle.fp_rows.proofs.Primes.{prime_above_one}
 use Rattle.linear_algebra.proofs.AddedRow.{prepared_zero, prepared_scaled, scaled_pivot}
 use Rattle.fp_rows.proofs.elimination.prepare.Goals as goal
 
@@ -14,9 +13,9 @@ inverse-c-requires-clause-not_zero c = λ z. not_zero_at_pivot c.reduce_by.new.v
 
 pub returns-then-t-len-clause-place : goal.returns-then-t-len-clause-place
 returns-then-t-len-clause-place c =
-    let one : 1 < c.args.v.now.p = rw c.prime-prime.ensures at (prime_above_one c.prime-prime.result) in
+    let one : 1 < c.args.v.now.p = c.reduce_by.ensures.field.above_one in
     let inv : c.inverse-c.result * entry c.reduce_by.new.v.entries c.first-t.result % c.args.v.now.p ≡ 1 =
-    rw (c.prime.ensures, c.reduce_by.ensures.prime, c.get.ensures.value) at c.inverse-c.ensures.inverse in
+    rw (c.prime.ensures.value, c.reduce_by.ensures.prime, c.get.ensures.value) at c.inverse-c.ensures.inverse in
     let e : c.scale.new.self.entries ≡ map
     (λ x. c.inverse-c.result * x % c.args.v.now.p) c.reduce_by.new.v.entries =
     ap (λ (r : RowValue). r.entries) c.scale.ensures
@@ -28,9 +27,9 @@ returns-then-t-len-clause-place c =
 
 pub returns-then-t-len-clause-prepared : goal.returns-then-t-len-clause-prepared
 returns-then-t-len-clause-prepared c =
-    let one : 1 < c.args.v.now.p = rw c.prime-prime.ensures at (prime_above_one c.prime-prime.result) in
+    let one : 1 < c.args.v.now.p = c.reduce_by.ensures.field.above_one in
     let inv : c.inverse-c.result * entry c.reduce_by.new.v.entries c.first-t.result % c.args.v.now.p ≡ 1 =
-    rw (c.prime.ensures, c.reduce_by.ensures.prime, c.get.ensures.value) at c.inverse-c.ensures.inverse in
+    rw (c.prime.ensures.value, c.reduce_by.ensures.prime, c.get.ensures.value) at c.inverse-c.ensures.inverse in
     let e : c.scale.new.self.entries ≡ map
     (λ x. c.inverse-c.result * x % c.args.v.now.p) c.reduce_by.new.v.entries =
     ap (λ (r : RowValue). r.entries) c.scale.ensures
@@ -43,7 +42,7 @@ returns-then-t-len-clause-prepared c =
 pub returns-else-t-len-clause-prepared : goal.returns-else-t-len-clause-prepared
 returns-else-t-len-clause-prepared c = prepared_zero
     (lists c.args.rows.now) c.args.v.now.entries c.reduce_by.new.v.entries
-    (rw c.prime-prime.ensures at (prime_above_one c.prime-prime.result)) c.reduce_by.ensures.row_is
+    (c.reduce_by.ensures.field.above_one) c.reduce_by.ensures.row_is
     c.reduce_by.ensures.reduced
     (omega (
       arith,

@@ -2,7 +2,7 @@ use Rattle.std.proofs.Common.{◌≡◌, ◌-◌, ◌<◌, length, get_or, arith
 use Rattle.linear_algebra.specs.Rows.{entry, row, pivot}
 use Rattle.fp_rows.specs.Lists.{lists}
 use Rattle.fp_rows.proofs.ListLemmas.{row_lists, length-lists, kept_pivot}
-use Rattle.fp_rows.proofs.Primes.{prime_above_one}
+use Rattle.fp_rows.proofs.Primes.{prime_above_one, prime_field}
 use Rattle.linear_algebra.proofs.Reducing.{reduced_start, reduced_skip, reduced_step}
 use Rattle.fp_rows.proofs.elimination.reduce_by.Goals as goal
 use Rattle.fp_rows.proofs.elimination.reduce_by.Goals.{then-c-ne0, else-c-ne0}
@@ -11,7 +11,7 @@ pub loop-i-init : goal.loop-i-init
 loop-i-init c = record {
   prime = refl;
   reduced = reduced_start (lists c.args.rows.now) c.args.v.now.entries
-      (rw c.prime.ensures at (prime_above_one c.prime.result)) c.len-len.ensures.row;
+      (rw c.prime.ensures.value at (prime_above_one c.prime.result)) c.prime.ensures.row;
 }
 
 pub get-c-requires : goal.get-c-requires
@@ -45,11 +45,11 @@ loop-i-preserved c = let l : c.loop-i.i < length (lists c.args.rows.now) = rw le
       | then-c-ne0 w ↦ record {
         prime = rw (w.v-is, w.add_row.ensures) c.loop-i.invariant.prime;
         reduced = rw (w.v-is, w.add_row.ensures, c.loop-i.invariant.prime, ← s)
-            (reduced_step (rw c.prime.ensures at
+            (reduced_step (rw c.prime.ensures.value at
             (prime_above_one c.prime.result)) c.requires.matrix c.requires.echelon l
             c.loop-i.invariant.reduced
             (c.value-m.result - c.get-c.result)
-            (rw (c.value-m.ensures, c.prime.ensures, c.get-c.ensures.value, q) refl));
+            (rw (c.value-m.ensures, c.prime.ensures.value, c.get-c.ensures.value, q) refl));
       }
       | else-c-ne0 w ↦ record {
         prime = rw w.v-is c.loop-i.invariant.prime;
@@ -57,3 +57,6 @@ loop-i-preserved c = let l : c.loop-i.i < length (lists c.args.rows.now) = rw le
             ∙ sym c.get-c.ensures.value ∙ w.if-c-ne0.false));
       }
     ]
+
+pub returns-clause-field : goal.returns-clause-field
+returns-clause-field c = rw c.prime.ensures.value at (prime_field c.prime.result)

@@ -5,7 +5,7 @@ use Rattle.linear_algebra.specs.Rows.{entry, row, add_multiple, IsRow, IsCombina
 use Rattle.fp_rows.specs.Lists.{lists}
 use Rattle.fp_rows.specs.Values.{RowValue}
 use Rattle.fp_rows.proofs.ListLemmas.{length-lists, lists-set}
-use Rattle.fp_rows.proofs.Primes.{prime_above_one}
+use Rattle.fp_rows.proofs.Primes.{prime_above_one, prime_field}
 use Rattle.fp_rows.proofs.ClearingLemmas.{cleared_step, cleared_zero}
 use Rattle.linear_algebra.proofs.Reducing.{cleared_by, add_multiple_is_row}
 use Rattle.fp_rows.proofs.SolvingLemmas.{combination_added, zero_added, set_both, set_kept}
@@ -52,7 +52,7 @@ add_row-requires-clause-row c =
     c.loop-i.invariant.made_rows c.loop-i.i (omega (arith, k, length-lists c.loop-i.made)) in
     let urow : IsRow p (length c.args.u.now.entries) c.args.u.now.entries =
     rw c.requires.same_prime at c.len-made.ensures.row in
-    rw (o, ← s, r.length_is) c.len-len.ensures.row
+    rw (o, ← s, r.length_is) c.prime.ensures.row
 
 pub add_row-requires-then-c-ne0-clause-row : goal.add_row-requires-then-c-ne0-clause-row
 add_row-requires-then-c-ne0-clause-row c =
@@ -101,7 +101,7 @@ loop-i-preserved c =
     let g : c.get-c.result ≡ entry (row (lists c.args.rows.now) c.loop-i.i) c.args.t = c.get-c.ensures.value
     ∙ ap (λ r. entry r c.args.t) (sym s) in
     let f : ℕ = c.value-m.result - c.get-c.result in
-    let one : 1 < p = rw c.prime.ensures at (prime_above_one c.prime.result) in
+    let one : 1 < p = rw c.prime.ensures.value at (prime_above_one c.prime.result) in
     elim c.if-c-ne0.branch [
       | then-c-ne0 w ↦
           let y : RowValue = get_or c.loop-i.made c.loop-i.i w.index-made-i.result in
@@ -130,10 +130,10 @@ loop-i-preserved c =
                 (rw (
                   dx,
                   c.value-m.ensures,
-                  c.prime.ensures,
+                  c.prime.ensures.value,
                   g,
                 ) (cleared_by c.args.v.now.entries (row (lists c.args.rows.now) c.loop-i.i)
-                (omega arith) c.len-len.ensures.row r)));
+                (omega arith) c.prime.ensures.row r)));
             made_rows = rw (w.made-is, lists-set)
                 (λ j b. set_both (λ a b. IsRow p (length c.args.u.now.entries) b)
                 (length (lists c.loop-i.made)) (lists c.loop-i.made) (lists c.loop-i.made) c.loop-i.i
@@ -155,7 +155,7 @@ loop-i-preserved c =
                 (rw (dx, dy) (combination_added f gens
                 (row (lists c.loop-i.made) c.loop-i.i) c.args.u.now.entries
                 (row (lists c.args.rows.now) c.loop-i.i) c.args.v.now.entries ry urow r
-                c.len-len.ensures.row
+                c.prime.ensures.row
                 (rw (c.loop-i.invariant.cleared.rest c.loop-i.i (omega arith)) at
                 (c.loop-i.invariant.maps gens hu each c.loop-i.i n)) hu)));
             kept = λ j x b zero. rw (
@@ -183,3 +183,6 @@ loop-i-preserved c =
         kept = rw w.made-is c.loop-i.invariant.kept;
       }
     ]
+
+pub returns-clause-field : goal.returns-clause-field
+returns-clause-field c = rw c.prime.ensures.value at (prime_field c.prime.result)

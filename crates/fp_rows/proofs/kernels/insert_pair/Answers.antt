@@ -5,7 +5,6 @@ use Rattle.linear_algebra.specs.Elimination.{IsPlace, IsPrepared}
 use Rattle.linear_algebra.proofs.AddedRow.{place_is, added_pivots}
 use Rattle.linear_algebra.proofs.Spans.{in_span_pushed}
 use Rattle.fp_rows.specs.Lists.{lists}
-use Rattle.fp_rows.proofs.Primes.{prime_above_one}
 use Rattle.fp_rows.proofs.ListLemmas.{length-lists, lists-insert, over-insert}
 use Rattle.fp_rows.proofs.SolvingLemmas.{solved_independent}
 use Rattle.fp_rows.proofs.kernels.insert_pair.Goals as goal
@@ -13,7 +12,7 @@ use Rattle.fp_rows.proofs.kernels.insert_pair.Goals as goal
 pub returns-clause-solved : goal.returns-clause-solved
 returns-clause-solved c =
     let p : ℕ = c.args.v.p in
-    let one : 1 < p = rw c.prime-prime.ensures at (prime_above_one c.prime-prime.result) in
+    let one : 1 < p = c.clear_vecs.ensures.field.above_one in
     let L : List (List ℕ) = lists c.args.rows.now.items in
     let s : List ℕ = c.args.v.entries in
     let pos : ℕ = c.place_of-at.result in
@@ -52,7 +51,7 @@ returns-clause-made_over c = rw c.in_ok-insert-3.ensures.items
 pub returns-clause-pivots_are : goal.returns-clause-pivots_are
 returns-clause-pivots_are c =
     let p : ℕ = c.args.v.p in
-    let one : 1 < p = rw c.prime-prime.ensures at (prime_above_one c.prime-prime.result) in
+    let one : 1 < p = c.clear_vecs.ensures.field.above_one in
     let L : List (List ℕ) = lists c.args.rows.now.items in
     let s : List ℕ = c.args.v.entries in
     let pos : ℕ = c.place_of-at.result in

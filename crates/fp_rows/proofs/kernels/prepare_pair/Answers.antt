@@ -3,7 +3,6 @@ use Rattle.linear_algebra.specs.Rows.{entry}
 use Rattle.fp_rows.specs.Lists.{lists}
 use Rattle.fp_rows.specs.Values.{RowValue}
 use Rattle.linear_algebra.proofs.PivotLemmas.{not_zero_at_pivot, pivot-le-length}
-use Rattle.fp_rows.proofs.Primes.{prime_above_one}
 use Rattle.linear_algebra.proofs.AddedRow.{prepared_zero, prepared_scaled, scaled_pivot}
 use Rattle.fp_rows.proofs.SolvingLemmas.{combination_scaled, scaled_row, zero_scaled}
 use Rattle.fp_rows.proofs.kernels.prepare_pair.Goals as goal
@@ -15,10 +14,10 @@ inverse-c-requires-clause-not_zero c = λ z. not_zero_at_pivot c.reduce_pair.new
 
 pub returns-then-t-len : goal.returns-then-t-len
 returns-then-t-len c =
-    let one : 1 < c.args.v.now.p = rw c.prime-prime.ensures at (prime_above_one c.prime-prime.result) in
+    let one : 1 < c.args.v.now.p = c.reduce_pair.ensures.field.above_one in
     let inv : c.inverse-c.result * entry c.reduce_pair.new.v.entries c.first-t.result % c.args.v.now.p ≡ 1 =
     rw (
-      c.prime.ensures,
+      c.prime.ensures.value,
       c.reduce_pair.ensures.prime,
       c.get.ensures.value,
     ) at c.inverse-c.ensures.inverse in
@@ -56,7 +55,7 @@ returns-then-t-len c =
 
 pub returns-else-t-len : goal.returns-else-t-len
 returns-else-t-len c =
-    let one : 1 < c.args.v.now.p = rw c.prime-prime.ensures at (prime_above_one c.prime-prime.result) in
+    let one : 1 < c.args.v.now.p = c.reduce_pair.ensures.field.above_one in
     record {
       prime = c.reduce_pair.ensures.prime;
       made_prime = c.reduce_pair.ensures.made_prime;

@@ -2,7 +2,7 @@ use Rattle.std.proofs.Common.{◌≡◌, ℕ, ◌-◌, ◌<◌, length, get_or, 
 use Rattle.linear_algebra.specs.Rows.{entry, row, pivot}
 use Rattle.fp_rows.specs.Lists.{lists}
 use Rattle.fp_rows.proofs.ListLemmas.{row_lists, length-lists, kept_pivot}
-use Rattle.fp_rows.proofs.Primes.{prime_above_one}
+use Rattle.fp_rows.proofs.Primes.{prime_above_one, prime_field}
 use Rattle.linear_algebra.proofs.Reducing.{reduced_start, reduced_skip, reduced_step, add_multiple_is_row}
 use Rattle.fp_rows.proofs.SolvingLemmas.{combination_added, zero_added}
 use Rattle.fp_rows.proofs.kernels.reduce_pair.Goals as goal
@@ -13,7 +13,7 @@ loop-i-init c = record {
   prime = refl;
   made_prime = refl;
   reduced = reduced_start (lists c.args.rows.now) c.args.v.now.entries
-      (rw c.prime.ensures at (prime_above_one c.prime.result)) c.len-len.ensures.row;
+      (rw c.prime.ensures.value at (prime_above_one c.prime.result)) c.prime.ensures.row;
   made_is = rw c.requires.same_prime at c.len-made.ensures.row;
   maps = λ gens each start. start;
   kept = λ s z. refl;
@@ -62,7 +62,7 @@ loop-i-preserved c = let l : c.loop-i.i < length (lists c.args.rows.now) = rw le
     kept_pivot (lists c.args.rows.now) c.args.pivots.now c.loop-i.i c.requires.pivots_are l in
     let s : row (lists c.args.rows.now) c.loop-i.i ≡ c.index-rows-i.result.entries =
     row_lists c.args.rows.now c.loop-i.i c.index-rows-i.result (omega arith) c.index-rows-i.is in
-    let one : 1 < c.args.v.now.p = rw c.prime.ensures at (prime_above_one c.prime.result) in
+    let one : 1 < c.args.v.now.p = rw c.prime.ensures.value at (prime_above_one c.prime.result) in
     let f : ℕ = c.value-m.result - c.get-c.result in
     let up : c.loop-i.u.p ≡ c.args.v.now.p = c.loop-i.invariant.made_prime ∙ c.requires.same_prime in
     elim c.if-c-ne0.branch [
@@ -74,7 +74,7 @@ loop-i-preserved c = let l : c.loop-i.i < length (lists c.args.rows.now) = rw le
             made_prime = rw (w.u-is, w.add_row-then-c-ne0.ensures) c.loop-i.invariant.made_prime;
             reduced = rw (w.v-is, w.add_row.ensures, c.loop-i.invariant.prime, ← s)
                 (reduced_step one c.requires.matrix c.requires.echelon l c.loop-i.invariant.reduced f
-                (rw (c.value-m.ensures, c.prime.ensures, c.get-c.ensures.value, q) refl));
+                (rw (c.value-m.ensures, c.prime.ensures.value, c.get-c.ensures.value, q) refl));
             made_is = rw (w.u-is, w.add_row-then-c-ne0.ensures, up, ← z)
                 (add_multiple_is_row f c.loop-i.u.entries (row (lists c.args.made.now) c.loop-i.i)
                 (omega arith) c.loop-i.invariant.made_is (c.requires.made_rows c.loop-i.i k));
@@ -113,3 +113,6 @@ loop-i-preserved c = let l : c.loop-i.i < length (lists c.args.rows.now) = rw le
         kept = rw w.u-is c.loop-i.invariant.kept;
       }
     ]
+
+pub returns-clause-field : goal.returns-clause-field
+returns-clause-field c = rw c.prime.ensures.value at (prime_field c.prime.result)

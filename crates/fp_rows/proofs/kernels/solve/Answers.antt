@@ -8,8 +8,8 @@ use Rattle.fp_rows.proofs.Primes.{prime_field}
 use Rattle.fp_rows.proofs.SolvingLemmas.{solved_kernel, solved_image, solved_preimages}
 use Rattle.fp_rows.proofs.kernels.solve.Goals as goal
 
-pub invariant_of-kernel : goal.invariant_of-kernel
-invariant_of-kernel c =
+pub of_parts-kernel-requires : goal.of_parts-kernel-requires
+of_parts-kernel-requires c =
     let P : ℕ = c.args.m.now.p in
     let rows : List (List ℕ) = c.args.m.now.rows in
     let d : IsElimination P c.args.m.now.width rows 0 c.in_ok-e.e = c.in_ok-e.ensures in
@@ -33,7 +33,7 @@ returns-clause-kernel c =
     let K : lists c.reverse.new.self.items ≡ reverse (lists c.in_ok-e.e.kernel.items) =
     ap lists c.reverse.ensures.items ∙ lists-reverse c.in_ok-e.e.kernel.items in
     let field : IsFieldModulo P = rw c.prime-prime.ensures at (prime_field c.prime-prime.result) in
-    rw K (solved_kernel field d.solved)
+    rw (c.of_parts-kernel.ensures, K) (solved_kernel field d.solved)
 
 pub returns-clause-image : goal.returns-clause-image
 returns-clause-image c =
@@ -42,7 +42,7 @@ returns-clause-image c =
     let d : IsElimination P c.args.m.now.width rows 0 c.in_ok-e.e = c.in_ok-e.ensures in
     let K : lists c.reverse.new.self.items ≡ reverse (lists c.in_ok-e.e.kernel.items) =
     ap lists c.reverse.ensures.items ∙ lists-reverse c.in_ok-e.e.kernel.items in
-    solved_image d.solved
+    rw c.of_parts-image.ensures (solved_image d.solved)
 
 pub returns-clause-preimages : goal.returns-clause-preimages
 returns-clause-preimages c =
@@ -51,4 +51,4 @@ returns-clause-preimages c =
     let d : IsElimination P c.args.m.now.width rows 0 c.in_ok-e.e = c.in_ok-e.ensures in
     let K : lists c.reverse.new.self.items ≡ reverse (lists c.in_ok-e.e.kernel.items) =
     ap lists c.reverse.ensures.items ∙ lists-reverse c.in_ok-e.e.kernel.items in
-    rw K (solved_preimages d.solved)
+    rw (c.of_parts-kernel.ensures, c.of_parts-image.ensures, K) (solved_preimages d.solved)

@@ -3,7 +3,6 @@ use mathlib.Core.Path.{subst}
 use Rattle.linear_algebra.specs.Rows.{is_pivot}
 use Rattle.std.specs.List.Sorted.{IsBinarySearchResult}
 use Rattle.std.specs.Ordering.{nat_cmp}
-use Rattle.fp_rows.specs.Lists.{lists}
 use Rattle.fp_rows.specs.Values.{MatrixValue}
 use Rattle.fp_rows.proofs.PivotSearch.{pivot-searched}
 use Rattle.fp_rows.proofs.basis.Echelon.is_pivot.Goals as goal
@@ -11,7 +10,7 @@ use Rattle.fp_rows.proofs.basis.Echelon.is_pivot.Goals as goal
 pub returns : goal.returns
 returns c =
     c.is_ok.ensures.value
-    ∙ pivot-searched (lists c.self.inside.rows.items) c.self.inside.pivots.items c.args.j
+    ∙ pivot-searched c.self.inside.matrix.rows c.self.inside.pivots.items c.args.j
     c.binary_search.result
     c.self.invariant.echelon c.self.invariant.pivots_are
     (subst (λ xs. IsBinarySearchResult (λ y. nat_cmp y c.args.j) xs c.binary_search.result)
