@@ -24,7 +24,7 @@ mod solutions;
 mod spans;
 mod words;
 
-pub use arithmetic::add_product;
+pub use arithmetic::{add_product, inverse};
 pub use basis::Echelon;
 pub use complement::greedy;
 pub use entries::Entries;
