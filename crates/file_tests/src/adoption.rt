@@ -80,21 +80,29 @@ fn fails(check: u8) -> Option<Result<(), AdoptFault>> {
     Some(Err(AdoptFault::False { check, row: 0 }))
 }
 
-/// Over the group of two elements, with the basis 1 and x = g - 1: the boundary takes 1 to x, and x to 0.
+/// What comes of the record of degree 1 over the group of two elements with this kernel and section.
+fn first_of_two(
+    rt: &impl Abort,
+    alloc: Global,
+    kernel: [u8; 2],
+    section: [u8; 2],
+) -> Result<Option<Result<(), AdoptFault>>, Fail> {
+    let [k0, k1] = kernel;
+    let [s0, s1] = section;
+    let body = [0, 1, 0, 1, 0, 1, k0, k1, s0, s1];
+    first(rt, alloc, SmallGroup::Two, &body)
+}
+
+/// With the basis 1 and x = g - 1 the boundary takes 1 to x, and x to 0.
 #[test]
 fn refuses_altered_records(rt: HostRuntime) -> Result<(), Fail> {
-    for (kernel, section, taken) in [
-        ([0, 1], [1, 0], Some(Ok(()))),
-        ([0, 0], [1, 0], fails(1)),
-        ([1, 0], [1, 0], fails(2)),
-        ([0, 1], [0, 1], fails(3)),
-        ([0, 1], [1, 1], fails(4)),
-    ] {
-        let [k0, k1] = kernel;
-        let [s0, s1] = section;
-        let body = [0, 1, 0, 1, 0, 1, k0, k1, s0, s1];
-        assert_eq!(rt; first(&rt, rt.alloc(), SmallGroup::Two, &body)?, taken);
-    }
+    let alloc = rt.alloc();
+    let taken = Some(Ok(()));
+    assert_eq!(rt; first_of_two(&rt, alloc, [0, 1], [1, 0])?, taken);
+    assert_eq!(rt; first_of_two(&rt, alloc, [0, 0], [1, 0])?, fails(1));
+    assert_eq!(rt; first_of_two(&rt, alloc, [1, 0], [1, 0])?, fails(2));
+    assert_eq!(rt; first_of_two(&rt, alloc, [0, 1], [0, 1])?, fails(3));
+    assert_eq!(rt; first_of_two(&rt, alloc, [0, 1], [1, 1])?, fails(4));
     Ok(())
 }
 

@@ -1,5 +1,7 @@
 use coho_io::*;
+use std::alloc::Global;
 use std::fs;
+use std::process::Abort;
 use std::test::Fail;
 
 /// Reads from a place on into a buffer of four bytes, and shows what came.
@@ -9,21 +11,29 @@ fn read_four<F: Files>(files: &mut F, path: &str, at: u64) -> (Result<usize, Fau
     (answer, buf)
 }
 
+/// Reads from a place on, and looks at the answer and the buffer.
+fn expect_read<F: Files>(
+    rt: &impl Abort,
+    files: &mut F,
+    path: &str,
+    at: u64,
+    count: usize,
+    bytes: &[u8; 4],
+) {
+    let (answer, buf) = read_four(files, path, at);
+    assert_eq!(rt; answer, Ok(count));
+    assert_eq!(rt; buf.as_slice(), bytes.as_slice());
+}
+
 #[test]
 fn disk_files_read_a_real_file_and_count_faults(rt: HostRuntime) -> Result<(), Fail> {
     let path = "coho_io_reads_this_file";
     fs::write(&rt, path, b"abcdef")?;
     let mut files = DiskFiles::new(&rt);
-    for (at, want, bytes) in [
-        (0, 4, b"abcd"),
-        (3, 3, b"def."),
-        (6, 0, b"...."),
-        (9, 0, b"...."),
-    ] {
-        let (answer, buf) = read_four(&mut files, path, at);
-        assert_eq!(rt; answer, Ok(want), "at {at}");
-        assert_eq!(rt; buf.as_slice(), bytes.as_slice(), "at {at}");
-    }
+    expect_read(&rt, &mut files, path, 0, 4, b"abcd");
+    expect_read(&rt, &mut files, path, 3, 3, b"def.");
+    expect_read(&rt, &mut files, path, 6, 0, b"....");
+    expect_read(&rt, &mut files, path, 9, 0, b"....");
     assert_eq!(rt; files.read_faults(path), 0);
     fs::remove_file(&rt, path)?;
     assert_eq!(rt; read_four(&mut files, path, 0).0, Err(Fault::Failed));
@@ -74,43 +84,43 @@ fn files_in_memory_are_put_and_had(rt: HostRuntime) -> Result<(), Fail> {
     assert_eq!(rt; files.get("a"), Some(b"second".as_slice()));
     assert_eq!(rt; files.get("b"), Some(b"".as_slice()));
     assert_eq!(rt; files.get("c"), None);
-    for (path, at, want, bytes) in [
-        ("a", 0, 4, b"seco"),
-        ("a", 4, 2, b"nd.."),
-        ("a", 6, 0, b"...."),
-        ("b", 0, 0, b"...."),
-    ] {
-        let (answer, buf) = read_four(&mut files, path, at);
-        assert_eq!(rt; answer, Ok(want), "{path} at {at}");
-        assert_eq!(rt; buf.as_slice(), bytes.as_slice(), "{path} at {at}");
+    expect_read(&rt, &mut files, "a", 0, 4, b"seco");
+    expect_read(&rt, &mut files, "a", 4, 2, b"nd..");
+    expect_read(&rt, &mut files, "a", 6, 0, b"....");
+    expect_read(&rt, &mut files, "b", 0, 0, b"....");
+    Ok(())
+}
+
+const FAILED: Result<(), Fault> = Err(Fault::Failed);
+
+const NOT_READ: Result<usize, Fault> = Err(Fault::Failed);
+
+/// What three reads of a file of two bytes give, where this call is to fail, and the count of faults then.
+fn expect_reads(
+    rt: &impl Abort,
+    alloc: Global,
+    listed: u64,
+    answers: &[Result<usize, Fault>; 3],
+    faults: u64,
+) -> Result<(), Fail> {
+    let mut files = MemFiles::new(alloc);
+    files.put("a", b"xy")?;
+    files.fail_at(listed, 0)?;
+    for answer in answers {
+        assert_eq!(rt; read_four(&mut files, "a", 0).0, *answer);
     }
+    assert_eq!(rt; files.read_faults("a"), faults);
+    assert_eq!(rt; files.read_faults("b"), 0);
     Ok(())
 }
 
 #[test]
 fn files_in_memory_fail_at_the_listed_calls(rt: HostRuntime) -> Result<(), Fail> {
-    let failed = Err(Fault::Failed);
-    for (listed, answers) in [
-        (1, [failed, Ok(2), Ok(2)]),
-        (2, [Ok(2), failed, Ok(2)]),
-        (3, [Ok(2), Ok(2), failed]),
-        (4, [Ok(2), Ok(2), Ok(2)]),
-    ] {
-        let mut files = MemFiles::new(rt.alloc());
-        files.put("a", b"xy")?;
-        files.fail_at(listed, 0)?;
-        for answer in answers {
-            assert_eq!(rt;
-                read_four(&mut files, "a", 0).0,
-                answer,
-                "{listed} is listed"
-            );
-        }
-        let count = if listed == 4 { 0 } else { 1 };
-        assert_eq!(rt; files.read_faults("a"), count, "{listed} is listed");
-        assert_eq!(rt; files.read_faults("b"), 0, "{listed} is listed");
-    }
-    Ok(())
+    let alloc = rt.alloc();
+    expect_reads(&rt, alloc, 1, &[NOT_READ, Ok(2), Ok(2)], 1)?;
+    expect_reads(&rt, alloc, 2, &[Ok(2), NOT_READ, Ok(2)], 1)?;
+    expect_reads(&rt, alloc, 3, &[Ok(2), Ok(2), NOT_READ], 1)?;
+    expect_reads(&rt, alloc, 4, &[Ok(2), Ok(2), Ok(2)], 0)
 }
 
 #[test]
@@ -134,32 +144,69 @@ fn files_in_memory_count_faults_by_path(rt: HostRuntime) -> Result<(), Fail> {
     Ok(())
 }
 
+/// Call `listed` is to fail after it takes some bytes: the three answers, the bytes and the faults then.
+struct Failing {
+    listed: u64,
+    taken: usize,
+    answers: [Result<(), Fault>; 3],
+    bytes: &'static [u8],
+    faults: u64,
+}
+
+const SINKS: [Failing; 5] = [
+    Failing {
+        listed: 1,
+        taken: 0,
+        answers: [FAILED, Ok(()), Ok(())],
+        bytes: b"cdef",
+        faults: 1,
+    },
+    Failing {
+        listed: 1,
+        taken: 1,
+        answers: [FAILED, Ok(()), Ok(())],
+        bytes: b"acdef",
+        faults: 1,
+    },
+    Failing {
+        listed: 2,
+        taken: 1,
+        answers: [Ok(()), FAILED, Ok(())],
+        bytes: b"abcef",
+        faults: 1,
+    },
+    Failing {
+        listed: 3,
+        taken: 9,
+        answers: [Ok(()), Ok(()), FAILED],
+        bytes: b"abcdef",
+        faults: 1,
+    },
+    Failing {
+        listed: 4,
+        taken: 0,
+        answers: [Ok(()), Ok(()), Ok(())],
+        bytes: b"abcdef",
+        faults: 0,
+    },
+];
+
+/// Three writes to a sink; of what is listed for a call the last counts.
+fn expect_sink(rt: &impl Abort, alloc: Global, case: &Failing) -> Result<(), Fail> {
+    let mut sink = MemSink::new(alloc);
+    sink.fail_at(case.listed, 7)?;
+    sink.fail_at(case.listed, case.taken)?;
+    let answers = [sink.write(b"ab"), sink.write(b"cd"), sink.write(b"ef")];
+    assert_eq!(rt; answers, case.answers, "{} is listed", case.listed);
+    assert_eq!(rt; sink.bytes(), case.bytes, "{} is listed", case.listed);
+    assert_eq!(rt; sink.faults(), case.faults, "{} is listed", case.listed);
+    Ok(())
+}
+
 #[test]
 fn a_sink_in_memory_fails_at_the_listed_writes(rt: HostRuntime) -> Result<(), Fail> {
-    for (listed, taken, bytes, faults) in [
-        (1, 0, "cdef", 1),
-        (1, 1, "acdef", 1),
-        (2, 1, "abcef", 1),
-        (3, 9, "abcdef", 1),
-        (4, 0, "abcdef", 0),
-    ] {
-        let mut sink = MemSink::new(rt.alloc());
-        sink.fail_at(listed, 7)?;
-        sink.fail_at(listed, taken)?;
-        for (call, piece) in [(1, b"ab"), (2, b"cd"), (3, b"ef")] {
-            let answer = if call == listed {
-                Err(Fault::Failed)
-            } else {
-                Ok(())
-            };
-            assert_eq!(rt; sink.write(piece), answer, "{listed} is listed, at {call}");
-        }
-        assert_eq!(rt;
-            sink.bytes(),
-            bytes.as_bytes(),
-            "{listed} is listed, {taken} are taken"
-        );
-        assert_eq!(rt; sink.faults(), faults, "{listed} is listed");
+    for case in &SINKS {
+        expect_sink(&rt, rt.alloc(), case)?;
     }
     Ok(())
 }
@@ -181,29 +228,68 @@ fn has_bytes(files: &MemFiles, path: &str, bytes: &[u8]) -> bool {
     }
 }
 
+const WRITTEN: [Failing; 5] = [
+    Failing {
+        listed: 1,
+        taken: 7,
+        answers: [FAILED, Ok(()), Ok(())],
+        bytes: b"oldabcd",
+        faults: 1,
+    },
+    Failing {
+        listed: 2,
+        taken: 1,
+        answers: [Ok(()), FAILED, Ok(())],
+        bytes: b"acd",
+        faults: 1,
+    },
+    Failing {
+        listed: 3,
+        taken: 0,
+        answers: [Ok(()), Ok(()), FAILED],
+        bytes: b"ab",
+        faults: 1,
+    },
+    Failing {
+        listed: 3,
+        taken: 9,
+        answers: [Ok(()), Ok(()), FAILED],
+        bytes: b"abcd",
+        faults: 1,
+    },
+    Failing {
+        listed: 4,
+        taken: 0,
+        answers: [Ok(()), Ok(()), Ok(())],
+        bytes: b"abcd",
+        faults: 0,
+    },
+];
+
+/// A file that is written beside another.
+fn expect_written(rt: &impl Abort, alloc: Global, case: &Failing) -> Result<(), Fail> {
+    let mut files = MemFiles::new(alloc);
+    files.put("a", b"old")?;
+    files.put("b", b"other")?;
+    files.fail_at(case.listed, case.taken)?;
+    let answers = write_twice(&mut files, "a");
+    assert_eq!(rt; answers, case.answers, "{} is listed", case.listed);
+    assert!(rt;
+        has_bytes(&files, "a", case.bytes),
+        "{} is listed",
+        case.listed
+    );
+    assert!(rt; has_bytes(&files, "b", b"other"));
+    assert_eq!(rt; files.write_faults("a"), case.faults);
+    assert_eq!(rt; files.write_faults("b"), 0);
+    assert_eq!(rt; files.read_faults("a"), 0);
+    Ok(())
+}
+
 #[test]
 fn files_in_memory_are_written_up_to_the_listed_call(rt: HostRuntime) -> Result<(), Fail> {
-    let failed = Err(Fault::Failed);
-    for (listed, taken, answers, bytes, faults) in [
-        (1, 7, [failed, Ok(()), Ok(())], "oldabcd", 1),
-        (2, 1, [Ok(()), failed, Ok(())], "acd", 1),
-        (3, 0, [Ok(()), Ok(()), failed], "ab", 1),
-        (3, 9, [Ok(()), Ok(()), failed], "abcd", 1),
-        (4, 0, [Ok(()), Ok(()), Ok(())], "abcd", 0),
-    ] {
-        let mut files = MemFiles::new(rt.alloc());
-        files.put("a", b"old")?;
-        files.put("b", b"other")?;
-        files.fail_at(listed, taken)?;
-        assert_eq!(rt; write_twice(&mut files, "a"), answers, "{listed} is listed");
-        assert!(rt;
-            has_bytes(&files, "a", bytes.as_bytes()),
-            "{listed} is listed"
-        );
-        assert!(rt; has_bytes(&files, "b", b"other"), "{listed} is listed");
-        assert_eq!(rt; files.write_faults("a"), faults, "{listed} is listed");
-        assert_eq!(rt; files.write_faults("b"), 0, "{listed} is listed");
-        assert_eq!(rt; files.read_faults("a"), 0, "{listed} is listed");
+    for case in &WRITTEN {
+        expect_written(&rt, rt.alloc(), case)?;
     }
     Ok(())
 }

@@ -60,40 +60,60 @@ fn taken(rt: &impl Abort, alloc: Global, bytes: &[u8]) -> Result<Result<u32, Sta
     Ok(taken)
 }
 
+/// How many bytes of the file there are, and how many stages are left to compute.
+const FRONTS: [(usize, u32); 7] = [
+    (0, 3),
+    (39, 3),
+    (40, 3),
+    (86, 2),
+    (131, 2),
+    (177, 1),
+    (178, 0),
+];
+
+fn expect_left(
+    rt: &impl Abort,
+    alloc: Global,
+    whole: &[u8; WHOLE],
+    len: usize,
+    left: u32,
+) -> Result<(), Fail> {
+    assert!(rt; len <= whole.len());
+    assert_eq!(rt; taken(rt, alloc, &whole[..len])?, Ok(left), "{len} bytes");
+    Ok(())
+}
+
 #[test]
 fn takes_whole_records(rt: HostRuntime) -> Result<(), Fail> {
-    let alloc = rt.alloc();
-    let whole = whole_file(&rt, alloc)?;
-    for (len, left) in [
-        (0, 3),
-        (39, 3),
-        (40, 3),
-        (86, 2),
-        (131, 2),
-        (177, 1),
-        (178, 0),
-    ] {
-        assert!(rt; len <= whole.len());
-        assert_eq!(rt; taken(&rt, alloc, &whole[..len])?, Ok(left), "{len} bytes");
+    let whole = whole_file(&rt, rt.alloc())?;
+    for (len, left) in FRONTS {
+        expect_left(&rt, rt.alloc(), &whole, len, left)?;
     }
+    Ok(())
+}
+
+fn expect_refused(
+    rt: &impl Abort,
+    alloc: Global,
+    whole: [u8; WHOLE],
+    at: usize,
+    fault: StagesFault,
+) -> Result<(), Fail> {
+    let mut bytes = whole;
+    assert!(rt; at < bytes.len());
+    bytes[at] ^= 1;
+    assert_eq!(rt; taken(rt, alloc, &bytes)?, Err(fault), "byte {at}");
     Ok(())
 }
 
 #[test]
 fn refuses_altered_bytes(rt: HostRuntime) -> Result<(), Fail> {
     let alloc = rt.alloc();
-    for (at, fault) in [
-        (0, StagesFault::Header),
-        (8, StagesFault::Presentation),
-        (51, StagesFault::Record { number: 1 }),
-        (137, StagesFault::Record { number: 3 }),
-    ] {
-        let mut bytes = whole_file(&rt, alloc)?;
-        assert!(rt; at < bytes.len());
-        bytes[at] ^= 1;
-        assert_eq!(rt; taken(&rt, alloc, &bytes)?, Err(fault), "byte {at}");
-    }
-    Ok(())
+    let whole = whole_file(&rt, alloc)?;
+    expect_refused(&rt, alloc, whole, 0, StagesFault::Header)?;
+    expect_refused(&rt, alloc, whole, 8, StagesFault::Presentation)?;
+    expect_refused(&rt, alloc, whole, 51, StagesFault::Record { number: 1 })?;
+    expect_refused(&rt, alloc, whole, 137, StagesFault::Record { number: 3 })
 }
 
 /// The file with another entry in the kernel of record 3, and the digest of its altered bytes.

@@ -1,4 +1,4 @@
-ghost use Rattle.std.specs.Prelude.{◌<◌, ◌≤◌, ◌^◌, IsTrue};
+ghost use Rattle.std.specs.Prelude.{◌≡◌, ◌<◌, ◌≤◌, ◌^◌, IsTrue, IfOk};
 ghost use Rattle.group_table.specs.Tables.{order};
 ghost use Rattle.group_table.specs.Prime.{prime_value};
 ghost use Rattle.power_commutator.specs.Presentations.{IsWord};
@@ -35,6 +35,34 @@ fn is_small(prime: Prime, gens: u32) -> bool
     }
 }
 
+fn set_powers(
+    rt: &impl Abort,
+    alloc: Global,
+    relations: &Relations<'_>,
+    made: &mut Presentation,
+) -> Result<(), Fail> {
+    for (i, exponents) in relations.powers {
+        assert!(rt; 0 < *i && *i <= made.gens());
+        assert!(rt; is_word(made.prime().value(), made.gens(), *i, exponents));
+        made.set_power(*i, SmallVec::from_slice(alloc, exponents)?);
+    }
+    Ok(())
+}
+
+fn set_commutators(
+    rt: &impl Abort,
+    alloc: Global,
+    relations: &Relations<'_>,
+    made: &mut Presentation,
+) -> Result<(), Fail> {
+    for (j, i, exponents) in relations.commutators {
+        assert!(rt; 0 < *i && *i < *j && *j <= made.gens());
+        assert!(rt; is_word(made.prime().value(), made.gens(), *j, exponents));
+        made.set_commutator(*j, *i, SmallVec::from_slice(alloc, exponents)?);
+    }
+    Ok(())
+}
+
 fn presentation_of(
     rt: &impl Abort,
     alloc: Global,
@@ -42,16 +70,8 @@ fn presentation_of(
 ) -> Result<Presentation, Fail> {
     assert!(rt; relations.gens <= MOST_GENERATORS);
     let mut made = Presentation::new(alloc, relations.prime, relations.gens)?;
-    for (i, exponents) in relations.powers {
-        assert!(rt; 0 < *i && *i <= made.gens());
-        assert!(rt; is_word(made.prime().value(), made.gens(), *i, exponents));
-        made.set_power(*i, SmallVec::from_slice(alloc, exponents)?);
-    }
-    for (j, i, exponents) in relations.commutators {
-        assert!(rt; 0 < *i && *i < *j && *j <= made.gens());
-        assert!(rt; is_word(made.prime().value(), made.gens(), *j, exponents));
-        made.set_commutator(*j, *i, SmallVec::from_slice(alloc, exponents)?);
-    }
+    set_powers(rt, alloc, relations, &mut made)?;
+    set_commutators(rt, alloc, relations, &mut made)?;
     Ok(made)
 }
 
@@ -86,9 +106,13 @@ fn order_of(group: &Group, e: u16) -> u32
 }
 
 fn count_of_order(group: &Group, order: u32) -> usize {
-    (0..group.order())
-        .filter(|e| order_of(group, *e) == order)
-        .count()
+    let mut count = 0;
+    for e in 0..group.order() {
+        if order_of(group, e) == order {
+            count += 1;
+        }
+    }
+    count
 }
 
 fn assert_orders(rt: &impl Abort, group: &Group, orders: &[(u32, usize)]) {
@@ -97,96 +121,78 @@ fn assert_orders(rt: &impl Abort, group: &Group, orders: &[(u32, usize)]) {
     }
 }
 
-#[test]
-fn names_the_first_false_test(rt: HostRuntime) -> Result<(), Fail> {
-    for (relations, want) in [
-        (&UNFIXED, TestName::Fixed { i: 1 }),
-        (&TWISTED, TestName::Twist { i: 1, j: 2 }),
-    ] {
-        match tested(&rt, rt.alloc(), relations)? {
-            Ok(_) => panic!(rt; "no false test"),
-            Err(Refused::Memory { .. }) => panic!(rt; "out of memory"),
-            Err(Refused::Fault { name, presentation }) => {
-                assert_eq!(rt; name, want);
-                assert_eq!(rt; presentation.gens(), relations.gens);
-            }
+fn assert_fault(
+    rt: &impl Abort,
+    alloc: Global,
+    relations: &Relations<'_>,
+    want: TestName,
+) -> Result<(), Fail> {
+    match tested(rt, alloc, relations)? {
+        Ok(_) => panic!(rt; "no false test"),
+        Err(Refused::Memory { .. }) => panic!(rt; "out of memory"),
+        Err(Refused::Fault { name, presentation }) => {
+            assert_eq!(rt; name, want);
+            assert_eq!(rt; presentation.gens(), relations.gens);
         }
     }
     Ok(())
 }
 
 #[test]
+fn names_the_first_false_test(rt: HostRuntime) -> Result<(), Fail> {
+    assert_fault(&rt, rt.alloc(), &UNFIXED, TestName::Fixed { i: 1 })?;
+    assert_fault(&rt, rt.alloc(), &TWISTED, TestName::Twist { i: 1, j: 2 })
+}
+
+fn assert_group(
+    rt: &impl Abort,
+    alloc: Global,
+    relations: &Relations<'_>,
+    order: u16,
+    orders: &[(u32, usize)],
+) -> Result<(), Fail> {
+    let group = group_of(alloc, &consistent(rt, alloc, relations)?)?;
+    assert_eq!(rt; group.order(), order);
+    assert_orders(rt, &group, orders);
+    Ok(())
+}
+
+#[test]
 fn makes_groups_with_elements_of_known_orders(rt: HostRuntime) -> Result<(), Fail> {
-    let cases: [(&Relations<'_>, u16, &[(u32, usize)]); 23] = [
-        (&TRIVIAL, 1, &[(1, 1)]),
-        (&CYCLIC_4, 4, &[(1, 1), (2, 1), (4, 2)]),
-        (&QUATERNION, 8, &[(1, 1), (2, 1), (4, 6)]),
-        (&DIHEDRAL_8, 8, &[(1, 1), (2, 5), (4, 2)]),
-        (&HEISENBERG_3, 27, &[(1, 1), (3, 26)]),
-        (&EXTRASPECIAL_27, 27, &[(1, 1), (3, 8), (9, 18)]),
-        (&KLEIN_4, 4, &[(1, 1), (2, 3)]),
-        (&CYCLIC_9, 9, &[(1, 1), (3, 2), (9, 6)]),
-        (&ELEMENTARY_9, 9, &[(1, 1), (3, 8)]),
-        (&DIHEDRAL_16, 16, &[(1, 1), (2, 9), (4, 2), (8, 4)]),
-        (&SEMIDIHEDRAL_16, 16, &[(1, 1), (2, 5), (4, 6), (8, 4)]),
-        (&QUATERNION_16, 16, &[(1, 1), (2, 1), (4, 10), (8, 4)]),
-        (&MODULAR_16, 16, &[(1, 1), (2, 3), (4, 4), (8, 8)]),
-        (&PRODUCT_16, 16, &[(1, 1), (2, 7), (4, 8)]),
-        (&EXTRASPECIAL_32, 32, &[(1, 1), (2, 19), (4, 12)]),
-        (&ELEMENTARY_32, 32, &[(1, 1), (2, 31)]),
-        (&UNITRIANGULAR_64, 64, &[(1, 1), (2, 27), (4, 36)]),
-        (&QUATERNION_SQUARE, 64, &[(1, 1), (2, 3), (4, 60)]),
-        (&WREATH_81, 81, &[(1, 1), (3, 44), (9, 36)]),
-        (&EXTRASPECIAL_125, 125, &[(1, 1), (5, 124)]),
-        (&ELEMENTARY_128, 128, &[(1, 1), (2, 127)]),
-        (&EXTRASPECIAL_128, 128, &[(1, 1), (2, 71), (4, 56)]),
-        (
-            &CYCLIC_128,
-            128,
-            &[
-                (1, 1),
-                (2, 1),
-                (4, 2),
-                (8, 4),
-                (16, 8),
-                (32, 16),
-                (64, 32),
-                (128, 64),
-            ],
-        ),
-    ];
-    for (relations, elements, orders) in cases {
-        let group = group_of(rt.alloc(), &consistent(&rt, rt.alloc(), relations)?)?;
-        assert_eq!(rt; group.order(), elements);
-        assert_orders(&rt, &group, orders);
+    for (relations, order, orders) in &KNOWN {
+        assert_group(&rt, rt.alloc(), relations, *order, orders)?;
     }
+    Ok(())
+}
+
+const NUMBERS: [([u8; 3], u16); 4] = [
+    ([0, 0, 0], 0),
+    ([1, 0, 0], 1),
+    ([0, 1, 0], 2),
+    ([0, 1, 1], 6),
+];
+
+fn assert_number(
+    rt: &impl Abort,
+    alloc: Global,
+    c: &Consistent,
+    exponents: &[u8],
+    want: u16,
+) -> Result<(), Fail> {
+    let p = c.presentation();
+    assert!(rt; is_word(p.prime().value(), p.gens(), 0, exponents));
+    let e = number(c, &SmallVec::from_slice(alloc, exponents)?);
+    assert_eq!(rt; e, want);
+    assert_eq!(rt; word_of(c, e).as_slice(), exponents);
     Ok(())
 }
 
 #[test]
 fn numbers_the_elements(rt: HostRuntime) -> Result<(), Fail> {
     let q8 = consistent(&rt, rt.alloc(), &QUATERNION)?;
-    let p = q8.presentation();
-    for (exponents, want) in [
-        ([0, 0, 0], 0),
-        ([1, 0, 0], 1),
-        ([0, 1, 0], 2),
-        ([0, 1, 1], 6),
-    ] {
-        assert!(rt; is_word(p.prime().value(), p.gens(), 0, &exponents));
-        let e = number(&q8, &SmallVec::from_slice(rt.alloc(), &exponents)?);
-        assert_eq!(rt; e, want);
-        assert_eq!(rt; word_of(&q8, e).as_slice(), exponents.as_slice());
+    for (exponents, want) in NUMBERS {
+        assert_number(&rt, rt.alloc(), &q8, &exponents, want)?;
     }
-    Ok(())
-}
-
-#[test]
-fn collects_from_the_left(rt: HostRuntime) -> Result<(), Fail> {
-    let q8 = consistent(&rt, rt.alloc(), &QUATERNION)?;
-    assert!(rt; q8.presentation().gens() == 3);
-    let word = collect(rt.alloc(), &q8, &[2, 1])?;
-    assert_eq!(rt; word.as_slice(), [1, 1, 1].as_slice());
     Ok(())
 }
 
@@ -211,15 +217,39 @@ fn makes_a_group_of_order_128(rt: HostRuntime) -> Result<(), Fail> {
     Ok(())
 }
 
-// (g_2 g_1)^2 is g_3 in the dihedral group; with exponent 3, g_2^2 g_1 is g_1 g_2^2 g_3^2.
+fn of_three_generators(
+    rt: &impl Abort,
+    alloc: Global,
+    relations: &Relations<'_>,
+) -> Result<Consistent, Fail>
+    ensures { IfOk result (λ c. c.gens ≡ 3) }
+{
+    let c = consistent(rt, alloc, relations)?;
+    assert!(rt; c.presentation().gens() == 3);
+    Ok(c)
+}
+
 #[test]
-fn collects_longer_products(rt: HostRuntime) -> Result<(), Fail> {
-    let d8 = consistent(&rt, rt.alloc(), &DIHEDRAL_8)?;
-    assert!(rt; d8.presentation().gens() == 3);
+fn collects_from_the_left(rt: HostRuntime) -> Result<(), Fail> {
+    let q8 = of_three_generators(&rt, rt.alloc(), &QUATERNION)?;
+    let word = collect(rt.alloc(), &q8, &[2, 1])?;
+    assert_eq!(rt; word.as_slice(), [1, 1, 1].as_slice());
+    Ok(())
+}
+
+// In the dihedral group (g_2 g_1)^2 is g_3.
+#[test]
+fn collects_a_square(rt: HostRuntime) -> Result<(), Fail> {
+    let d8 = of_three_generators(&rt, rt.alloc(), &DIHEDRAL_8)?;
     let word = collect(rt.alloc(), &d8, &[2, 1, 2, 1])?;
     assert_eq!(rt; word.as_slice(), [0, 0, 1].as_slice());
-    let heisenberg = consistent(&rt, rt.alloc(), &HEISENBERG_3)?;
-    assert!(rt; heisenberg.presentation().gens() == 3);
+    Ok(())
+}
+
+// With exponent 3, g_2^2 g_1 is g_1 g_2^2 g_3^2.
+#[test]
+fn collects_past_a_power(rt: HostRuntime) -> Result<(), Fail> {
+    let heisenberg = of_three_generators(&rt, rt.alloc(), &HEISENBERG_3)?;
     let word = collect(rt.alloc(), &heisenberg, &[2, 2, 1])?;
     assert_eq!(rt; word.as_slice(), [1, 2, 2].as_slice());
     Ok(())

@@ -211,3 +211,43 @@ pub const TWISTED: Relations<'static> = Relations {
     powers: &[],
     commutators: &[(2, 1, &[0, 0, 1, 0]), (3, 1, &[0, 0, 0, 1])],
 };
+
+/// Groups with their orders, and with how many elements there are of each order.
+pub const KNOWN: [(Relations<'static>, u16, &[(u32, usize)]); 23] = [
+    (TRIVIAL, 1, &[(1, 1)]),
+    (CYCLIC_4, 4, &[(1, 1), (2, 1), (4, 2)]),
+    (QUATERNION, 8, &[(1, 1), (2, 1), (4, 6)]),
+    (DIHEDRAL_8, 8, &[(1, 1), (2, 5), (4, 2)]),
+    (HEISENBERG_3, 27, &[(1, 1), (3, 26)]),
+    (EXTRASPECIAL_27, 27, &[(1, 1), (3, 8), (9, 18)]),
+    (KLEIN_4, 4, &[(1, 1), (2, 3)]),
+    (CYCLIC_9, 9, &[(1, 1), (3, 2), (9, 6)]),
+    (ELEMENTARY_9, 9, &[(1, 1), (3, 8)]),
+    (DIHEDRAL_16, 16, &[(1, 1), (2, 9), (4, 2), (8, 4)]),
+    (SEMIDIHEDRAL_16, 16, &[(1, 1), (2, 5), (4, 6), (8, 4)]),
+    (QUATERNION_16, 16, &[(1, 1), (2, 1), (4, 10), (8, 4)]),
+    (MODULAR_16, 16, &[(1, 1), (2, 3), (4, 4), (8, 8)]),
+    (PRODUCT_16, 16, &[(1, 1), (2, 7), (4, 8)]),
+    (EXTRASPECIAL_32, 32, &[(1, 1), (2, 19), (4, 12)]),
+    (ELEMENTARY_32, 32, &[(1, 1), (2, 31)]),
+    (UNITRIANGULAR_64, 64, &[(1, 1), (2, 27), (4, 36)]),
+    (QUATERNION_SQUARE, 64, &[(1, 1), (2, 3), (4, 60)]),
+    (WREATH_81, 81, &[(1, 1), (3, 44), (9, 36)]),
+    (EXTRASPECIAL_125, 125, &[(1, 1), (5, 124)]),
+    (ELEMENTARY_128, 128, &[(1, 1), (2, 127)]),
+    (EXTRASPECIAL_128, 128, &[(1, 1), (2, 71), (4, 56)]),
+    (
+        CYCLIC_128,
+        128,
+        &[
+            (1, 1),
+            (2, 1),
+            (4, 2),
+            (8, 4),
+            (16, 8),
+            (32, 16),
+            (64, 32),
+            (128, 64),
+        ],
+    ),
+];
