@@ -157,6 +157,10 @@ worked_none gens = record {
   chosen = λ r l. absurd (omega arith);
 }
 
+pub worked_start : {p width m : ℕ} {image : ℕ → (ℕ → ℕ) → ℕ → ℕ} (gens : List (List ℕ)) {E : List (List ℕ)}
+    {origins : List Origin} → E ≡ [] → origins ≡ [] → IsWorked p width m image gens E origins 0 (length E) 0
+worked_start gens a b = rw (a, b) (worked_none gens)
+
 -- map k is applied to vector i
 module _ {p width m : ℕ} {image : ℕ → (ℕ → ℕ) → ℕ → ℕ} {gens E : List (List ℕ)} {origins : List Origin}
     {n i k : ℕ} (F : IsFieldModulo p)

@@ -1,16 +1,18 @@
-ghost use Rattle.std.specs.Prelude.{◌≡◌, ◌↔◌, ℕ, ◌*◌, ◌^◌, ◌<◌, ◌≤◌, List, length, IfOk, IsTrue};
+ghost use Rattle.std.specs.Prelude.{◌≡◌, ◌↔◌, ℕ, ◌*◌, ◌^◌, ◌<◌, ◌≤◌, List, length, map, IfOk, IsTrue};
 ghost use Rattle.linear_algebra.specs.Rows.{entry, row, pivot, IsRow, IsInSpan, IsReduced, IsEchelonOf};
 ghost use Rattle.fp_rows.specs.Refs.{entries_of, modulus_of};
 ghost use Rattle.neg_basis.specs.Bases.{IsBasis};
 ghost use Rattle.neg_basis.specs.Images.{AreImages};
 ghost use Rattle.neg_basis.specs.Origins.{origin_at, chosen_rows};
 ghost use Rattle.neg_basis.specs.Results.{IsNegBasisOf};
+ghost use Rattle.neg_basis.specs.Turns.{HaveOrigins};
 
+use crate::found::{Found, no_vectors};
 use crate::images::take_images;
 use crate::ops::Ops;
 use crate::origin::Origin;
 use crate::steps::{insert, load, reduce_by};
-use crate::work::close;
+use crate::work::take;
 use fp_rows::{Echelon, Matrix, Positions, Row, RowRef, echelon};
 use group_table::Memory;
 use std::alloc::Global;
@@ -43,6 +45,27 @@ impl Model for NegBasis {
 }
 
 impl NegBasis {
+    // The basis of the vectors that are found.
+    fn of_found(alloc: Global, found: Found) -> Result<NegBasis, Memory>
+        requires basis { IsBasis found.vectors.p found.vectors.width found.vectors.rows }
+        requires heads_are { found.heads.items ≡ map pivot found.vectors.rows }
+        requires origins { HaveOrigins found.vectors.rows found.origins.items }
+        ensures { IfOk result (λ b. b ≡ record {
+          p = found.vectors.p;
+          width = found.vectors.width;
+          vectors = found.vectors.rows;
+          origins = found.origins.items;
+        }) }
+    {
+        let reduced = echelon(alloc, &found.vectors)?;
+        Ok(NegBasis {
+            vectors: found.vectors,
+            heads: found.heads,
+            origins: found.origins,
+            reduced,
+        })
+    }
+
     /// The negative standard basis of the submodule that the rows of `gens` generate under the maps
     /// (Green, LNM 1828). A row is chosen exactly where it is not in the submodule that the rows before it
     /// generate. There are at most 2^32 maps, rows and places of a row.
@@ -61,24 +84,13 @@ impl NegBasis {
         ensures basis { IfOk result (λ b. IsNegBasisOf gens.now.p gens.now.width (T.maps ops.now)
             (T.image ops.now) gens.now.rows b.vectors b.origins) }
     {
-        let mut vectors = Matrix::new(alloc, gens.prime(), gens.width());
-        let mut heads = Vec::new(alloc);
-        let mut origins = Vec::new(alloc);
+        let mut found = no_vectors(alloc, gens.prime(), gens.width());
         let mut v = Row::zero(alloc, gens.prime(), gens.width())?;
         for r in 0..gens.rows() {
-            let done = vectors.rows();
             load(&mut v, gens.row(r));
-            let origin = Origin::Chosen(r as u32);
-            insert(&mut vectors, &mut heads, &mut origins, &mut v, origin)?;
-            close(ops, &mut vectors, &mut heads, &mut origins, done, &mut v)?;
+            take(ops, &mut found, r as u32, &mut v)?;
         }
-        let reduced = echelon(alloc, &vectors)?;
-        Ok(NegBasis {
-            vectors,
-            heads,
-            origins,
-            reduced,
-        })
+        NegBasis::of_found(alloc, found)
     }
 
     /// The negative standard basis of the submodule that the images of the rows of the list generate under
@@ -98,32 +110,20 @@ impl NegBasis {
             → IsNegBasisOf list.now.p list.now.width (T.maps ops.now) (T.image ops.now) images b.vectors
             b.origins) }
     {
-        let mut vectors = Matrix::new(alloc, list.prime(), list.width());
-        let mut heads = Vec::new(alloc);
-        let mut origins = Vec::new(alloc);
+        let mut found = no_vectors(alloc, list.prime(), list.width());
         // What the rows leave that are not in the span of the vectors.
-        let mut rest = Matrix::new(alloc, list.prime(), list.width());
-        let mut rest_heads = Vec::new(alloc);
-        let mut rest_rows = Vec::new(alloc);
+        let mut rest = no_vectors(alloc, list.prime(), list.width());
         let mut v = Row::zero(alloc, list.prime(), list.width())?;
         for r in 0..list.rows() {
             load(&mut v, list.row(r));
-            reduce_by(&vectors, &heads, &mut v);
-            let before = rest.rows();
-            let origin = Origin::Chosen(r as u32);
-            insert(&mut rest, &mut rest_heads, &mut rest_rows, &mut v, origin)?;
-            if rest.rows() > before {
-                let row = list.row(r);
-                take_images(ops, &mut vectors, &mut heads, &mut origins, r, row, &mut v)?;
+            reduce_by(&found.vectors, &found.heads, &mut v);
+            let before = rest.vectors.rows();
+            insert(&mut rest, &mut v, Origin::Chosen(r as u32))?;
+            if rest.vectors.rows() > before {
+                take_images(ops, &mut found, r, list.row(r), &mut v)?;
             }
         }
-        let reduced = echelon(alloc, &vectors)?;
-        Ok(NegBasis {
-            vectors,
-            heads,
-            origins,
-            reduced,
-        })
+        NegBasis::of_found(alloc, found)
     }
 
     /// How many vectors there are: the dimension of the span.

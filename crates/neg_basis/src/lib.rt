@@ -2,6 +2,7 @@
 #![tactic(auto)]
 
 mod basis;
+mod found;
 mod images;
 mod ops;
 mod origin;

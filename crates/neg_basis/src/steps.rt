@@ -5,10 +5,12 @@ ghost use Rattle.linear_algebra.specs.Modular.{IsCongruent, IsFieldModulo};
 ghost use Rattle.linear_algebra.specs.Rows.{entry, row, pivot, IsRow, IsReduced};
 ghost use Rattle.fp_rows.specs.Refs.{entries_of, modulus_of};
 ghost use Rattle.neg_basis.specs.Bases.{IsBasis};
+ghost use Rattle.neg_basis.specs.Founds.{IsReady};
 ghost use Rattle.neg_basis.specs.Turns.{IsMonicRest, IsAdded};
 
+use crate::found::Found;
 use crate::origin::Origin;
-use fp_rows::{Matrix, Row, RowRef};
+use fp_rows::{Matrix, Row, RowRef, inverse};
 use group_table::{Memory, Prime};
 
 /// Makes v 0 at each head, by a member of the span of the vectors.
@@ -39,34 +41,18 @@ fn head_of(v: &Row) -> usize
     v.view().next_place(0)
 }
 
-// The inverse of a modulo p.
-fn inverse(p: Prime, a: u8) -> u8
-    requires below { a < prime_value p }
-    requires not_zero { a ≢ 0 }
-    ensures below { result < prime_value p }
-    ensures inverse { result * a % prime_value p ≡ 1 }
-{
-    let table: [u8; 7] = match p {
-        Prime::P2 => [0, 1, 0, 0, 0, 0, 0],
-        Prime::P3 => [0, 1, 2, 0, 0, 0, 0],
-        Prime::P5 => [0, 1, 3, 2, 4, 0, 0],
-        Prime::P7 => [0, 1, 4, 5, 2, 3, 6],
-    };
-    table[a as usize]
-}
-
 // Multiplies each entry by c, modulo p.
 fn scale(p: Prime, c: u8, v: &mut Row)
     requires factor { c < prime_value p }
     requires same_prime { v.old.p ≡ prime_value p }
     ensures { v.new ≡ record v.old { entries = map (λ x. c * x % prime_value p) v.old.entries } }
 {
+    let len = v.len();
     if c == 1 {
-        let _len = v.len();
         return;
     }
     let m = p.value();
-    for i in 0..v.len() {
+    for i in 0..len {
         let product = c * v.get(i);
         v.set(i, product % m);
     }
@@ -80,7 +66,6 @@ pub(crate) fn load(v: &mut Row, r: RowRef<'_>)
     ensures row { IsRow v.old.p (length v.old.entries) v.new.entries }
     ensures entries { (j : ℕ) → IsCongruent v.old.p (entry v.new.entries j) (entry (entries_of r.entry) j) }
 {
-    let _len = r.len();
     v.clear();
     v.add(1, r);
 }
@@ -109,33 +94,20 @@ fn prepare(vectors: &Matrix, heads: &[usize], v: &mut Row) -> usize
 }
 
 /// Reduces v by the vectors, and adds what is left of it, unless that is 0.
-pub(crate) fn insert(
-    vectors: &mut Matrix,
-    heads: &mut Vec<usize>,
-    origins: &mut Vec<Origin>,
-    v: &mut Row,
-    origin: Origin,
-) -> Result<(), Memory>
-    requires basis { IsBasis vectors.old.p vectors.old.width vectors.old.rows }
-    requires heads_are { heads.old.items ≡ map pivot vectors.old.rows }
-    requires same_prime { v.old.p ≡ vectors.old.p }
-    requires same_width { length v.old.entries ≡ vectors.old.width }
-    ensures prime { v.new.p ≡ v.old.p }
-    ensures row { IsRow vectors.old.p vectors.old.width v.new.entries }
-    ensures same_field { OnOk result (vectors.new.p ≡ vectors.old.p) }
-    ensures same_width { OnOk result (vectors.new.width ≡ vectors.old.width) }
-    ensures field { IsFieldModulo vectors.old.p }
-    ensures basis { OnOk result (IsBasis vectors.old.p vectors.old.width vectors.new.rows) }
-    ensures heads_are { OnOk result (heads.new.items ≡ map pivot vectors.new.rows) }
-    ensures grown { OnOk result (length vectors.old.rows ≤ length vectors.new.rows) }
-    ensures added { OnOk result (IsAdded vectors.old.p vectors.old.width vectors.old.rows origins.old.items
-        (entry v.old.entries) origin vectors.new.rows origins.new.items) }
+pub(crate) fn insert(found: &mut Found, v: &mut Row, origin: Origin) -> Result<(), Memory>
+    requires { IsReady found.old.vectors.p found.old.vectors.width found.old v.old }
+    ensures field { IsFieldModulo found.old.vectors.p }
+    ensures ready { OnOk result (IsReady found.old.vectors.p found.old.vectors.width found.new v.new) }
+    ensures grown { OnOk result (length found.old.vectors.rows ≤ length found.new.vectors.rows) }
+    ensures added { OnOk result (IsAdded found.old.vectors.p found.old.vectors.width
+        found.old.vectors.rows found.old.origins.items (entry v.old.entries) origin
+        found.new.vectors.rows found.new.origins.items) }
 {
-    let head = prepare(vectors, heads, v);
+    let head = prepare(&found.vectors, &found.heads, v);
     if head < v.len() {
-        vectors.push(v.view())?;
-        heads.push(head)?;
-        origins.push(origin)?;
+        found.vectors.push(v.view())?;
+        found.heads.push(head)?;
+        found.origins.push(origin)?;
     }
     Ok(())
 }

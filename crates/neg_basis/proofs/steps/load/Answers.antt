@@ -5,6 +5,7 @@ use Rattle.linear_algebra.specs.Rows.{entry, add_multiple, IsRow}
 use Rattle.fp_rows.specs.Values.{RowValue}
 use Rattle.fp_rows.specs.Refs.{entries_of}
 use Rattle.fp_rows.proofs.Primes.{prime_above_one}
+use Rattle.fp_rows.proofs.RefLemmas.{ref_is_row}
 use Rattle.neg_basis.proofs.Prepared.{loaded, zeros}
 use Rattle.neg_basis.proofs.steps.load.Goals as goal
 
@@ -16,7 +17,7 @@ both c = let n : length c.clear.new.self.entries ≡ length c.args.v.now.entries
     let q : c.clear.new.self.p ≡ c.args.v.now.p = ap (λ (r : RowValue). r.p) c.clear.ensures in
     let one : 1 < c.args.v.now.p = rw c.requires.same_prime at (prime_above_one c.args.r.modulus) in
     let r : IsRow c.args.v.now.p (length c.clear.new.self.entries) (entries_of c.args.r) =
-    rw n (rw (c.requires.same_prime, c.requires.same_length) at c.len-len.ensures.row) in
+    rw n (rw (c.requires.same_prime, c.requires.same_length) at (ref_is_row c.args.r)) in
     let e : c.add.new.self.entries
     ≡ add_multiple c.args.v.now.p 1 c.clear.new.self.entries (entries_of c.args.r) =
     ap (λ (r : RowValue). r.entries) c.add.ensures
