@@ -8,7 +8,7 @@ ghost use Rattle.min_res.specs.RecordChecks.{IsNotAdopted, MayFollow};
 ghost use Rattle.min_res.specs.Stages.{rank_of, stage_rows};
 ghost use Rattle.min_res.specs.Values.{first_alone};
 ghost use Rattle.resolution_stages.specs.Chain.{parts_of};
-ghost use Rattle.std.specs.Prelude.{◌≡◌, ◌≤◌, ◌<◌, ◌+◌, ◌-◌, ◌*◌, ◌^◌, ◌↔◌, ◌×◌, ℕ, suc, true, false};
+ghost use Rattle.std.specs.Prelude.{◌≡◌, ◌≤◌, ◌<◌, ◌+◌, ◌-◌, ◌*◌, ◌^◌, ◌↔◌, ℕ, suc, true, false};
 ghost use Rattle.std.specs.Prelude.{IfErr, IfOk, IfSome, IsNone, OnErr, OnOk, length, max};
 ghost use Rattle.p_groups.specs.PGroups.{order_of, prime_of};
 
