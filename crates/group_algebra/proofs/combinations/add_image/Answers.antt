@@ -1,4 +1,4 @@
-use Rattle.std.proofs.Common.{◌<◌, ◌^◌, sym}
+use Rattle.std.proofs.Common.{sym}
 use mathlib.Core.Path.{subst}
 use Rattle.radical_layers.specs.Placing.{size_of}
 use Rattle.group_algebra.specs.Images.{AreOver}

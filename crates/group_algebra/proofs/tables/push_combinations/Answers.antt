@@ -1,9 +1,9 @@
-use Rattle.std.proofs.Common.{◌≡◌, ◌++◌, ◌∷◌, [], ◌<◌, ◌+◌, ℕ, List, length, map, take, arith, ap}
+use Rattle.std.proofs.Common.{◌≡◌, ◌++◌, ◌∷◌, [], ◌+◌, ℕ, List, length, map, take, ap}
 use Rattle.std.proofs.Common.{sym, ◌∙◌}
 use Rattle.std.proofs.lemmas.List.{length-replicate, append-nil}
 use Rattle.std.proofs.Math.Seq.{take-length}
 use Rattle.linear_algebra.specs.Rows.{combination_row, entry, row}
-use Rattle.fp_rows.specs.Refs.{entries_of, modulus_of}
+use Rattle.fp_rows.specs.Refs.{entries_of}
 use Rattle.fp_rows.specs.Values.{RowValue, MatrixValue}
 use Rattle.fp_rows.proofs.Turns.{AreLeft, IsRowTurn, passed, passed-start, passed-turn, row-turn, row-end}
 use Rattle.fp_rows.proofs.Turns.{turn-width}
