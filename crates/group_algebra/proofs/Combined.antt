@@ -1,9 +1,11 @@
 -- Combinations of as many rows as there are places, place by place.
-use Rattle.std.proofs.Common.{◌≡◌, ℕ, suc, ◌*◌, ◌<◌, List, length, arith, sym}
+use Rattle.std.proofs.Common.{◌≡◌, ℕ, suc, ◌*◌, ◌<◌, List, [], ◌∷◌, length, arith, sym, ◌∙◌}
+use Rattle.std.proofs.lemmas.List.{length-replicate}
 use mathlib.Core.Path.{subst}
 use Rattle.linear_algebra.specs.Modular.{IsCongruent, sum_below}
 use Rattle.linear_algebra.specs.Rows.{entry, row, combination_row, IsRow, IsMatrix}
 use Rattle.linear_algebra.proofs.CombinationRows.{combination_row-is_row, combination_row-each}
+use Rattle.linear_algebra.proofs.RowLemmas.{length-add_multiple}
 use Rattle.p_groups.specs.PGroups.{PGroup, largest_residue}
 use Rattle.p_groups.proofs.Fields.{residues}
 
@@ -21,6 +23,14 @@ combined {p} {n} c rows r some M len e = subst (λ x. IsCombined p n c (row rows
       (sum_below m (λ k. entry c k * entry (row rows k) j)))
       len (combination_row-each p n some (entry c) rows M j);
 })
+
+-- a combination of any lists is as wide as it is to be
+pub length-combination_row : (p width : ℕ) (u : ℕ → ℕ) (rows : List (List ℕ))
+    → length (combination_row p width u rows) ≡ width
+length-combination_row p width u [] = length-replicate width 0
+length-combination_row p width u (r ∷ rows) =
+    length-add_multiple p (u 0) (combination_row p width (λ i. u (suc i)) rows) r
+    ∙ length-combination_row p width (λ i. u (suc i)) rows
 
 -- the prime is not 0
 pub positive : (G : PGroup) → 0 < G.table.p

@@ -4,6 +4,7 @@ use Rattle.std.proofs.Common.{arith, ap, sym}
 use Rattle.std.proofs.Common.{◌∙◌, refl}
 use Rattle.std.proofs.lemmas.Grind.{same_number_lists}
 use Rattle.std.proofs.lemmas.List.{length-replicate, get_or-replicate}
+use Rattle.std.proofs.lemmas.Nat.{mul-le}
 use Rattle.std.proofs.Math.Nat.{mul-le-mul_right}
 use mathlib.Core.Path.{subst, fun_ext}
 use Rattle.group_table.specs.Tables.{order}
@@ -52,6 +53,10 @@ pub inside-steps : (n k g s L : ℕ) → k < n → g < n → s ≡ n → L ≡ n
 inside-steps n k g s L l m e f = let z : (k + 1) * n ≤ n * n =
     mul-le-mul_right n (let y : k + 1 ≤ n = omega (arith, l) in y) in
     let d : k * s ≡ k * n = ap (λ x. k * x) e in omega (arith, z, m, f, d)
+
+-- a table of products of at most 256 elements is small
+pub few-rows : (n L : ℕ) → n ≤ 256 → L ≡ n * n → L ≤ 65536
+few-rows n L small e = let z : n * n ≤ 256 * 256 = mul-le n n 256 256 small small in omega (arith, z, e)
 
 -- images with the same entries modulo p
 pub gains-near : (p : ℕ) (ss : List ℕ) (b : ℕ) (R R' : ℕ → ℕ → ℕ) (c : ℕ) (v old new : List ℕ)

@@ -7,7 +7,7 @@ use Rattle.std.proofs.Math.ListN.{get_or-append}
 use Rattle.std.proofs.Math.Nat.{mul-le-mul_left, mul-le-mul_right, div-add-mod, mod-lt}
 use mathlib.Core.Path.{subst}
 use Rattle.group_table.specs.Tables.{order}
-use Rattle.linear_algebra.specs.Rows.{row, entry, combination_row, IsRow, IsInSpan, AreInSpan}
+use Rattle.linear_algebra.specs.Rows.{row, entry, combination_row, IsRow, IsMatrix, IsInSpan, AreInSpan}
 use Rattle.linear_algebra.specs.Choices.{IsPreimage, ArePreimages}
 use Rattle.linear_algebra.specs.Kernels.{unit_row}
 use Rattle.linear_algebra.proofs.Spans.{row_before_push}
@@ -19,7 +19,7 @@ use Rattle.radical_layers.proofs.UnitRow.{unit-is-row}
 use Rattle.p_groups.specs.PGroups.{PGroup, largest_residue, group}
 use Rattle.p_groups.proofs.Fields.{residues, field}
 use Rattle.group_algebra.specs.Coordinates.{sum_coordinates, layers, free_module, row_of, member}
-use Rattle.group_algebra.specs.Coordinates.{AreCoefficients}
+use Rattle.group_algebra.specs.Coordinates.{AreCoefficients, layer_coordinates}
 use Rattle.group_algebra.proofs.LayerLaws.{layers_are}
 use Rattle.group_algebra.specs.Coefficients.{AreSumCoordinates, IsTranslate}
 use Rattle.group_algebra.proofs.Combined.{IsCombined, combined}
@@ -137,6 +137,32 @@ module _ (G : PGroup) where
   pub elements-at : (E : List (List ℕ)) → length E ≡ n → EachRow (IsElementRow G) E → (g : Below n)
       → row E g.0 ≡ row_of G 1 ((free_module G 1).act g (one G))
   elements-at E len H g = H g.0 (let l : g.0 < n = g.1 in omega (arith, l, len)) g refl
+
+  -- the layer coordinates of a member are a row, and lists of them are matrices
+  layer-row : (v : (free_module G 1).of) → IsRow G.table.p n (row_of G 1 v)
+  layer-row v = subst (λ p. IsRow p n (row_of G 1 v)) (residues G)
+      (subst (λ w. IsRow (suc (largest_residue G)) w (row_of G 1 v))
+      (let z : n * 1 ≡ n = omega arith in z) ((layer_coordinates G 1).row-is v))
+
+  pub members-matrix : (members : List (List ℕ)) → length members ≡ n → AreMembers G members
+      → IsMatrix G.table.p n members
+  members-matrix members len A i l = (A i (let m : i < n = omega (arith, l, len) in m)).is_row
+
+  pub elements-matrix : (E : List (List ℕ)) → length E ≡ n → EachRow (IsElementRow G) E
+      → IsMatrix G.table.p n E
+  elements-matrix E len H i l =
+      let g : Below n = (i, let m : i < n = omega (arith, l, len) in m) in
+      subst (IsRow G.table.p n) (sym (H i l g refl)) (layer-row (element G g))
+
+  pub translates-matrix : (T W : List (List ℕ)) (l : ℕ) → length T ≡ n * n → length W ≡ n
+      → EachRow (IsTranslateRow G) T → ((g : ℕ) → g < n → row W g ≡ row T (l * n + g)) → l < n
+      → IsMatrix G.table.p n W
+  translates-matrix T W l len count H W-is c i b =
+      let m : i < n = omega (arith, b, count) in
+      let z : (l + 1) * n ≤ n * n = mul-le-mul_right n (let y : l + 1 ≤ n = omega (arith, c) in y) in
+      subst (IsRow G.table.p n)
+      (sym (W-is i m ∙ H (l * n + i) (omega (arith, z, m, len)) l (i, m) c refl))
+      (layer-row ((free_module G 1).act (i, m) (member G l)))
 
   pub translate-row : (members E : List (List ℕ)) (i k g : ℕ) (t r : List ℕ) → AreMembers G members
       → length E ≡ n

@@ -8,3 +8,4 @@ pub mod Places
 pub mod Gains
 pub mod Stores
 pub mod Tables
+pub mod Images

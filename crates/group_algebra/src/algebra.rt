@@ -142,7 +142,6 @@ impl Algebra {
         ensures layers { (v : (free_module self.now 1).of) → AreCoefficients self.now (entries_of a.entry) v
             → out.new.entries ≡ row_of self.now 1 v }
     {
-        let _elements = self.elements.rows();
         self.elements.combine(a, out);
     }
 
@@ -156,7 +155,6 @@ impl Algebra {
         ensures coefficients { AreCoefficients self.now out.new.entries
             (table_of self.now 1 (entries_of v.entry)) }
     {
-        let _members = self.members.rows();
         self.members.combine(v, out);
     }
 
@@ -173,7 +171,6 @@ impl Algebra {
             ≡ row_of self.now rank ((free_module self.now rank).act (g, b)
             (table_of self.now rank (entries_of v.entry))) }
     {
-        let _length = v.len();
         let images = Images {
             rows: &self.translates,
             first: g as usize,
@@ -196,7 +193,6 @@ impl Algebra {
             ≡ row_of self.now rank (product_with self.now rank (member self.now k)
             (table_of self.now rank (entries_of v.entry))) }
     {
-        let _length = v.len();
         let images = Images {
             rows: &self.products,
             first: k,
@@ -221,7 +217,6 @@ impl Algebra {
             (product_with self.now rank (table_of self.now 1 (entries_of a.entry))
             (table_of self.now rank (entries_of v.entry)))) }
     {
-        let _length = a.len();
         self.add_product(
             rank,
             Block {
@@ -297,7 +292,6 @@ impl Algebra {
     // Adds the product of a block of a row, read in place as a member of kG, and a member v of kG^rank.
     fn add_product(&self, rank: usize, a: Block<'_>, v: RowRef<'_>, out: &mut Row)
         requires inside { a.index < a.count }
-        requires fits { order_of self.now * a.count < 2 ^ 64 }
         requires moduli { (modulus_of a.row ≡ prime_of self.now) × (modulus_of v ≡ prime_of self.now) }
         requires prime { out.old.p ≡ prime_of self.now }
         requires factor_length { length (entries_of a.row) ≡ order_of self.now * a.count }
@@ -312,8 +306,8 @@ impl Algebra {
             (product_with self.now rank (table_of self.now 1 b)
             (table_of self.now rank (entries_of v.entry)))) }
     {
-        let _length = v.len();
         prove!(out.len() == v.len());
+        prove!(a.index < a.row.len());
         let n = self.group.order() as usize;
         if is_zero_block(&self.places, a.count, a.index, a.row) {
             return;

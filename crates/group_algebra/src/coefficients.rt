@@ -49,12 +49,12 @@ pub(crate) fn write_translate(group: &Group, g: u16, a: RowRef<'_>, out: &mut Ro
     ensures prime { out.new.p ≡ out.old.p }
     ensures translate { IsTranslate group.now g (entries_of a.entry) out.new.entries }
 {
-    let _order = group.order();
+    let order = group.order() as usize;
     out.clear();
     let mut k = a.next_place(0);
-    while k < a.len() {
+    while k < order {
         out.set(group.mul(g, k as u16) as usize, a.get(k));
         k = a.next_place(k + 1);
     }
-    let _length = out.len();
+    prove!(out.len() == order);
 }

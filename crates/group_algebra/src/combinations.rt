@@ -7,6 +7,7 @@ ghost use Rattle.radical_layers.specs.Placing.{size_of, place_of};
 ghost use Rattle.fp_rows.specs.Refs.{entries_of, modulus_of};
 ghost use Rattle.group_algebra.specs.Gains.{BlockGains, image_at, image_entry, reach, stepped, BeginsAt};
 ghost use Rattle.group_algebra.specs.Gains.{GainsImage, IsZeroBlock};
+ghost use Rattle.group_algebra.specs.Images.{AreOver};
 
 use crate::places::Places;
 use fp_rows::{Matrix, Row, RowRef, ShortRow, add_product};
@@ -43,7 +44,6 @@ pub(crate) fn is_zero_block(places: &Places, rank: usize, block: usize, v: RowRe
     requires small { size_of places.now * rank < 2 ^ 64 }
     ensures { IsTrue result ↔ IsZeroBlock places.now rank block (entries_of v.entry) }
 {
-    let _length = v.len();
     let mut start = 0;
     for i in 0..places.layers() {
         let size = places.size(i);
@@ -81,13 +81,9 @@ impl<'a> Images<'a> {
     // Adds x times the sum of the rows of member k, each times its factor.
     fn add_combination(&self, x: u8, k: usize, sum: &mut ShortRow)
         requires factor { x < sum.old.p }
-        requires factors { (i : ℕ) → i < length self.now.factors.now
-            → entry self.now.factors.now i < sum.old.p }
-        requires prime { self.now.rows.now.p ≡ sum.old.p }
-        requires width { self.now.rows.now.width ≡ length sum.old.entries }
+        requires images { AreOver self.now sum.old.p (length sum.old.entries) }
         requires inside { self.now.first + k * self.now.step + length self.now.factors.now
             ≤ length self.now.rows.now.rows }
-        requires few { length self.now.rows.now.rows ≤ 65536 }
         ensures prime { sum.new.p ≡ sum.old.p }
         ensures same_length { length sum.new.entries ≡ length sum.old.entries }
         ensures sums { (j : ℕ) → j < length sum.old.entries
@@ -108,13 +104,9 @@ impl<'a> Images<'a> {
     // Adds x times the image of member k.
     fn add(&self, x: u8, k: usize, sum: &mut ShortRow)
         requires factor { x < sum.old.p }
-        requires factors { (i : ℕ) → i < length self.now.factors.now
-            → entry self.now.factors.now i < sum.old.p }
-        requires prime { self.now.rows.now.p ≡ sum.old.p }
-        requires width { self.now.rows.now.width ≡ length sum.old.entries }
+        requires images { AreOver self.now sum.old.p (length sum.old.entries) }
         requires inside { self.now.first + k * self.now.step + reach self.now.factors.now
             ≤ length self.now.rows.now.rows }
-        requires few { length self.now.rows.now.rows ≤ 65536 }
         ensures prime { sum.new.p ≡ sum.old.p }
         ensures same_length { length sum.new.entries ≡ length sum.old.entries }
         ensures sums { (j : ℕ) → j < length sum.old.entries
@@ -132,13 +124,11 @@ impl<'a> Images<'a> {
 
 // Adds the images of the members from number `start` on with these coefficients.
 fn add_images(images: Images<'_>, start: usize, coefficients: RowRef<'_>, sum: &mut ShortRow)
-    requires primes { (modulus_of coefficients ≡ sum.old.p) × (images.rows.now.p ≡ sum.old.p) }
-    requires width { images.rows.now.width ≡ length sum.old.entries }
+    requires prime { modulus_of coefficients ≡ sum.old.p }
+    requires images { AreOver images sum.old.p (length sum.old.entries) }
     requires inside { (k : ℕ) → k < length (entries_of coefficients)
         → images.first + (start + k) * images.step + reach images.factors.now
         ≤ length images.rows.now.rows }
-    requires factors { (i : ℕ) → i < length images.factors.now → entry images.factors.now i < sum.old.p }
-    requires few { length images.rows.now.rows ≤ 65536 }
     requires short { start + length (entries_of coefficients) ≤ 256 }
     ensures prime { sum.new.p ≡ sum.old.p }
     ensures same_length { length sum.new.entries ≡ length sum.old.entries }
@@ -201,18 +191,14 @@ fn block_image(
     block: usize,
     v: Tail<'_>,
 ) -> ShortRow
-    requires prime { images.rows.now.p ≡ modulus_of v.row }
+    requires images { AreOver images (modulus_of v.row) (size_of places.now) }
     requires block { block < rank }
     requires length { length (entries_of v.row) ≡ size_of places.now * rank }
     requires begins { BeginsAt places.now rank v.layer v.start (entries_of v.row) }
     requires small { size_of places.now * rank < 2 ^ 64 }
-    requires width { images.rows.now.width ≡ size_of places.now }
     requires short { size_of places.now ≤ 256 }
     requires inside { (k : ℕ) → k < size_of places.now
         → images.first + k * images.step + reach images.factors.now ≤ length images.rows.now.rows }
-    requires factors { (i : ℕ) → i < length images.factors.now
-        → entry images.factors.now i < modulus_of v.row }
-    requires few { length images.rows.now.rows ≤ 65536 }
     ensures prime { result.p ≡ modulus_of v.entry.row }
     ensures length { length result.entries ≡ size_of places.now }
     ensures image { (j : ℕ) → j < size_of places.now → IsCongruent result.p (entry result.entries j)
@@ -221,7 +207,6 @@ fn block_image(
         * image_at images.entry.rows.now.rows images.entry.first images.entry.step
         images.entry.factors.now k j)) }
 {
-    let _length = v.row.len();
     let mut sum = ShortRow::zero(images.rows.prime(), images.rows.width());
     let mut start = v.start;
     for i in v.layer..places.layers() {
@@ -243,18 +228,16 @@ fn add_block_image(
     v: Tail<'_>,
     out: &mut Row,
 )
-    requires primes { (modulus_of v.row ≡ out.old.p) × (images.rows.now.p ≡ out.old.p) }
+    requires prime { modulus_of v.row ≡ out.old.p }
+    requires images { AreOver images out.old.p (size_of places.now) }
     requires block { block < rank }
     requires factor { c < out.old.p }
     requires lengths { (length (entries_of v.row) ≡ size_of places.now * rank)
         × (length out.old.entries ≡ size_of places.now * rank) }
     requires begins { BeginsAt places.now rank v.layer v.start (entries_of v.row) }
     requires small { size_of places.now * rank < 2 ^ 64 }
-    requires width { images.rows.now.width ≡ size_of places.now }
     requires inside { (k : ℕ) → k < size_of places.now
         → images.first + k * images.step + reach images.factors.now ≤ length images.rows.now.rows }
-    requires factors { (i : ℕ) → i < length images.factors.now → entry images.factors.now i < out.old.p }
-    requires few { length images.rows.now.rows ≤ 65536 }
     requires short { size_of places.now ≤ 256 }
     ensures prime { out.new.p ≡ out.old.p }
     ensures gains { BlockGains out.old.p places.now rank block
@@ -276,16 +259,13 @@ pub(crate) fn add_image(
     v: RowRef<'_>,
     out: &mut Row,
 )
-    requires primes { (modulus_of v ≡ out.old.p) × (images.rows.now.p ≡ out.old.p) }
+    requires prime { modulus_of v ≡ out.old.p }
+    requires images { AreOver images out.old.p (size_of places.now) }
     requires factor { c < out.old.p }
     requires lengths { (length (entries_of v) ≡ size_of places.now * rank)
         × (length out.old.entries ≡ size_of places.now * rank) }
-    requires small { size_of places.now * rank < 2 ^ 64 }
-    requires width { images.rows.now.width ≡ size_of places.now }
     requires inside { (k : ℕ) → k < size_of places.now
         → images.first + k * images.step + reach images.factors.now ≤ length images.rows.now.rows }
-    requires factors { (i : ℕ) → i < length images.factors.now → entry images.factors.now i < out.old.p }
-    requires few { length images.rows.now.rows ≤ 65536 }
     requires short { size_of places.now ≤ 256 }
     ensures prime { out.new.p ≡ out.old.p }
     ensures gains { GainsImage out.old.p places.now rank

@@ -93,7 +93,7 @@ fn add_generator(
     ensures before { OnOk result ((x : ℕ) → IsProductOf (product group.now) found.old.items x
         → IsProductOf (product group.now) found.new.items x) }
 {
-    let _order = group.order();
+    prove!(g < group.order());
     if seen[g as usize] {
         return Ok(());
     }

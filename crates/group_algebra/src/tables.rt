@@ -63,7 +63,6 @@ pub(crate) fn element_rows(alloc: Global, group: &PGroup, units: &Matrix) -> Res
     let mut a = Row::zero(alloc, p, n)?;
     let mut sums = Row::zero(alloc, p, n)?;
     let mut out = Row::zero(alloc, p, n)?;
-    let _units = units.rows();
     for g in 0..n {
         a.set_unit(g);
         write_sum_coordinates(a.view(), &mut sums);
@@ -92,7 +91,6 @@ pub(crate) fn translate_rows(
     let mut m = Matrix::new(alloc, p, n);
     let mut moved = Row::zero(alloc, p, n)?;
     let mut out = Row::zero(alloc, p, n)?;
-    let _elements = elements.rows();
     for i in 0..n * n {
         write_translate(
             group.as_group(),
@@ -106,18 +104,18 @@ pub(crate) fn translate_rows(
     Ok(m)
 }
 
-// The translates of member l of the layer basis: the n rows from row l n on.
-fn translates_of(alloc: Global, translates: &Matrix, n: usize, l: usize) -> Result<Matrix, Memory>
-    requires inside { (l + 1) * n ≤ length translates.now.rows }
-    ensures prime { IfOk result (λ m. m.p ≡ translates.now.p) }
-    ensures width { IfOk result (λ m. m.width ≡ translates.now.width) }
-    ensures count { IfOk result (λ m. length m.rows ≡ n) }
-    ensures rows { IfOk result (λ m. (g : ℕ) → g < n → row m.rows g ≡ row translates.now.rows (l * n + g)) }
+// The rows from number `from` on, up to number `to`.
+fn rows_between(alloc: Global, rows: &Matrix, from: usize, to: usize) -> Result<Matrix, Memory>
+    requires ordered { from ≤ to }
+    requires inside { to ≤ length rows.now.rows }
+    ensures prime { IfOk result (λ m. m.p ≡ rows.now.p) }
+    ensures width { IfOk result (λ m. m.width ≡ rows.now.width) }
+    ensures count { IfOk result (λ m. from + length m.rows ≡ to) }
+    ensures rows { IfOk result (λ m. (k : ℕ) → from + k < to → row m.rows k ≡ row rows.now.rows (from + k)) }
 {
-    let _rows = translates.rows();
-    let mut m = Matrix::new(alloc, translates.prime(), translates.width());
-    for g in 0..n {
-        m.push(translates.row(l * n + g))?;
+    let mut m = Matrix::new(alloc, rows.prime(), rows.width());
+    for i in from..to {
+        m.push(rows.row(i))?;
     }
     Ok(m)
 }
@@ -139,7 +137,6 @@ fn push_combinations(
               (entry c) rows.now.rows) coefficients.now.rows;
         }) }
 {
-    let _rows = rows.rows();
     let mut out = Row::zero(alloc, m.prime(), m.width())?;
     for c in coefficients {
         rows.combine(c.view(), &mut out);
@@ -165,8 +162,7 @@ pub(crate) fn product_rows(
     let n = group.order() as usize;
     let mut m = Matrix::new(alloc, group.prime(), n);
     for l in 0..n {
-        let moved = translates_of(alloc, translates, n, l)?;
-        let _moved = moved.rows();
+        let moved = rows_between(alloc, translates, l * n, l * n + n)?;
         push_combinations(alloc, members, &moved, &mut m)?;
     }
     Ok(m)

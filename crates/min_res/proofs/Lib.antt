@@ -17,3 +17,4 @@ pub mod NextParts
 pub mod AdoptedStage
 pub mod ProductMaps
 pub mod RadicalBases
+pub mod Refusals

@@ -6,8 +6,8 @@ use Rattle.group_algebra.specs.Coordinates.{layer_coordinates}
 use Rattle.resolution_stages.specs.Checks.{StageParts}
 use Rattle.resolution_stages.specs.Computed.{IsMatrixOf}
 use Rattle.min_res.specs.Stages.{rank_of}
-use Rattle.min_res.specs.Values.{BoundaryValue}
-use Rattle.min_res.specs.Defined.{kernel_value}
+use Rattle.min_res.specs.Values.{BoundaryValue, StageValue}
+use Rattle.min_res.specs.Defined.{IsStageAt, kernel_value}
 use Rattle.min_res.specs.RecordChecks.{MayFollow, new_boundary}
 
 -- the parts that a boundary and the list of a kernel show
@@ -44,3 +44,10 @@ pub record IsCandidate (G : PGroup) (d : ℕ) (B : BoundaryValue) (kernel : Matr
 pub record IsValueRow (G : PGroup) (d : ℕ) (v : RowValue) : Type 0 where
   pub prime : v.p ≡ prime_of G
   pub count : length v.entries ≡ order_of G * rank_of G d
+
+-- Q are parts modulo p of a free module of at most 2^28 entries, and they may follow the stage s
+pub record MayComeNext (G : PGroup) (s : StageValue) (p : ℕ) (Q : StageParts) : Type 0 where
+  pub last : IsStageAt G s.degree s
+  pub prime : p ≡ prime_of G
+  pub follows : MayFollow G s.degree Q
+  pub small : order_of G * length Q.positions ≤ 2 ^ 28

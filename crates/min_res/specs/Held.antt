@@ -47,3 +47,9 @@ IsFirstFault c f = IsFirstFailure c.algebra.now c.last.now.degree (parts_of_cand
 -- a row in which values of its boundary are written
 abbrev pub IsValueRowOf : Candidate → RowValue → Type 0
 IsValueRowOf c v = IsValueRow c.algebra.now c.last.now.degree v
+
+-- a check may be made at row k of a candidate, with v for the values of its boundary
+pub record MayTest (c : Candidate) (check : Check) (k : ℕ) (v : RowValue) : Type 0 where
+  pub fits : IsFit c
+  pub inside : k < rows_of c check
+  pub value : IsValueRowOf c v

@@ -9,3 +9,4 @@ pub mod Candidates
 pub mod Held
 pub mod LayerProducts
 pub mod Radicals
+pub mod PartRows

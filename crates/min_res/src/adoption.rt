@@ -1,9 +1,9 @@
 //! A stage from parts that come from outside.
 
 ghost use Rattle.group_table.specs.Prime.{prime_value};
-ghost use Rattle.min_res.specs.Candidates.{IsBoundaryBy, IsCandidate, kept_parts, kernel_by};
+ghost use Rattle.min_res.specs.Candidates.{IsBoundaryBy, IsCandidate, MayComeNext, kept_parts, kernel_by};
 ghost use Rattle.min_res.specs.Defined.{IsStageAt};
-ghost use Rattle.min_res.specs.RecordChecks.{IsNotAdopted, MayFollow};
+ghost use Rattle.min_res.specs.RecordChecks.{IsNotAdopted};
 ghost use Rattle.p_groups.specs.PGroups.{order_of, prime_of};
 ghost use Rattle.resolution_stages.specs.Chain.{parts_of};
 ghost use Rattle.min_res.specs.Stages.{stage_rows};
@@ -14,7 +14,7 @@ use crate::boundary::Boundary;
 use crate::candidate::Candidate;
 use crate::check::Check;
 use crate::matrices::{chosen_rows, matrix_of};
-use crate::part_lists::{kernel_of, positions_of, sections_of};
+use crate::part_lists::{PartRows, positions_of, rows_of};
 use crate::parts::StageParts;
 use crate::stage::Stage;
 use fp_rows::{Echelon, FromRows, Row};
@@ -30,10 +30,7 @@ fn boundary_of<S: StageParts>(
     last: &Stage,
     given: &S,
 ) -> Result<Boundary, Memory>
-    requires last { IsStageAt algebra.now last.now.degree last.now }
-    requires prime { S.modulus given.now ≡ prime_of algebra.now }
-    requires follows { MayFollow algebra.now last.now.degree (S.parts given.now) }
-    requires small { order_of algebra.now * length (S.parts given.now).positions ≤ 2 ^ 28 }
+    requires { MayComeNext algebra.now last.now (S.modulus given.now) (S.parts given.now) }
     ensures { IfOk result (IsBoundaryBy algebra.now last.now.degree (S.parts given.now)) }
 {
     let source = last.list().clone()?;
@@ -41,7 +38,14 @@ fn boundary_of<S: StageParts>(
     let rows = chosen_rows(alloc, &source, &positions)?;
     let matrix = matrix_of(alloc, algebra, last.rank(), &rows)?;
     let width = algebra.group().order() as usize * positions.len();
-    let sections = sections_of(alloc, given, source.prime(), width, source.rows())?;
+    let sections = rows_of(
+        alloc,
+        given,
+        PartRows::Sections,
+        source.prime(),
+        width,
+        source.rows(),
+    )?;
     Ok(Boundary {
         source,
         positions,
@@ -57,16 +61,20 @@ fn kernel_list<S: StageParts>(
     last: &Stage,
     given: &S,
 ) -> Result<Echelon, AdoptFault>
-    requires last { IsStageAt algebra.now last.now.degree last.now }
-    requires prime { S.modulus given.now ≡ prime_of algebra.now }
-    requires follows { MayFollow algebra.now last.now.degree (S.parts given.now) }
-    requires small { order_of algebra.now * length (S.parts given.now).positions ≤ 2 ^ 28 }
+    requires { MayComeNext algebra.now last.now (S.modulus given.now) (S.parts given.now) }
     ensures kernel { IfOk result (λ list. list ≡ kernel_by algebra.now (S.parts given.now)) }
     ensures refused { IfErr result (IsNotAdopted algebra.now last.now.degree (S.parts given.now)) }
 {
     let list = last.kernel();
     let width = algebra.group().order() as usize * given.rank();
-    let rows = kernel_of(alloc, given, list.prime(), width, width - list.rows())?;
+    let rows = rows_of(
+        alloc,
+        given,
+        PartRows::Kernel,
+        list.prime(),
+        width,
+        width - list.rows(),
+    )?;
     match Echelon::from_rows(alloc, rows) {
         Ok(kernel) => Ok(kernel),
         Err(FromRows::Not { row, matrix: _ }) => Err(AdoptFault::False {
@@ -116,11 +124,8 @@ pub(crate) fn adopted_stage<S: StageParts>(
     last: &Stage,
     given: &S,
 ) -> Result<Stage, AdoptFault>
-    requires last { IsStageAt algebra.now last.now.degree last.now }
+    requires parts { MayComeNext algebra.now last.now (S.modulus given.now) (S.parts given.now) }
     requires degree { last.now.degree + 1 < 2 ^ 32 }
-    requires prime { S.modulus given.now ≡ prime_of algebra.now }
-    requires follows { MayFollow algebra.now last.now.degree (S.parts given.now) }
-    requires small { order_of algebra.now * length (S.parts given.now).positions ≤ 2 ^ 28 }
     ensures parts { OnOk result (S.parts given.now ≡ parts_of (stage_rows algebra.now) last.now.degree) }
     ensures stage { IfOk result (λ s. IsStageAt algebra.now (suc last.now.degree) s) }
     ensures width { IfOk result (λ s. s.kernel.width ≤ 2 ^ 28) }

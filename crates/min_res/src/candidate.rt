@@ -21,7 +21,7 @@ pub(crate) struct Candidate<'a> {
 impl<'a> Candidate<'a> {
     ghost use Rattle.std.specs.Prelude.{◌≡◌, ◌↔◌, ◌<◌, ◌+◌, IfErr, IfSome, IsNone, IsTrue, OnOk};
     ghost use Rattle.min_res.specs.Held.{IsFit, IsValueRowOf, rows_of, Holds, HoldsThroughout, HoldBelow};
-    ghost use Rattle.min_res.specs.Held.{IsFirstRow, IsFirstFault};
+    ghost use Rattle.min_res.specs.Held.{IsFirstRow, IsFirstFault, MayTest};
     ghost use Rattle.min_res.specs.RecordChecks.{number_of};
 
     // How many rows a check is made at.
@@ -39,9 +39,7 @@ impl<'a> Candidate<'a> {
 
     // Whether the boundary takes row k of the kernel to 0.
     fn kernel_to_zero(&self, k: usize, value: &mut Row) -> bool
-        requires fits { IsFit self.now }
-        requires inside { k < rows_of self.now check_of.KernelToZero }
-        requires value { IsValueRowOf self.now value.old }
+        requires { MayTest self.now check_of.KernelToZero k value.old }
         ensures value { IsValueRowOf self.now value.new }
         ensures holds { IsTrue result ↔ Holds self.now check_of.KernelToZero k }
     {
@@ -51,9 +49,7 @@ impl<'a> Candidate<'a> {
 
     // Whether the boundary takes section k to row k of the list before.
     fn section_to_row(&self, k: usize, value: &mut Row) -> bool
-        requires fits { IsFit self.now }
-        requires inside { k < rows_of self.now check_of.SectionsToRows }
-        requires value { IsValueRowOf self.now value.old }
+        requires { MayTest self.now check_of.SectionsToRows k value.old }
         ensures value { IsValueRowOf self.now value.new }
         ensures holds { IsTrue result ↔ Holds self.now check_of.SectionsToRows k }
     {
@@ -76,9 +72,7 @@ impl<'a> Candidate<'a> {
 
     // Whether a check holds at row k. The kernel is a reduced echelon list: each of its rows is reduced.
     fn holds(&self, check: Check, k: usize, value: &mut Row) -> bool
-        requires fits { IsFit self.now }
-        requires inside { k < rows_of self.now check }
-        requires value { IsValueRowOf self.now value.old }
+        requires { MayTest self.now check k value.old }
         ensures value { IsValueRowOf self.now value.new }
         ensures holds { IsTrue result ↔ Holds self.now check k }
     {

@@ -2,7 +2,8 @@
 
 ghost use Rattle.std.specs.Prelude.{◌≡◌, ◌<◌, ◌≤◌, ◌^◌, length};
 ghost use Rattle.group_algebra.specs.Coordinates.{layers};
-ghost use Rattle.min_res.specs.LayerProducts.{layer_count, AreFirst};
+ghost use Rattle.min_res.specs.LayerProducts.{AreFirst};
+ghost use Rattle.p_groups.specs.PGroups.{order_of};
 
 use fp_rows::{Row, RowRef};
 use group_algebra::Algebra;
@@ -36,7 +37,7 @@ pub(crate) struct LayerProducts<'a> {
     pub(crate) rank: usize,
     members: Members,
     ghost members_are: { AreFirst algebra.now members.before members.count },
-    pub(crate) ghost few: { layer_count algebra.now ≤ 2 ^ 8 },
+    pub(crate) ghost small: { order_of algebra.now ≤ 2 ^ 8 },
 }
 
 impl<'a> LayerProducts<'a> {
@@ -46,7 +47,7 @@ impl<'a> LayerProducts<'a> {
         ensures rank { result.rank ≡ rank }
     {
         let members = first_layer(algebra);
-        let _order = algebra.group().order();
+        prove!(algebra.group().order() <= 256);
         LayerProducts {
             algebra,
             rank,
@@ -85,7 +86,6 @@ impl<'a> Ops for LayerProducts<'a> {
     }
 
     fn apply(&self, i: usize, v: RowRef<'_>, out: &mut Row) {
-        let _order = self.algebra.group().order();
         let member = self.members.before + i;
         self.algebra.multiply_by_member(self.rank, member, v, out);
     }

@@ -37,7 +37,7 @@ fn next_positions(
         → list.now.rows ≡ (stage_rows algebra.now).kernel d → IsRadicalBasis algebra.now d next.1) }
 {
     let basis = radical(alloc, algebra, rank, list)?;
-    let _count = list.rows();
+    prove!(list.rows() <= list.width());
     let positions = greedy(alloc, list, basis.reduced())?;
     Ok((positions, basis))
 }

@@ -3,13 +3,13 @@
 ghost use Rattle.fp_rows.specs.Refs.{entries_of, modulus_of};
 ghost use Rattle.min_res.specs.Defined.{InK, IsExactMinimal, IsSectionOf, IsStageAt, σ};
 ghost use Rattle.min_res.specs.Radicals.{IsRadicalBasis};
-ghost use Rattle.min_res.specs.Refusals.{IsRefusal};
+ghost use Rattle.min_res.specs.Refusals.{AreWithin, IsRefusal};
 ghost use Rattle.min_res.specs.RecordChecks.{IsNotAdopted, MayFollow};
 ghost use Rattle.min_res.specs.Stages.{rank_of, stage_rows};
 ghost use Rattle.min_res.specs.Values.{first_alone};
 ghost use Rattle.resolution_stages.specs.Chain.{parts_of};
-ghost use Rattle.std.specs.Prelude.{◌≡◌, ◌≤◌, ◌<◌, ◌+◌, ◌-◌, ◌*◌, ◌^◌, ◌↔◌, ℕ, suc, true, false, length};
-ghost use Rattle.std.specs.Prelude.{IfErr, IfOk, IfSome, IsNone, OnErr, OnOk};
+ghost use Rattle.std.specs.Prelude.{◌≡◌, ◌≤◌, ◌<◌, ◌+◌, ◌-◌, ◌*◌, ◌^◌, ◌↔◌, ℕ, suc, true, false};
+ghost use Rattle.std.specs.Prelude.{IfErr, IfOk, IfSome, IsNone, OnErr, OnOk, length, max};
 ghost use Rattle.p_groups.specs.PGroups.{order_of, prime_of};
 
 use crate::adopt_fault::AdoptFault;
@@ -101,6 +101,27 @@ impl Resolution {
         self.stages.push(shared)?;
         self.computed += 1;
         self.radical = Some(radical);
+        Ok(())
+    }
+
+    /// Adds the stages up to degree n, where they are not there. `TooLarge` comes exactly where the order of
+    /// the group times the rank is above the limit in one of their degrees, and names the first such degree.
+    /// After an error the stages that were there and those that were added stay.
+    pub fn extend_to(&mut self, n: u32, limit: u64) -> Result<(), ResFault>
+        requires limit { limit ≤ 2 ^ 28 }
+        ensures group { self.new.group ≡ self.old.group }
+        ensures grown { OnOk result (self.new.last ≡ max self.old.last n) }
+        ensures between { (self.old.last ≤ self.new.last) × (self.new.last ≤ max self.old.last n) }
+        ensures computed { self.new.computed + self.old.last ≡ self.old.computed + self.new.last }
+        ensures extended { self.old.last < self.new.last → self.new.extended ≡ true }
+        ensures within { AreWithin self.old.group self.old.last self.new.last limit }
+        ensures refused { IfErr result (IsRefusal self.old.group (suc self.new.last) limit) }
+        ensures below { OnErr result (self.new.last < n) }
+        ensures kept { self.new.last ≡ self.old.last → self.new ≡ self.old }
+    {
+        while self.last() < n {
+            self.extend(limit)?;
+        }
         Ok(())
     }
 

@@ -1,131 +1,41 @@
-ghost use Rattle.std.specs.Prelude.{◌≡◌, ◌<◌, ◌*◌, All, IfOk, length, vec_len};
-ghost use Rattle.group_table.specs.Prime.{prime_value};
-ghost use Rattle.p_groups.specs.PGroups.{order_of, prime_of};
+//! Tests of group algebras.
 
+ghost use Rattle.p_groups.specs.PGroups.{order_of, prime_of};
+ghost use Rattle.std.specs.Prelude.{◌≡◌, ◌*◌, IfOk, length};
+
+use crate::rows::{row_of, shows};
 use fp_rows::{Matrix, Row};
-use group_algebra::*;
-use group_table::{Group, Prime};
-use std::alloc::{AllocError, Global};
+use group_algebra::{Algebra, generators};
+use small_groups::SmallGroup;
+use std::alloc::Global;
 use std::process::Abort;
 use std::test::Fail;
 
-// The group of the p^n elements x^i y^j, i below m and j below q, numbered i + m j: x^m is 1, y^q is x^turn,
-// and y x is x y or x^-1 y.
-#[derive(Clone, Copy)]
-struct Shape {
-    p: Prime,
-    n: u32,
-    m: u16,
-    q: u16,
-    turn: u16,
-    inverts: bool,
-}
-
-const TWO: Shape = Shape {
-    p: Prime::P2,
-    n: 1,
-    m: 2,
-    q: 1,
-    turn: 0,
-    inverts: false,
-};
-
-const CYCLIC_FOUR: Shape = Shape {
-    p: Prime::P2,
-    n: 2,
-    m: 4,
-    q: 1,
-    turn: 0,
-    inverts: false,
-};
-
-const DIHEDRAL: Shape = Shape {
-    p: Prime::P2,
-    n: 3,
-    m: 4,
-    q: 2,
-    turn: 0,
-    inverts: true,
-};
-
-// i is x and j is y.
-const QUATERNION: Shape = Shape {
-    p: Prime::P2,
-    n: 3,
-    m: 4,
-    q: 2,
-    turn: 2,
-    inverts: true,
-};
-
-const NINE: Shape = Shape {
-    p: Prime::P3,
-    n: 2,
-    m: 3,
-    q: 3,
-    turn: 0,
-    inverts: false,
-};
-
-impl Shape {
-    // The product of x^i y^j and x^k y^l.
-    fn product(self, a: u16, b: u16) -> u16
-        requires m { (0 < self.m) × (self.m < 16) }
-        requires q { (0 < self.q) × (self.q < 16) }
-        requires turn { self.turn < 16 }
-    {
-        let (i, j) = (a % self.m, a / self.m % self.q);
-        let (k, l) = (b % self.m, b / self.m % self.q);
-        let moved = if self.inverts && j == 1 {
-            self.m - k
-        } else {
-            k
-        };
-        let turned = if j + l < self.q { 0 } else { self.turn };
-        (i + moved + turned) % self.m + self.m * ((j + l) % self.q)
-    }
-}
-
-fn table_of(
-    rt: &impl Abort,
-    alloc: Global,
-    shape: Shape,
-    order: u16,
-) -> Result<Vec<u16>, AllocError>
-    requires { order < 16 }
-    ensures { IfOk result (λ table. (vec_len table ≡ order * order) × All (λ e. e < order) table.items) }
-{
-    assert!(rt; 0 < shape.m && shape.m < 16 && 0 < shape.q && shape.q < 16 && shape.turn < 16);
-    let mut table = Vec::new(alloc);
-    for place in 0..order * order {
-        table.push(shape.product(place / order, place % order))?;
-    }
-    assert_eq!(rt; table.len(), order as usize * order as usize);
-    assert!(rt; table.iter().all(|e| *e < order));
-    Ok(table)
-}
-
-fn algebra_of(rt: &impl Abort, alloc: Global, shape: Shape) -> Result<Algebra, Fail> {
-    let order = u16::from(shape.p.value())
-        .checked_pow(shape.n)
-        .ok_or("a large group")?;
-    assert!(rt; order < 16);
-    let table = table_of(rt, alloc, shape, order)?;
-    let group = Group::from_table(alloc, shape.p, shape.n, table)?;
+fn algebra_of(alloc: Global, kind: SmallGroup) -> Result<Algebra, Fail> {
+    let group = kind.group(alloc)?;
     Ok(Algebra::build(alloc, &group)?)
+}
+
+fn has_layers(algebra: &Algebra, dimensions: &[usize]) -> bool {
+    if algebra.layers() != dimensions.len() {
+        return false;
+    }
+    for i in 0..dimensions.len() {
+        if algebra.layer_dim(i) != dimensions[i] {
+            return false;
+        }
+    }
+    true
 }
 
 fn assert_layers(
     rt: &impl Abort,
     alloc: Global,
-    shape: Shape,
+    kind: SmallGroup,
     dimensions: &[usize],
 ) -> Result<(), Fail> {
-    let algebra = algebra_of(rt, alloc, shape)?;
-    assert_eq!(rt; algebra.layers(), dimensions.len());
-    for (i, d) in dimensions.iter().enumerate() {
-        assert_eq!(rt; algebra.layer_dim(i), *d, "layer {i}");
-    }
+    let algebra = algebra_of(alloc, kind)?;
+    assert!(rt; has_layers(&algebra, dimensions));
     Ok(())
 }
 
@@ -133,41 +43,84 @@ fn assert_layers(
 // Jennings numbers of the group: e_1 = 1 for C2; 1, 1 for C4; 2, 1 for the groups of order 8; 2 for C3 x C3.
 #[test]
 fn finds_the_radical_layers(rt: HostRuntime) -> Result<(), Fail> {
-    assert_layers(&rt, rt.alloc(), TWO, &[1, 1])?;
-    assert_layers(&rt, rt.alloc(), CYCLIC_FOUR, &[1, 1, 1, 1])?;
-    assert_layers(&rt, rt.alloc(), DIHEDRAL, &[1, 2, 2, 2, 1])?;
-    assert_layers(&rt, rt.alloc(), QUATERNION, &[1, 2, 2, 2, 1])?;
-    assert_layers(&rt, rt.alloc(), NINE, &[1, 2, 3, 2, 1])
+    assert_layers(&rt, rt.alloc(), SmallGroup::Two, &[1, 1])?;
+    assert_layers(&rt, rt.alloc(), SmallGroup::Four, &[1, 1, 1, 1])?;
+    assert_layers(&rt, rt.alloc(), SmallGroup::Dihedral, &[1, 2, 2, 2, 1])?;
+    assert_layers(&rt, rt.alloc(), SmallGroup::Quaternion, &[1, 2, 2, 2, 1])?;
+    assert_layers(&rt, rt.alloc(), SmallGroup::Nine, &[1, 2, 3, 2, 1])
 }
 
-fn are_found(alloc: Global, algebra: &Algebra, elements: &[u16]) -> Result<bool, Fail> {
-    let found = generators(alloc, algebra.group().as_group())?;
-    Ok(found.len() == elements.len() && found.iter().zip(elements).all(|(x, y)| x == y))
+fn are_numbers(found: &[u16], elements: &[u16]) -> bool {
+    if found.len() != elements.len() {
+        return false;
+    }
+    for i in 0..elements.len() {
+        if found[i] != elements[i] {
+            return false;
+        }
+    }
+    true
 }
 
-// x and y generate the quaternions, where y has the number 4.
+// g_1 and g_2 generate the quaternions, and have the numbers 1 and 2.
 #[test]
 fn finds_generators(rt: HostRuntime) -> Result<(), Fail> {
-    let algebra = algebra_of(&rt, rt.alloc(), QUATERNION)?;
-    let found = are_found(rt.alloc(), &algebra, &[1, 4])?;
-    assert!(rt; found);
+    let group = SmallGroup::Quaternion.group(rt.alloc())?;
+    let found = generators(rt.alloc(), &group)?;
+    assert!(rt; are_numbers(&found, &[1, 2]));
     Ok(())
 }
 
-fn row_of(rt: &impl Abort, alloc: Global, p: Prime, entries: &[u8]) -> Result<Row, Fail>
-    ensures { IfOk result (λ r. (r.p ≡ prime_value p) × (length r.entries ≡ length entries.now)) }
+// A zero of kG^rank.
+fn zero_of(rt: &impl Abort, alloc: Global, algebra: &Algebra, rank: usize) -> Result<Row, Fail>
+    ensures { IfOk result (λ r. (r.p ≡ prime_of algebra.now)
+        × (length r.entries ≡ order_of algebra.now * rank)) }
 {
-    let mut row = Row::zero(alloc, p, entries.len())?;
-    for (i, e) in entries.iter().enumerate() {
-        assert!(rt; *e < p.value());
-        row.set(i, *e);
-    }
-    assert_eq!(rt; row.len(), entries.len());
-    Ok(row)
+    assert!(rt; rank < 3);
+    let width = algebra.group().order() as usize * rank;
+    Ok(Row::zero(alloc, algebra.group().prime(), width)?)
 }
 
-fn shows(r: &Row, entries: &[u8]) -> bool {
-    r.len() == entries.len() && r.iter().zip(entries).all(|(x, y)| x == *y)
+// The member of kG^rank with these layer coordinates.
+fn member_of(
+    rt: &impl Abort,
+    alloc: Global,
+    algebra: &Algebra,
+    rank: usize,
+    entries: &[u8],
+) -> Result<Row, Fail>
+    ensures { IfOk result (λ r. (r.p ≡ prime_of algebra.now)
+        × (length r.entries ≡ order_of algebra.now * rank)) }
+{
+    assert!(rt; rank < 3);
+    assert_eq!(rt; entries.len(), algebra.group().order() as usize * rank);
+    row_of(rt, alloc, algebra.group().prime(), entries)
+}
+
+// The layer coordinates of the member with these coefficients are these, and the other way round.
+fn assert_coordinates(
+    rt: &impl Abort,
+    alloc: Global,
+    algebra: &Algebra,
+    coefficients: &[u8],
+    layers: &[u8],
+) -> Result<(), Fail> {
+    let a = member_of(rt, alloc, algebra, 1, coefficients)?;
+    let v = member_of(rt, alloc, algebra, 1, layers)?;
+    let mut out = zero_of(rt, alloc, algebra, 1)?;
+    algebra.to_layers(a.view(), &mut out);
+    assert!(rt; shows(out.view(), layers));
+    let mut back = zero_of(rt, alloc, algebra, 1)?;
+    algebra.from_layers(v.view(), &mut back);
+    assert!(rt; shows(back.view(), coefficients));
+    Ok(())
+}
+
+// In the algebra of C2 the layer basis is 1 and g - 1, so g is their sum.
+#[test]
+fn writes_layer_coordinates_and_coefficients(rt: HostRuntime) -> Result<(), Fail> {
+    let algebra = algebra_of(rt.alloc(), SmallGroup::Two)?;
+    assert_coordinates(&rt, rt.alloc(), &algebra, &[0, 1], &[1, 1])
 }
 
 // The layer coordinates of the member with these coefficients.
@@ -177,217 +130,207 @@ fn layers_of(
     algebra: &Algebra,
     coefficients: &[u8],
 ) -> Result<Row, Fail>
-    ensures { IfOk result (λ r. (r.p ≡ prime_of algebra.now) × (length r.entries ≡ order_of algebra.now)) }
+    ensures { IfOk result (λ r. (r.p ≡ prime_of algebra.now)
+        × (length r.entries ≡ order_of algebra.now * 1)) }
 {
-    let p = algebra.group().prime();
-    let n = algebra.group().order() as usize;
-    assert_eq!(rt; coefficients.len(), n);
-    let a = row_of(rt, alloc, p, coefficients)?;
-    let mut out = Row::zero(alloc, p, n)?;
+    let a = member_of(rt, alloc, algebra, 1, coefficients)?;
+    let mut out = zero_of(rt, alloc, algebra, 1)?;
     algebra.to_layers(a.view(), &mut out);
-    assert_eq!(rt; out.len(), n);
+    assert_eq!(rt; out.len(), algebra.group().order() as usize);
     Ok(out)
 }
 
-// The coefficients of the member with these layer coordinates.
-fn coefficients_of(alloc: Global, algebra: &Algebra, layers: &Row) -> Result<Row, Fail>
-    requires { (layers.now.p ≡ prime_of algebra.now) × (length layers.now.entries ≡ order_of algebra.now) }
-{
-    let mut out = Row::zero(
-        alloc,
-        algebra.group().prime(),
-        algebra.group().order() as usize,
-    )?;
-    algebra.from_layers(layers.view(), &mut out);
-    Ok(out)
-}
-
-// In the algebra of C2 the layer basis is 1 and g - 1, so g is their sum.
-#[test]
-fn writes_layer_coordinates_and_coefficients(rt: HostRuntime) -> Result<(), Fail> {
-    let algebra = algebra_of(&rt, rt.alloc(), TWO)?;
-    let g = layers_of(&rt, rt.alloc(), &algebra, &[0, 1])?;
-    assert!(rt; shows(&g, &[1, 1]));
-    assert!(rt; shows(&coefficients_of(rt.alloc(), &algebra, &g)?, &[0, 1]));
-    Ok(())
-}
-
-// The coefficients of the element g times the member with these coefficients, by way of layer coordinates.
-fn moved(
+// The element g times the member with the first coefficients is the member with the second.
+fn assert_moves(
     rt: &impl Abort,
     alloc: Global,
     algebra: &Algebra,
     g: u16,
-    coefficients: &[u8],
-) -> Result<Row, Fail> {
-    let v = layers_of(rt, alloc, algebra, coefficients)?;
-    let mut out = Row::zero(alloc, algebra.group().prime(), v.len())?;
+    coefficients: (&[u8], &[u8]),
+) -> Result<(), Fail> {
+    let v = layers_of(rt, alloc, algebra, coefficients.0)?;
+    let mut out = zero_of(rt, alloc, algebra, 1)?;
     assert!(rt; g < algebra.group().order());
     algebra.act(1, g, v.view(), &mut out);
-    assert_eq!(rt; out.len(), v.len());
-    coefficients_of(alloc, algebra, &out)
-}
-
-// In the quaternions i is 1, j is 4, i j = k is 5 and j i = -k is 7; and 1 (1 + i + j) = 1 + i + j.
-#[test]
-fn acts_from_the_left(rt: HostRuntime) -> Result<(), Fail> {
-    let algebra = algebra_of(&rt, rt.alloc(), QUATERNION)?;
-    let k = moved(&rt, rt.alloc(), &algebra, 1, &[0, 0, 0, 0, 1, 0, 0, 0])?;
-    assert!(rt; shows(&k, &[0, 0, 0, 0, 0, 1, 0, 0]));
-    let same = moved(&rt, rt.alloc(), &algebra, 0, &[1, 1, 0, 0, 1, 0, 0, 0])?;
-    assert!(rt; shows(&same, &[1, 1, 0, 0, 1, 0, 0, 0]));
+    assert_eq!(rt; out.len(), algebra.group().order() as usize);
+    let mut moved = zero_of(rt, alloc, algebra, 1)?;
+    algebra.from_layers(out.view(), &mut moved);
+    assert!(rt; shows(moved.view(), coefficients.1));
     Ok(())
 }
 
+// In the quaternions i is 1, j is 2, i j = k is 3 and j i = -k is 7; and 1 (1 + i + j) = 1 + i + j.
+#[test]
+fn acts_from_the_left(rt: HostRuntime) -> Result<(), Fail> {
+    let algebra = algebra_of(rt.alloc(), SmallGroup::Quaternion)?;
+    let (j, k) = (&[0, 0, 1, 0, 0, 0, 0, 0], &[0, 0, 0, 1, 0, 0, 0, 0]);
+    assert_moves(&rt, rt.alloc(), &algebra, 1, (j, k))?;
+    let sum = &[1, 1, 1, 0, 0, 0, 0, 0];
+    assert_moves(&rt, rt.alloc(), &algebra, 0, (sum, sum))
+}
+
 // Adds a v to the two blocks of old, and reads the sums of the coefficients of both blocks of v.
-fn added(
+fn assert_added(
     rt: &impl Abort,
     alloc: Global,
     algebra: &Algebra,
-    a: &[u8],
-    v: &[u8],
-    old: &[u8],
-) -> Result<(Row, u8, u8), Fail> {
-    let p = algebra.group().prime();
-    let n = algebra.group().order() as usize;
-    assert!(rt; a.len() == n && v.len() == n * 2 && old.len() == n * 2);
-    let factor = row_of(rt, alloc, p, a)?;
-    let v = row_of(rt, alloc, p, v)?;
-    let mut out = row_of(rt, alloc, p, old)?;
-    algebra.scale_add(2, factor.view(), v.view(), &mut out);
-    Ok((
-        out,
-        algebra.aug(2, 0, v.view()),
-        algebra.aug(2, 1, v.view()),
-    ))
+    factors: (&[u8], &[u8]),
+    blocks: (&[u8], &[u8]),
+) -> Result<(), Fail> {
+    let a = member_of(rt, alloc, algebra, 1, factors.0)?;
+    let v = member_of(rt, alloc, algebra, 2, factors.1)?;
+    let mut out = member_of(rt, alloc, algebra, 2, blocks.0)?;
+    algebra.scale_add(2, a.view(), v.view(), &mut out);
+    assert!(rt; shows(out.view(), blocks.1));
+    Ok(())
 }
 
 // In the algebra of C2 the places of two blocks are 1, 1, g - 1, g - 1; (g - 1)^2 = 0, and g (g - 1) = g - 1.
 #[test]
 fn adds_products_to_two_blocks(rt: HostRuntime) -> Result<(), Fail> {
-    let algebra = algebra_of(&rt, rt.alloc(), TWO)?;
-    let (difference, first, second) = added(
+    let algebra = algebra_of(rt.alloc(), SmallGroup::Two)?;
+    let v = &[1, 0, 0, 1];
+    let (old, sum) = (&[0, 1, 0, 0], &[0, 1, 1, 0]);
+    assert_added(&rt, rt.alloc(), &algebra, (&[0, 1], v), (old, sum))?;
+    assert_added(
         &rt,
         rt.alloc(),
         &algebra,
-        &[0, 1],
-        &[1, 0, 0, 1],
-        &[0, 1, 0, 0],
-    )?;
-    assert!(rt; shows(&difference, &[0, 1, 1, 0]));
-    assert_eq!(rt; (first, second), (1, 0));
-    let (sum, _, _) = added(
-        &rt,
-        rt.alloc(),
-        &algebra,
-        &[1, 1],
-        &[1, 0, 0, 1],
-        &[0, 1, 1, 0],
-    )?;
-    assert!(rt; shows(&sum, &[1, 1, 0, 1]));
+        (&[1, 1], v),
+        (sum, &[1, 1, 0, 1]),
+    )
+}
+
+// The sums of the coefficients of both blocks of a member of the free module of rank 2.
+fn assert_sums(
+    rt: &impl Abort,
+    alloc: Global,
+    algebra: &Algebra,
+    entries: &[u8],
+    sums: (u8, u8),
+) -> Result<(), Fail> {
+    let v = member_of(rt, alloc, algebra, 2, entries)?;
+    assert_eq!(rt; algebra.aug(2, 0, v.view()), sums.0);
+    assert_eq!(rt; algebra.aug(2, 1, v.view()), sums.1);
     Ok(())
 }
 
-// The value at v of the map to kG that takes the first basis element to the first row, and the second to
-// the second.
-fn applied(
-    rt: &impl Abort,
-    alloc: Global,
-    algebra: &Algebra,
-    rows: (&[u8], &[u8]),
-    v: &[u8],
-) -> Result<Row, Fail> {
-    let p = algebra.group().prime();
-    let n = algebra.group().order() as usize;
-    assert!(rt; rows.0.len() == n && rows.1.len() == n && v.len() == n * 2);
-    let mut map = Matrix::new(alloc, p, n);
-    map.push(row_of(rt, alloc, p, rows.0)?.view())?;
-    map.push(row_of(rt, alloc, p, rows.1)?.view())?;
-    let mut out = Row::zero(alloc, p, n)?;
-    algebra.apply(1, &map, row_of(rt, alloc, p, v)?.view(), &mut out);
-    Ok(out)
+#[test]
+fn sums_the_coefficients_of_blocks(rt: HostRuntime) -> Result<(), Fail> {
+    let algebra = algebra_of(rt.alloc(), SmallGroup::Two)?;
+    assert_sums(&rt, rt.alloc(), &algebra, &[1, 0, 0, 1], (1, 0))
 }
 
-// The same at the unit row of place j.
-fn applied_to_unit(
+// Two rows of kG.
+fn two_rows(
     rt: &impl Abort,
     alloc: Global,
     algebra: &Algebra,
     rows: (&[u8], &[u8]),
-    j: usize,
-) -> Result<Row, Fail> {
-    let p = algebra.group().prime();
-    let n = algebra.group().order() as usize;
-    assert!(rt; rows.0.len() == n && rows.1.len() == n && j < n * 2);
-    let mut map = Matrix::new(alloc, p, n);
-    map.push(row_of(rt, alloc, p, rows.0)?.view())?;
-    map.push(row_of(rt, alloc, p, rows.1)?.view())?;
-    let mut out = Row::zero(alloc, p, n)?;
-    algebra.apply_to_unit(1, &map, j, &mut out);
-    Ok(out)
+) -> Result<Matrix, Fail>
+    ensures prime { IfOk result (λ m. m.p ≡ prime_of algebra.now) }
+    ensures width { IfOk result (λ m. m.width ≡ order_of algebra.now * 1) }
+    ensures count { IfOk result (λ m. length m.rows ≡ 2) }
+{
+    let first = member_of(rt, alloc, algebra, 1, rows.0)?;
+    let second = member_of(rt, alloc, algebra, 1, rows.1)?;
+    let mut map = Matrix::new(alloc, algebra.group().prime(), first.len());
+    map.push(first.view())?;
+    map.push(second.view())?;
+    Ok(map)
 }
 
 // The product of member k of the layer basis and v.
-fn multiplied(
+fn assert_multiplied(
     rt: &impl Abort,
     alloc: Global,
     algebra: &Algebra,
     k: usize,
-    v: &[u8],
-) -> Result<Row, Fail> {
-    let p = algebra.group().prime();
-    let n = algebra.group().order() as usize;
-    assert!(rt; k < n && v.len() == n);
-    let mut out = Row::zero(alloc, p, n)?;
-    algebra.multiply_by_member(1, k, row_of(rt, alloc, p, v)?.view(), &mut out);
-    Ok(out)
+    rows: (&[u8], &[u8]),
+) -> Result<(), Fail> {
+    let v = member_of(rt, alloc, algebra, 1, rows.0)?;
+    let mut out = zero_of(rt, alloc, algebra, 1)?;
+    assert!(rt; k < algebra.group().order() as usize);
+    algebra.multiply_by_member(1, k, v.view(), &mut out);
+    assert!(rt; shows(out.view(), rows.1));
+    Ok(())
 }
 
 // In the algebra of C2, with x = g - 1 and x^2 = 0: 1 (1 + x) = 1 + x, and x (1 + x) = x.
 #[test]
 fn multiplies_by_members(rt: HostRuntime) -> Result<(), Fail> {
-    let algebra = algebra_of(&rt, rt.alloc(), TWO)?;
-    assert!(rt; shows(&multiplied(&rt, rt.alloc(), &algebra, 0, &[1, 1])?, &[1, 1]));
-    assert!(rt; shows(&multiplied(&rt, rt.alloc(), &algebra, 1, &[1, 1])?, &[0, 1]));
+    let algebra = algebra_of(rt.alloc(), SmallGroup::Two)?;
+    assert_multiplied(&rt, rt.alloc(), &algebra, 0, (&[1, 1], &[1, 1]))?;
+    assert_multiplied(&rt, rt.alloc(), &algebra, 1, (&[1, 1], &[0, 1]))
+}
+
+// The value at v of the map to kG that takes the basis elements to 1 and 1 + x, where x = g - 1.
+fn assert_applied(
+    rt: &impl Abort,
+    alloc: Global,
+    algebra: &Algebra,
+    v: &[u8],
+    value: &[u8],
+) -> Result<(), Fail> {
+    let map = two_rows(rt, alloc, algebra, (&[1, 0], &[1, 1]))?;
+    let v = member_of(rt, alloc, algebra, 2, v)?;
+    let mut out = zero_of(rt, alloc, algebra, 1)?;
+    algebra.apply(1, &map, v.view(), &mut out);
+    assert!(rt; shows(out.view(), value));
     Ok(())
 }
 
-// In the algebra of C2, with x = g - 1 and x^2 = 0: x 1 + (1 + x) (1 + x) = 1 + x, and 1 + (1 + x) = x.
+// In the algebra of C2, with x^2 = 0: x 1 + (1 + x) (1 + x) = 1 + x, and 1 + (1 + x) = x.
 #[test]
 fn applies_maps_given_by_rows(rt: HostRuntime) -> Result<(), Fail> {
-    let algebra = algebra_of(&rt, rt.alloc(), TWO)?;
-    for (v, value) in [(&[0, 1, 1, 1], &[1, 1]), (&[1, 1, 0, 0], &[0, 1])] {
-        let out = applied(&rt, rt.alloc(), &algebra, (&[1, 0], &[1, 1]), v)?;
-        assert!(rt; shows(&out, value));
-    }
+    let algebra = algebra_of(rt.alloc(), SmallGroup::Two)?;
+    assert_applied(&rt, rt.alloc(), &algebra, &[0, 1, 1, 1], &[1, 1])?;
+    assert_applied(&rt, rt.alloc(), &algebra, &[1, 1, 0, 0], &[0, 1])
+}
+
+// The same at the unit row of place j.
+fn assert_applied_to_unit(
+    rt: &impl Abort,
+    alloc: Global,
+    algebra: &Algebra,
+    j: usize,
+    value: &[u8],
+) -> Result<(), Fail> {
+    let map = two_rows(rt, alloc, algebra, (&[1, 0], &[1, 1]))?;
+    let mut out = zero_of(rt, alloc, algebra, 1)?;
+    assert!(rt; j < algebra.group().order() as usize * 2);
+    algebra.apply_to_unit(1, &map, j, &mut out);
+    assert!(rt; shows(out.view(), value));
     Ok(())
 }
 
 // There the values at the unit rows are 1, 1 + x, x 1 and x (1 + x).
 #[test]
 fn applies_maps_to_unit_rows(rt: HostRuntime) -> Result<(), Fail> {
-    let algebra = algebra_of(&rt, rt.alloc(), TWO)?;
-    for (j, value) in [(0, &[1, 0]), (1, &[1, 1]), (2, &[0, 1]), (3, &[0, 1])] {
-        let out = applied_to_unit(&rt, rt.alloc(), &algebra, (&[1, 0], &[1, 1]), j)?;
-        assert!(rt; shows(&out, value));
-    }
-    Ok(())
+    let algebra = algebra_of(rt.alloc(), SmallGroup::Two)?;
+    assert_applied_to_unit(&rt, rt.alloc(), &algebra, 0, &[1, 0])?;
+    assert_applied_to_unit(&rt, rt.alloc(), &algebra, 1, &[1, 1])?;
+    assert_applied_to_unit(&rt, rt.alloc(), &algebra, 2, &[0, 1])?;
+    assert_applied_to_unit(&rt, rt.alloc(), &algebra, 3, &[0, 1])
 }
+
+// Blocks, members and their places.
+const PLACES: [(usize, usize, usize); 8] = [
+    (0, 0, 0),
+    (1, 0, 1),
+    (0, 1, 2),
+    (1, 1, 4),
+    (1, 2, 5),
+    (0, 3, 6),
+    (1, 3, 9),
+    (1, 8, 17),
+];
 
 // Layers of 1, 2, 3, 2 and 1 members, two blocks.
 #[test]
 fn places_layer_by_layer(rt: HostRuntime) -> Result<(), Fail> {
-    let algebra = algebra_of(&rt, rt.alloc(), NINE)?;
-    for (block, member, place) in [
-        (0, 0, 0),
-        (1, 0, 1),
-        (0, 1, 2),
-        (1, 1, 4),
-        (1, 2, 5),
-        (0, 3, 6),
-        (1, 3, 9),
-        (1, 8, 17),
-    ] {
+    let algebra = algebra_of(rt.alloc(), SmallGroup::Nine)?;
+    for (block, member, place) in PLACES {
         assert!(rt; block < 2 && member < algebra.group().order() as usize);
         assert_eq!(rt;
             algebra.place(2, block, member),

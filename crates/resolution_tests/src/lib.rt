@@ -5,3 +5,7 @@
 mod algebras;
 #[cfg(test)]
 mod resolutions;
+#[cfg(test)]
+mod rows;
+#[cfg(test)]
+mod sections;

@@ -1,30 +1,20 @@
-ghost use Rattle.group_table.specs.Prime.{prime_value};
-ghost use Rattle.min_res.specs.Defined.{InK};
-ghost use Rattle.min_res.specs.Stages.{rank_of};
-ghost use Rattle.std.specs.Prelude.{◌≡◌, ◌*◌, IfOk, IsTrue, length};
-ghost use Rattle.p_groups.specs.PGroups.{order_of, prime_of};
+//! Tests of minimal resolutions.
 
-use fp_rows::{Row, RowRef};
+use crate::rows::shows;
+use fp_rows::Row;
 use group_algebra::Algebra;
-use group_table::Prime;
-use min_res::*;
+use min_res::{ResFault, Resolution, Stage};
 use small_groups::SmallGroup;
 use std::alloc::Global;
 use std::process::Abort;
 use std::test::Fail;
 
-fn resolved(
-    rt: &impl Abort,
-    alloc: Global,
-    kind: SmallGroup,
-    degree: u32,
-) -> Result<Resolution, Fail> {
-    let algebra = Algebra::build(alloc, &kind.group(alloc)?)?;
+/// The resolution to this degree.
+pub(crate) fn resolved(alloc: Global, kind: SmallGroup, degree: u32) -> Result<Resolution, Fail> {
+    let group = kind.group(alloc)?;
+    let algebra = Algebra::build(alloc, &group)?;
     let mut resolution = Resolution::start(alloc, algebra)?;
-    for _d in 0..degree {
-        assert!(rt; resolution.last() < 24);
-        resolution.extend(4096)?;
-    }
+    resolution.extend_to(degree, 4096)?;
     Ok(resolution)
 }
 
@@ -69,13 +59,9 @@ fn has_radical(resolution: &Resolution, vectors: usize) -> bool {
     }
 }
 
-fn shows(r: RowRef<'_>, entries: &[u8]) -> bool {
-    r.len() == entries.len() && (0..r.len()).all(|i| r.get(i) == entries[i])
-}
-
 #[test]
 fn resolves_the_dihedral_group(rt: HostRuntime) -> Result<(), Fail> {
-    let resolution = resolved(&rt, rt.alloc(), SmallGroup::Dihedral, 2)?;
+    let resolution = resolved(rt.alloc(), SmallGroup::Dihedral, 2)?;
     assert!(rt; has_ranks(&resolution, &[(0, 1), (1, 2), (2, 3)]));
     assert!(rt; has_kernels(&resolution, &[(0, 7), (1, 9), (2, 15)]));
     assert!(rt;
@@ -92,7 +78,7 @@ fn resolves_the_dihedral_group(rt: HostRuntime) -> Result<(), Fail> {
 
 #[test]
 fn resolves_the_trivial_group(rt: HostRuntime) -> Result<(), Fail> {
-    let resolution = resolved(&rt, rt.alloc(), SmallGroup::Trivial, 1)?;
+    let resolution = resolved(rt.alloc(), SmallGroup::Trivial, 1)?;
     assert!(rt; has_ranks(&resolution, &[(0, 1), (1, 0)]));
     assert!(rt; has_kernels(&resolution, &[(0, 0), (1, 0)]));
     assert!(rt; has_radical(&resolution, 0));
@@ -101,7 +87,7 @@ fn resolves_the_trivial_group(rt: HostRuntime) -> Result<(), Fail> {
 
 #[test]
 fn has_the_ranks_of_the_quaternion_group(rt: HostRuntime) -> Result<(), Fail> {
-    let resolution = resolved(&rt, rt.alloc(), SmallGroup::Quaternion, 6)?;
+    let resolution = resolved(rt.alloc(), SmallGroup::Quaternion, 6)?;
     assert!(rt;
         has_ranks(
             &resolution,
@@ -113,14 +99,14 @@ fn has_the_ranks_of_the_quaternion_group(rt: HostRuntime) -> Result<(), Fail> {
 
 #[test]
 fn has_no_radical_at_the_start(rt: HostRuntime) -> Result<(), Fail> {
-    let resolution = resolved(&rt, rt.alloc(), SmallGroup::Two, 0)?;
+    let resolution = resolved(rt.alloc(), SmallGroup::Two, 0)?;
     assert!(rt; resolution.radical().is_none());
     Ok(())
 }
 
 #[test]
 fn has_the_ranks_of_an_elementary_group(rt: HostRuntime) -> Result<(), Fail> {
-    let resolution = resolved(&rt, rt.alloc(), SmallGroup::Nine, 4)?;
+    let resolution = resolved(rt.alloc(), SmallGroup::Nine, 4)?;
     assert!(rt; has_ranks(&resolution, &[(0, 1), (1, 2), (2, 3), (3, 4), (4, 5)]));
     Ok(())
 }
@@ -142,9 +128,34 @@ fn names_the_dimension(resolution: &mut Resolution, dimension: u64) -> bool {
 
 #[test]
 fn names_the_dimension_above_the_limit(rt: HostRuntime) -> Result<(), Fail> {
-    let mut resolution = resolved(&rt, rt.alloc(), SmallGroup::Klein, 1)?;
+    let mut resolution = resolved(rt.alloc(), SmallGroup::Klein, 1)?;
     assert!(rt; names_the_dimension(&mut resolution, 12));
     assert_eq!(rt; resolution.last(), 2);
+    Ok(())
+}
+
+// Whether extension to degree 4 ends at degree 3, which this fault names, and the stages before it stay.
+fn ends_at(resolution: &mut Resolution, limit: u64, dimension: u64) -> bool {
+    if limit > 4096 {
+        return false;
+    }
+    let fault = resolution.extend_to(4, limit).err();
+    fault
+        == Some(ResFault::TooLarge {
+            degree: 3,
+            dimension,
+        })
+}
+
+// The ranks of the Klein group are 1, 2, 3, 4 and so on.
+#[test]
+fn extends_to_the_last_degree_within_the_limit(rt: HostRuntime) -> Result<(), Fail> {
+    let mut resolution = resolved(rt.alloc(), SmallGroup::Klein, 0)?;
+    assert!(rt; ends_at(&mut resolution, 12, 16));
+    assert_eq!(rt; resolution.last(), 2);
+    resolution.extend_to(1, 0)?;
+    assert_eq!(rt; resolution.last(), 2);
+    assert_eq!(rt; resolution.computed(), 2);
     Ok(())
 }
 
@@ -181,76 +192,10 @@ fn has_first_value(alloc: Global, stage: &Stage, value: &[u8]) -> Result<bool, F
 // 0.
 #[test]
 fn reads_the_stage_of_two_elements(rt: HostRuntime) -> Result<(), Fail> {
-    let resolution = resolved(&rt, rt.alloc(), SmallGroup::Two, 1)?;
+    let resolution = resolved(rt.alloc(), SmallGroup::Two, 1)?;
     assert!(rt; resolution.last() == 1);
     let stage = resolution.stage_at(1);
     assert!(rt; has_first_rows(stage, &[0, 1], &[0, 1], &[1, 0]));
     assert!(rt; has_first_value(rt.alloc(), stage, &[0, 1])?);
-    Ok(())
-}
-
-fn row_of(rt: &impl Abort, alloc: Global, p: Prime, entries: &[u8]) -> Result<Row, Fail>
-    ensures { IfOk result (λ r. r.p ≡ prime_value p) }
-{
-    let mut row = Row::zero(alloc, p, entries.len())?;
-    for (i, x) in entries.iter().enumerate() {
-        assert!(rt; i < row.len() && *x < p.value());
-        row.set(i, *x);
-    }
-    Ok(row)
-}
-
-// Whether a row is one of the kernel of degree d.
-fn is_in_kernel(resolution: &Resolution, d: u32, v: &Row) -> bool
-    requires { v.now.p ≡ prime_of resolution.now.group }
-    ensures { IsTrue result → InK resolution.now.group d v.now.entries }
-{
-    let Some(stage) = resolution.stage(d) else {
-        return false;
-    };
-    if v.len() != stage.kernel().width() {
-        return false;
-    }
-    stage.kernel().contains(v.view())
-}
-
-// The zero of the free module of degree d.
-fn zero_of(alloc: Global, resolution: &Resolution, d: u32) -> Result<Row, Fail>
-    ensures prime { IfOk result (λ r. r.p ≡ prime_of resolution.now.group) }
-    ensures width { IfOk result (λ r. length r.entries
-        ≡ order_of resolution.now.group * rank_of resolution.now.group d) }
-{
-    let p = resolution.algebra().group().prime();
-    let stage = resolution.stage(d).ok_or("no stage")?;
-    let row = Row::zero(alloc, p, stage.kernel().width())?;
-    Ok(row)
-}
-
-// The section, under the boundary of degree d, of a row of the kernel of degree d - 1.
-fn section_of(
-    rt: &impl Abort,
-    alloc: Global,
-    resolution: &Resolution,
-    d: u32,
-    entries: &[u8],
-) -> Result<Row, Fail> {
-    assert!(rt; 0 < d && d <= resolution.last());
-    let v = row_of(rt, alloc, resolution.algebra().group().prime(), entries)?;
-    assert!(rt; is_in_kernel(resolution, d - 1, &v));
-    let mut out = zero_of(alloc, resolution, d)?;
-    resolution.section(d, v.view(), &mut out);
-    Ok(out)
-}
-
-// The group algebra of three elements has the layer basis 1, X = g - 1, X^2. The boundary of degree 1 takes 1
-// to X and that of degree 2 takes 1 to X^2, so their kernels are the multiples of X^2 and of X: the sections
-// of 2 X + X^2 and of 2 X^2 are 2 + X and 2.
-#[test]
-fn sections_of_three_elements(rt: HostRuntime) -> Result<(), Fail> {
-    let resolution = resolved(&rt, rt.alloc(), SmallGroup::Three, 2)?;
-    let first = section_of(&rt, rt.alloc(), &resolution, 1, &[0, 2, 1])?;
-    assert!(rt; shows(first.view(), &[2, 1, 0]));
-    let second = section_of(&rt, rt.alloc(), &resolution, 2, &[0, 0, 2])?;
-    assert!(rt; shows(second.view(), &[2, 0, 0]));
     Ok(())
 }

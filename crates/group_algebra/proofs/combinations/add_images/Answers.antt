@@ -1,4 +1,5 @@
-use Rattle.std.proofs.Common.{◌≡◌, ℕ, List, ◌+◌, ◌*◌, arith}
+use Rattle.std.proofs.Common.{◌≡◌, ℕ, List, ◌+◌, ◌*◌, ◌<◌, arith, sym, ◌∙◌}
+use mathlib.Core.Path.{subst}
 use Rattle.linear_algebra.specs.Rows.{entry}
 use Rattle.fp_rows.specs.Refs.{entries_of}
 use Rattle.group_algebra.specs.Gains.{image_at}
@@ -38,3 +39,12 @@ loop-k-preserved c =
           (λ i l m j. let z : entry a i ≡ 0 = c.next_place-k-in-loop-k.ensures.before i l m in
           rw z (omega arith));
     }
+
+pub add-requires-clause-images : goal.add-requires-clause-images
+add-requires-clause-images c = record {
+  prime = c.requires.images.prime ∙ sym c.loop-k.invariant.added.prime;
+  width = c.requires.images.width ∙ sym c.loop-k.invariant.added.count;
+  few = c.requires.images.few;
+  factors = λ i l. subst (λ p. entry c.args.images.factors.now i < p) (sym c.loop-k.invariant.added.prime)
+      (c.requires.images.factors i l);
+}

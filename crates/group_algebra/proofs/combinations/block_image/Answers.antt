@@ -1,5 +1,6 @@
 use Rattle.std.proofs.Common.{◌≡◌, ℕ, ◌*◌, ◌<◌, get_or, length, arith, ap}
 use Rattle.std.proofs.Common.{sym, ◌∙◌}
+use mathlib.Core.Path.{subst}
 use Rattle.std.proofs.lemmas.List.{length-replicate, get_or-replicate}
 use Rattle.linear_algebra.specs.Modular.{sum_below}
 use Rattle.linear_algebra.specs.Rows.{entry}
@@ -20,12 +21,12 @@ no-terms n x y h = sum_below-same n (λ k. x k * y k) (λ k. 0) (λ k l. rw (h k
 
 pub loop-i-init : goal.loop-i-init
 loop-i-init c = record {
-  prime = ap (λ (v : RowValue). v.p) c.zero-sum.ensures ∙ c.prime.ensures ∙ c.requires.prime;
+  prime = ap (λ (v : RowValue). v.p) c.zero-sum.ensures ∙ c.prime.ensures ∙ c.requires.images.prime;
   count = ap (λ (v : RowValue). length v.entries) c.zero-sum.ensures ∙ length-replicate c.width.result 0
-      ∙ c.width.ensures ∙ c.requires.width;
+      ∙ c.width.ensures ∙ c.requires.images.width;
   start = c.requires.begins.start_is;
   image = λ j l. congruent_eq (ap (λ (v : RowValue). entry v.entries j) c.zero-sum.ensures
-      ∙ get_or-replicate c.width.result j 0 0 (omega (arith, l, c.width.ensures, c.requires.width))
+      ∙ get_or-replicate c.width.result j 0 0 (omega (arith, l, c.width.ensures, c.requires.images.width))
       ∙ sym (no-terms (start_at c.args.places.now c.args.v.layer)
       (λ k. entry (entries_of c.args.v.row) (place_of c.args.places.now c.args.rank c.args.block k))
       (λ k. image_at c.args.images.rows.now.rows c.args.images.first c.args.images.step
@@ -63,3 +64,12 @@ loop-i-preserved c =
             c.size-size.ensures.value,
           ) at (c.add_images.ensures.sums j (omega (arith, l, c.loop-i.invariant.count)))));
     }
+
+pub add_images-requires-clause-images : goal.add_images-requires-clause-images
+add_images-requires-clause-images c = record {
+  prime = c.requires.images.prime ∙ sym c.loop-i.invariant.prime;
+  width = c.requires.images.width ∙ sym c.loop-i.invariant.count;
+  few = c.requires.images.few;
+  factors = λ i l. subst (λ p. entry c.args.images.factors.now i < p) (sym c.loop-i.invariant.prime)
+      (c.requires.images.factors i l);
+}

@@ -9,7 +9,7 @@ add_all-requires-clause-products c = rw (
 
 pub returns-clause-here : goal.returns-clause-here
 returns-clause-here c = rw c.in_ok-push.ensures.items
-    (generator-product _ c.args.found.now.items c.args.g c.order-order.ensures.law c.requires.below)
+    (generator-product _ c.args.found.now.items c.args.g c.order.ensures.law c.requires.below)
 
 pub returns-clause-before : goal.returns-clause-before
 returns-clause-before c = rw c.in_ok-push.ensures.items (λ x h. product-push _ _ c.args.g x h)

@@ -1,28 +1,21 @@
 use Rattle.std.proofs.Common.{◌≡◌, ℕ, List, length, ap, sym, ◌∙◌}
 use Rattle.group_table.specs.Tables.{order}
 use Rattle.linear_algebra.specs.Kernels.{unit_row}
-use Rattle.linear_algebra.specs.Rows.{combination_row, entry, IsRow, IsMatrix}
+use Rattle.linear_algebra.specs.Rows.{combination_row, entry}
 use Rattle.linear_algebra.proofs.AugmentLemmas.{length-unit_row}
-use Rattle.linear_algebra.proofs.CombinationRows.{combination_row-is_row}
 use Rattle.fp_rows.specs.Refs.{entries_of}
 use Rattle.fp_rows.specs.Values.{RowValue}
-use Rattle.p_groups.specs.PGroups.{PGroup}
 use Rattle.group_algebra.specs.Coefficients.{AreSumCoordinates}
 use Rattle.group_algebra.specs.Tables.{IsElementRow}
-use Rattle.group_algebra.proofs.Combined.{positive}
+use Rattle.group_algebra.proofs.Combined.{length-combination_row}
 use Rattle.group_algebra.proofs.TableLemmas.{each-pushed, shape-pushed, element-row}
 use Rattle.group_algebra.proofs.tables.element_rows.Goals as goal
 
 pub push-requires-clause-same_width : goal.push-requires-clause-same_width
 push-requires-clause-same_width c =
-    let G : PGroup = c.args.group.now in
-    let M : IsMatrix G.table.p (order G.table) c.args.units.now.rows =
-    rw (c.requires.units.prime, c.requires.units.width) at c.rows-units.ensures.matrix in
-    ap length (c.view-in-loop-g-2.ensures.entries
-    ∙ (rw (c.requires.units.prime, c.requires.units.width) at
-    (ap (λ (r : RowValue). r.entries) c.combine.ensures)))
-    ∙ (combination_row-is_row G.table.p (order G.table) (positive G) _ _ M).length_is
-    ∙ sym c.loop-g.invariant.1.width
+    ap length (c.view-in-loop-g-2.ensures.entries ∙ ap (λ (r : RowValue). r.entries) c.combine.ensures)
+    ∙ length-combination_row c.args.units.now.p c.args.units.now.width
+    (entry (entries_of c.view-in-loop-g.result)) c.args.units.now.rows ∙ c.requires.units.width ∙ sym c.loop-g.invariant.1.width
 
 pub loop-g-preserved : goal.loop-g-preserved
 loop-g-preserved c =
@@ -47,12 +40,8 @@ loop-g-preserved c =
       c.requires.units.prime,
       c.requires.units.width,
     ) at (ap (λ (r : RowValue). r.entries) c.combine.ensures) in
-    let M : IsMatrix P n U = rw (
-      c.requires.units.prime,
-      c.requires.units.width,
-    ) at c.rows-units.ensures.matrix in
-    let r : IsRow P n c.combine.new.out.entries =
-    rw e (combination_row-is_row P n (positive c.args.group.now) (entry s) U M) in (
+    let count : length c.combine.new.out.entries ≡ n =
+    ap length e ∙ length-combination_row P n (entry s) U in (
       c.loop-g.invariant.0,
       shape-pushed c.args.group.now c.loop-g.g c.loop-g.m c.push.new.self
           (entries_of c.view-in-loop-g-2.result) c.loop-g.invariant.1 c.in_ok-push.ensures.pushed,
@@ -62,7 +51,7 @@ loop-g-preserved c =
             ∙ c.loop-g.invariant.2.1,
       ),
       (c.write_sum_coordinates.ensures.prime ∙ c.loop-g.invariant.3.0, S.coordinates.length_is),
-      (ap (λ (r : RowValue). r.p) c.combine.ensures ∙ c.loop-g.invariant.4.0, r.length_is),
+      (ap (λ (r : RowValue). r.p) c.combine.ensures ∙ c.loop-g.invariant.4.0, count),
       rw c.in_ok-push.ensures.pushed (each-pushed (IsElementRow c.args.group.now) c.loop-g.m.rows
           (entries_of c.view-in-loop-g-2.result) c.loop-g.invariant.5
           (rw (c.loop-g.invariant.1.rows, c.view-in-loop-g-2.ensures.entries)

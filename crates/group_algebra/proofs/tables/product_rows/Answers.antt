@@ -9,15 +9,17 @@ use Rattle.p_groups.specs.PGroups.{PGroup}
 use Rattle.group_algebra.specs.Tables.{HasShape, IsProductRow}
 use Rattle.group_algebra.proofs.Combined.{combined, positive}
 use Rattle.group_algebra.proofs.TableLemmas.{each-appended, shape-appended, product-of-members}
+use Rattle.group_algebra.proofs.TableLemmas.{translates-matrix}
 use Rattle.group_algebra.proofs.tables.product_rows.Goals as goal
 
-pub translates_of-requires : goal.translates_of-requires
-translates_of-requires c =
+pub rows_between-requires-clause-inside : goal.rows_between-requires-clause-inside
+rows_between-requires-clause-inside c =
     let n : ℕ = order c.args.group.now.table in
     let l : c.loop-l.l < n = subst (λ m. c.loop-l.l < m) c.loop-l.invariant.order_is c.loop-l-test.true in
     let z : (c.loop-l.l + 1) * n ≤ n * n =
     mul-le-mul_right n (let y : c.loop-l.l + 1 ≤ n = omega (arith, l) in y) in
-    record { inside = rw (c.loop-l.invariant.order_is, c.requires.translates.rows) z }
+    rw (c.loop-l.invariant.order_is, c.requires.translates.rows)
+    (let y : c.loop-l.l * n + n ≤ n * n = omega (arith, z) in y)
 
 pub loop-l-preserved : goal.loop-l-preserved
 loop-l-preserved c =
@@ -31,12 +33,14 @@ loop-l-preserved c =
     let f : List ℕ → List ℕ = λ u. combination_row G.table.p n (entry u) W in
     let p : c.in_ok-moved.moved.p ≡ G.table.p = c.in_ok-moved.ensures.prime ∙ c.requires.translates.prime in
     let w : c.in_ok-moved.moved.width ≡ n = c.in_ok-moved.ensures.width ∙ c.requires.translates.width in
-    let M : IsMatrix G.table.p n W = rw (p, w) at c.rows-moved.ensures.matrix in
-    let count : length W ≡ n = c.in_ok-moved.ensures.count ∙ I.order_is in
+    let count : length W ≡ n = omega (arith, c.in_ok-moved.ensures.count, I.order_is) in
     let inside : l < n = subst (λ m. l < m) I.order_is c.loop-l-test.true in
     let W-is : (g : ℕ) → g < n → row W g ≡ row T (l * n + g) =
-    λ g b. c.in_ok-moved.ensures.rows g (subst (λ m. g < m) (sym I.order_is) b)
+    λ g b. c.in_ok-moved.ensures.rows g
+    (let m : g < c.order-n.result = subst (λ m. g < m) (sym I.order_is) b in omega (arith, m))
     ∙ ap (λ m. row T (l * m + g)) I.order_is in
+    let M : IsMatrix G.table.p n W =
+    translates-matrix G T W l c.requires.translates.rows count c.requires.translate_rows W-is inside in
     let pushed : c.push_combinations.new.m ≡ record c.loop-l.m { rows = c.loop-l.m.rows ++ map f B } =
     rw (p, w) at c.in_ok-push_combinations.ensures in
     let len : length (map f B) ≡ n = length-map B f ∙ c.requires.members.rows in

@@ -1,16 +1,15 @@
-use Rattle.std.proofs.Common.{◌≡◌, ◌++◌, ◌∷◌, [], ◌<◌, ◌+◌, ℕ, List, length, map, take, arith, ap}
+use Rattle.std.proofs.Common.{◌≡◌, ◌++◌, ◌∷◌, [], ◌+◌, ℕ, List, length, map, take, ap}
 use Rattle.std.proofs.Common.{sym, ◌∙◌}
 use Rattle.std.proofs.lemmas.List.{length-replicate, append-nil}
 use Rattle.std.proofs.Math.Seq.{take-length}
 use Rattle.linear_algebra.specs.Rows.{combination_row, entry, row}
-use Rattle.linear_algebra.proofs.CombinationRows.{combination_row-is_row}
-use Rattle.fp_rows.specs.Refs.{entries_of, modulus_of}
+use Rattle.fp_rows.specs.Refs.{entries_of}
 use Rattle.fp_rows.specs.Values.{RowValue, MatrixValue}
 use Rattle.fp_rows.proofs.Turns.{AreLeft, IsRowTurn, passed, passed-start, passed-turn, row-turn, row-end}
 use Rattle.fp_rows.proofs.Turns.{turn-width}
+use Rattle.group_algebra.proofs.Combined.{length-combination_row}
 use Rattle.group_algebra.proofs.ListLemmas.{pushed-image}
 use Rattle.group_algebra.proofs.tables.push_combinations.Goals as goal
-use Rattle.group_algebra.proofs.tables.push_combinations.Goals.{After-view}
 
 pub loop-c-init : goal.loop-c-init
 loop-c-init c =
@@ -30,15 +29,6 @@ loop-c-init c =
           (ap (λ k. M.rows ++ map f (take k C.rows)) s.0 ∙ append-nil M.rows));
     }
 
-some : (c : After-view) → 0 < c.args.rows.now.p
-some c =
-    let t : IsRowTurn c.args.coefficients.now
-    (passed c.args.coefficients.now c.loop-c.c-iterator) c.in-Some.c.now c.next.new.self =
-    row-turn _ _ _ c.loop-c.c-iterator _ c.loop-c.invariant.left c.in-Some.ensures.steps in
-    let e : modulus_of c.view.result ≡ c.args.rows.now.p = c.view.ensures.modulus ∙ t.prime
-    ∙ c.requires.primes.0 in
-    let above : 1 < modulus_of c.view.result = c.view.result.above_one in omega (arith, above, e)
-
 pub combine-requires-clause-coefficients : goal.combine-requires-clause-coefficients
 combine-requires-clause-coefficients c =
     let t : IsRowTurn c.args.coefficients.now
@@ -51,8 +41,7 @@ pub push-requires-clause-same_width : goal.push-requires-clause-same_width
 push-requires-clause-same_width c =
     let R : MatrixValue = c.args.rows.now in
     ap length c.view-in-loop-c.ensures.entries ∙ ap (λ (r : RowValue). length r.entries) c.combine.ensures
-    ∙ (combination_row-is_row R.p R.width (some (goal.at.push-requires-clause-same_width c).After-view)
-    (entry (entries_of c.view.result)) R.rows c.rows-rows.ensures.matrix).length_is
+    ∙ length-combination_row R.p R.width (entry (entries_of c.view.result)) R.rows
     ∙ sym c.requires.same_width ∙ sym (ap (λ (m : MatrixValue). m.width) c.loop-c.invariant.pushed)
 
 pub loop-c-preserved : goal.loop-c-preserved
@@ -76,8 +65,7 @@ loop-c-preserved c =
       left = u.1;
       prime = ap (λ (r : RowValue). r.p) c.combine.ensures ∙ I.prime;
       length_is = ap length made
-          ∙ (combination_row-is_row R.p R.width (some (goal.at.loop-c-preserved c).After-view)
-          (entry (entries_of c.view.result)) R.rows c.rows-rows.ensures.matrix).length_is
+          ∙ length-combination_row R.p R.width (entry (entries_of c.view.result)) R.rows
           ∙ sym c.requires.same_width;
       pushed = c.in_ok-push.ensures.pushed
           ∙ ap (λ (m : MatrixValue). record m { rows = m.rows ++ y ∷ [] }) I.pushed

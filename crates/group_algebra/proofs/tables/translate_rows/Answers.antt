@@ -1,26 +1,19 @@
 use Rattle.std.proofs.Common.{◌≡◌, ◌<◌, ◌+◌, ◌*◌, ◌/◌, ◌%◌, length, ap, sym, ◌∙◌}
 use Rattle.group_table.specs.Tables.{order}
-use Rattle.linear_algebra.specs.Rows.{row, IsMatrix}
-use Rattle.linear_algebra.proofs.CombinationRows.{combination_row-is_row}
-use Rattle.p_groups.specs.PGroups.{PGroup}
+use Rattle.linear_algebra.specs.Rows.{entry, row}
 use Rattle.fp_rows.specs.Refs.{entries_of}
 use Rattle.group_algebra.specs.Coefficients.{IsTranslate}
 use Rattle.fp_rows.specs.Values.{RowValue}
-use Rattle.group_algebra.proofs.Combined.{IsCombined, combined, positive}
+use Rattle.group_algebra.proofs.Combined.{IsCombined, combined, length-combination_row, positive}
 use Rattle.group_algebra.specs.Tables.{IsTranslateRow}
-use Rattle.group_algebra.proofs.TableLemmas.{each-pushed, shape-pushed, split, translate-row}
+use Rattle.group_algebra.proofs.TableLemmas.{each-pushed, elements-matrix, shape-pushed, split, translate-row}
 use Rattle.group_algebra.proofs.tables.translate_rows.Goals as goal
 
 pub push-requires-clause-same_width : goal.push-requires-clause-same_width
 push-requires-clause-same_width c =
-    let G : PGroup = c.args.group.now in
-    let M : IsMatrix G.table.p (order G.table) c.args.elements.now.rows =
-    rw (c.requires.elements.prime, c.requires.elements.width) at c.rows-elements.ensures.matrix in
-    ap length (c.view-in-loop-i.ensures.entries
-    ∙ (rw (c.requires.elements.prime, c.requires.elements.width) at
-    (ap (λ (r : RowValue). r.entries) c.combine.ensures)))
-    ∙ (combination_row-is_row G.table.p (order G.table) (positive G) _ _ M).length_is
-    ∙ sym c.loop-i.invariant.1.width
+    ap length (c.view-in-loop-i.ensures.entries ∙ ap (λ (r : RowValue). r.entries) c.combine.ensures)
+    ∙ length-combination_row c.args.elements.now.p c.args.elements.now.width (entry (entries_of c.view.result))
+    c.args.elements.now.rows ∙ c.requires.elements.width ∙ sym c.loop-i.invariant.1.width
 
 pub loop-i-preserved : goal.loop-i-preserved
 loop-i-preserved c =
@@ -42,7 +35,7 @@ loop-i-preserved c =
     (order c.args.group.now.table) c.write_translate.new.out.entries
     (row c.args.elements.now.rows) c.combine.new.out.entries =
     combined c.write_translate.new.out.entries c.args.elements.now.rows _ (positive c.args.group.now)
-    (rw (E.prime, E.width) at c.rows-elements.ensures.matrix) E.rows
+    (elements-matrix c.args.group.now c.args.elements.now.rows E.rows c.requires.element_rows) E.rows
     (rw (c.view.ensures.entries, E.prime, E.width) at
     (ap (λ (r : RowValue). r.entries) c.combine.ensures)) in (
       c.loop-i.invariant.0,

@@ -9,7 +9,7 @@ pub test-requires-clause-candidate : goal.test-requires-clause-candidate
 test-requires-clause-candidate g c =
     candidate c.args.algebra.now c.args.last.now.degree (g.S.StageParts.parts c.args.given.now)
     c.in_ok-boundary.boundary c.in_ok-kernel.kernel c.in_ok-boundary.ensures c.in_ok-kernel.ensures.kernel
-    c.requires.follows c.requires.small
+    c.requires.parts.follows c.requires.parts.small
 
 pub returns-in_err-test-clause-refused : goal.returns-in_err-test-clause-refused
 returns-in_err-test-clause-refused g c =

@@ -7,7 +7,7 @@ use Rattle.min_res.proofs.next.next_positions.Goals as goal
 pub greedy-requires-clause-few : goal.greedy-requires-clause-few
 greedy-requires-clause-few c = omega (
   arith,
-  echelon-count c.args.list.now.rows c.rows-count.ensures.matrix c.rows-count.ensures.echelon,
+  echelon-count c.args.list.now.rows c.rows.ensures.matrix c.rows.ensures.echelon,
   c.requires.small,
 )
 

@@ -10,6 +10,7 @@ use Rattle.neg_basis.proofs.ImageLemmas.{echelon-count}
 use Rattle.min_res.specs.LayerProducts.{layer_count}
 use Rattle.min_res.specs.Radicals.{IsRadicalBasis}
 use Rattle.min_res.specs.Stages.{stage_rows, rank_of}
+use Rattle.min_res.proofs.ProductMaps.{few-members}
 use Rattle.min_res.proofs.RadicalBases.{IsBasisOfImages, radical-found, positions-by-basis}
 use Rattle.min_res.proofs.radicals.radical.Goals as goal
 
@@ -48,7 +49,12 @@ overflow_mul-images c = let few_rows : c.rows-rows.result ≤ 2 ^ 28 = omega (
   c.requires.small,
 ) in
     let few_maps : c.count-count.result ≤ 2 ^ 8 =
-    omega (arith, c.count-count.ensures, c.new-products.result.few) in
+    omega (
+      arith,
+      c.count-count.ensures,
+      few-members c.new-products.result.algebra.now,
+      c.new-products.result.small,
+    ) in
     omega (arith, mul-le c.rows-rows.result c.count-count.result (2 ^ 28) (2 ^ 8) few_rows few_maps)
 
 pub of_images-requires-clause-same_field : goal.of_images-requires-clause-same_field
@@ -61,7 +67,11 @@ of_images-requires-clause-same_width c = c.requires.list_width
     (sym c.new-products.ensures.rank)
 
 pub of_images-requires-clause-maps_fit : goal.of_images-requires-clause-maps_fit
-of_images-requires-clause-maps_fit c = omega (arith, c.new-products.result.few)
+of_images-requires-clause-maps_fit c = omega (
+  arith,
+  few-members c.new-products.result.algebra.now,
+  c.new-products.result.small,
+)
 
 pub of_images-requires-clause-images_fit : goal.of_images-requires-clause-images_fit
 of_images-requires-clause-images_fit c = let e : c.rows-rows.result * c.count-count.result

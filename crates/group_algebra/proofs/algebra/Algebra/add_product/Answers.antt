@@ -14,7 +14,7 @@ use Rattle.group_algebra.proofs.BlockSums.{block, entry-block, block-is, block-i
 use Rattle.group_algebra.proofs.Factors.{reach-within}
 use Rattle.group_algebra.proofs.LayerRows.{size-is}
 use Rattle.group_algebra.proofs.Members.{residue-row}
-use Rattle.group_algebra.proofs.ImageLemmas.{row-of-ref, product-gained, nothing-gained}
+use Rattle.group_algebra.proofs.ImageLemmas.{few-rows, row-of-ref, product-gained, nothing-gained}
 use Rattle.group_algebra.proofs.algebra.Algebra.add_product.Goals as goal
 
 pub add_image-requires-clause-lengths : goal.add_image-requires-clause-lengths
@@ -25,20 +25,27 @@ add_image-requires-clause-lengths c =
       (rw (← c.self.view_is) at c.requires.out_length) ∙ ap (λ k. k * c.args.rank) (sym size),
     )
 
-pub add_image-requires-clause-small : goal.add_image-requires-clause-small
-add_image-requires-clause-small c =
+pub add_image-requires-clause-images : goal.add_image-requires-clause-images
+add_image-requires-clause-images c =
     let size : size_of c.self.inside.places ≡ order c.self.inside.group.table =
     ap size_of c.self.invariant.sizes_are ∙ size-is c.self.inside.group in
-    let v : length (entries_of c.args.v) ≡ order c.self.inside.group.table * c.args.rank =
-    rw (← c.self.view_is) at c.requires.length in
-    subst (λ k. k < 2 ^ 64) (v ∙ ap (λ k. k * c.args.rank) (sym size))
-    (rw c.len-length.ensures.count at c.len-length.type_inv)
-
-pub add_image-requires-clause-width : goal.add_image-requires-clause-width
-add_image-requires-clause-width c =
-    let size : size_of c.self.inside.places ≡ order c.self.inside.group.table =
-    ap size_of c.self.invariant.sizes_are ∙ size-is c.self.inside.group in
-    c.self.invariant.product_shape.width ∙ sym size
+    let fs : List ℕ = c.factors_of-factors.result in
+    let n : ℕ = c.order-n.result in
+    let count : length (take n fs) ≡ n = length-take-le n fs
+    (omega (arith, c.order-n.ensures.small, c.factors_of-factors.ensures.count)) in
+    let below : (k : ℕ) → k < order c.self.inside.group.table → entry fs k < c.self.inside.group.table.p =
+    subst (λ (X : PGroup). (k : ℕ) → k < order X.table → entry fs k < X.table.p) (sym c.self.view_is)
+    c.factors_of-factors.ensures.below in
+    let p : c.args.out.now.p ≡ c.self.inside.group.table.p = rw (← c.self.view_is) at c.requires.prime in
+    record {
+      prime = c.self.invariant.product_shape.prime ∙ sym p;
+      width = c.self.invariant.product_shape.width ∙ sym size;
+      few = few-rows _ _ c.self.invariant.small c.self.invariant.product_shape.rows;
+      factors = λ i l.
+          let m : i < n = omega (arith, l, count) in
+          subst (λ q. entry (take n fs) i < q) (sym p) (subst (λ y. y < c.self.inside.group.table.p)
+          (sym (get_or-take n fs i 0 m)) (below i (omega (arith, m, c.order-n.ensures.value))));
+    }
 
 pub add_image-requires-clause-short : goal.add_image-requires-clause-short
 add_image-requires-clause-short c =
@@ -117,11 +124,17 @@ is_zero_block-requires-clause-length c =
     ap size_of c.self.invariant.sizes_are ∙ size-is c.self.inside.group in
     (rw (← c.self.view_is) at c.requires.factor_length) ∙ ap (λ k. k * c.args.a.count) (sym size)
 
+-- a block's row has as many entries as a length can tell
+pub factors_of-factors-requires-clause-fits : goal.factors_of-factors-requires-clause-fits
+factors_of-factors-requires-clause-fits c = subst (λ k. k < 2 ^ 64) c.requires.factor_length
+    (rw c.len-3.ensures.count at c.len-3.type_inv)
+
 pub is_zero_block-requires-clause-small : goal.is_zero_block-requires-clause-small
 is_zero_block-requires-clause-small c =
     let size : size_of c.self.inside.places ≡ order c.self.inside.group.table =
     ap size_of c.self.invariant.sizes_are ∙ size-is c.self.inside.group in
-    rw size (rw (← c.self.view_is) at c.requires.fits)
+    rw size (rw (← c.self.view_is) at (subst (λ k. k < 2 ^ 64) c.requires.factor_length
+    (rw c.len-3.ensures.count at c.len-3.type_inv)))
 
 pub returns-then-is_zero_block-clause-gained : goal.returns-then-is_zero_block-clause-gained
 returns-then-is_zero_block-clause-gained c a' B' =

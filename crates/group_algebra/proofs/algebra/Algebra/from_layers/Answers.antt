@@ -7,6 +7,7 @@ use Rattle.p_groups.specs.PGroups.{PGroup}
 use Rattle.group_algebra.proofs.Combined.{IsCombined, combined, positive}
 use Rattle.group_algebra.proofs.ElementRows.{coefficients-of-row}
 use Rattle.group_algebra.proofs.ImageLemmas.{row-of-ref}
+use Rattle.group_algebra.proofs.TableLemmas.{members-matrix}
 use Rattle.group_algebra.proofs.algebra.Algebra.from_layers.Goals as goal
 
 pub returns-clause-coefficients : goal.returns-clause-coefficients
@@ -17,7 +18,7 @@ returns-clause-coefficients c =
     let C : IsCombined G.table.p (order G.table) x
     (row c.self.inside.members.rows) c.combine.new.out.entries =
     combined x c.self.inside.members.rows _ (positive G)
-    (rw (H.prime, H.width) at c.rows-members.ensures.matrix) H.rows
+    (members-matrix G c.self.inside.members.rows H.rows c.self.invariant.members_are) H.rows
     (rw (H.prime, H.width) at (ap (λ (r : RowValue). r.entries) c.combine.ensures)) in
     let r : IsRow G.table.p (order G.table) x =
     row-of-ref x (rw (← c.self.view_is) at c.requires.length)

@@ -1,4 +1,4 @@
-use Rattle.std.proofs.Common.{◌≡◌, ℕ, List, [], ◌<◌, ◌*◌, ◌^◌, length, replicate, ap, sym, ◌∙◌}
+use Rattle.std.proofs.Common.{◌≡◌, ℕ, List, [], ◌<◌, ◌*◌, length, replicate, arith, ap, sym, ◌∙◌}
 use Rattle.std.proofs.lemmas.List.{length-replicate}
 use mathlib.Core.Path.{subst}
 use Rattle.group_table.specs.Tables.{order}
@@ -9,7 +9,7 @@ use Rattle.p_groups.specs.PGroups.{PGroup}
 use Rattle.group_algebra.specs.Coordinates.{member, product_with, row_of, table_of}
 use Rattle.group_algebra.specs.Gains.{image_at, GainsImage}
 use Rattle.group_algebra.proofs.LayerRows.{size-is}
-use Rattle.group_algebra.proofs.ImageLemmas.{row-of-ref, inside-steps}
+use Rattle.group_algebra.proofs.ImageLemmas.{few-rows, row-of-ref, inside-steps}
 use Rattle.group_algebra.proofs.UnitImages.{multiplied}
 use Rattle.group_algebra.proofs.algebra.Algebra.multiply_by_member.Goals as goal
 
@@ -24,20 +24,18 @@ add_image-requires-clause-lengths c =
           ∙ (rw (← c.self.view_is) at c.requires.out_length)) ∙ ap (λ k. k * c.args.rank) (sym size),
     )
 
-pub add_image-requires-clause-small : goal.add_image-requires-clause-small
-add_image-requires-clause-small c =
+pub add_image-requires-clause-images : goal.add_image-requires-clause-images
+add_image-requires-clause-images c =
     let size : size_of c.self.inside.places ≡ order c.self.inside.group.table =
     ap size_of c.self.invariant.sizes_are ∙ size-is c.self.inside.group in
-    let v : length (entries_of c.args.v) ≡ order c.self.inside.group.table * c.args.rank =
-    rw (← c.self.view_is) at c.requires.length in
-    subst (λ k. k < 2 ^ 64) (v ∙ ap (λ k. k * c.args.rank) (sym size))
-    (rw c.len-length.ensures.count at c.len-length.type_inv)
-
-pub add_image-requires-clause-width : goal.add_image-requires-clause-width
-add_image-requires-clause-width c =
-    let size : size_of c.self.inside.places ≡ order c.self.inside.group.table =
-    ap size_of c.self.invariant.sizes_are ∙ size-is c.self.inside.group in
-    c.self.invariant.product_shape.width ∙ sym size
+    let p : c.clear.new.self.p ≡ c.self.inside.group.table.p = ap (λ r. r.p) c.clear.ensures
+    ∙ (rw (← c.self.view_is) at c.requires.prime) in
+    record {
+      prime = c.self.invariant.product_shape.prime ∙ sym p;
+      width = c.self.invariant.product_shape.width ∙ sym size;
+      few = few-rows _ _ c.self.invariant.small c.self.invariant.product_shape.rows;
+      factors = λ i l. absurd (omega (arith, l));
+    }
 
 pub add_image-requires-clause-inside : goal.add_image-requires-clause-inside
 add_image-requires-clause-inside c k l =

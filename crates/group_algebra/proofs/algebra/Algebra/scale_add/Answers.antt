@@ -1,15 +1,6 @@
-use Rattle.std.proofs.Common.{arith}
 use Rattle.fp_rows.specs.Refs.{entries_of}
 use Rattle.group_algebra.proofs.BlockSums.{only-block-of-row}
 use Rattle.group_algebra.proofs.algebra.Algebra.scale_add.Goals as goal
-
-pub add_product-requires-clause-fits : goal.add_product-requires-clause-fits
-add_product-requires-clause-fits c = omega (
-  arith,
-  c.len-length.type_inv,
-  c.len-length.ensures.count,
-  c.requires.factor_length,
-)
 
 pub returns-clause-gained : goal.returns-clause-gained
 returns-clause-gained c =

@@ -7,7 +7,7 @@ use Rattle.p_groups.specs.PGroups.{PGroup}
 use Rattle.group_algebra.specs.Coordinates.{row_of}
 use Rattle.group_algebra.proofs.Combined.{IsCombined, combined, positive}
 use Rattle.group_algebra.proofs.ElementRows.{one, product-row, times-one-is}
-use Rattle.group_algebra.proofs.TableLemmas.{elements-at}
+use Rattle.group_algebra.proofs.TableLemmas.{elements-at, elements-matrix}
 use Rattle.group_algebra.proofs.algebra.Algebra.to_layers.Goals as goal
 
 pub returns-clause-layers : goal.returns-clause-layers
@@ -18,7 +18,7 @@ returns-clause-layers c =
     let C : IsCombined G.table.p (order G.table) (entries_of c.args.a)
     (row c.self.inside.elements.rows) c.combine.new.out.entries =
     combined (entries_of c.args.a) c.self.inside.elements.rows _ (positive G)
-    (rw (H.prime, H.width) at c.rows-elements.ensures.matrix) H.rows
+    (elements-matrix G c.self.inside.elements.rows H.rows c.self.invariant.elements_are) H.rows
     (rw (H.prime, H.width) at (ap (λ (r : RowValue). r.entries) c.combine.ensures)) in
     rw (← c.self.view_is) (λ v A.
     product-row G (entries_of c.args.a) v (one G)

@@ -14,7 +14,7 @@ returns-then-is_empty-clause-same_length c = ap (λ v. length v.entries) c.add.e
 pub returns-then-is_empty-clause-sums : goal.returns-then-is_empty-clause-sums
 returns-then-is_empty-clause-sums c j l = congruent_trans
     (times-near c.args.x (entries_of c.image.result) c.args.sum.now c.add.new.self
-    (c.image.ensures.is_row.length_is ∙ c.requires.width) c.add.ensures j l)
+    (c.image.ensures.is_row.length_is ∙ c.requires.images.width) c.add.ensures j l)
     (congruent_eq (ap (λ z. entry c.args.sum.now.entries j + c.args.x * z)
     (ap (λ r. entry r j) c.image.ensures.entries
     ∙ sym (image-plain c.args.self.now.rows.now.rows c.args.self.now.first c.args.self.now.step

@@ -15,15 +15,15 @@ loop-i-init c = record { added = images-none c.args.sum.now _ }
 
 pub add-requires-clause-factor : goal.add-requires-clause-factor
 add-requires-clause-factor c = subst (λ p. c.add_product-y.result < p)
-    (c.prime.ensures ∙ c.requires.prime ∙ sym c.loop-i.invariant.added.prime) c.add_product-y.ensures.below
+    (c.prime.ensures ∙ c.requires.images.prime ∙ sym c.loop-i.invariant.added.prime) c.add_product-y.ensures.below
 
 pub add-requires-clause-same_prime : goal.add-requires-clause-same_prime
-add-requires-clause-same_prime c = c.row.ensures.modulus ∙ c.requires.prime
+add-requires-clause-same_prime c = c.row.ensures.modulus ∙ c.requires.images.prime
     ∙ sym c.loop-i.invariant.added.prime
 
 pub add-requires-clause-same_length : goal.add-requires-clause-same_length
 add-requires-clause-same_length c = ap length c.row.ensures.entries ∙ c.row.ensures.is_row.length_is
-    ∙ c.requires.width ∙ sym c.loop-i.invariant.added.count
+    ∙ c.requires.images.width ∙ sym c.loop-i.invariant.added.count
 
 pub loop-i-preserved : goal.loop-i-preserved
 loop-i-preserved c =
@@ -34,7 +34,7 @@ loop-i-preserved c =
       | then-c-ne0 w ↦
           let p : c.loop-i.sum.p ≡ c.args.sum.now.p = c.loop-i.invariant.added.prime in
           let len : length (entries_of w.row.result) ≡ length c.loop-i.sum.entries =
-          ap length w.row.ensures.entries ∙ w.row.ensures.is_row.length_is ∙ c.requires.width
+          ap length w.row.ensures.entries ∙ w.row.ensures.is_row.length_is ∙ c.requires.images.width
           ∙ sym c.loop-i.invariant.added.count in
           record {
             added = rw w.sum-is (images-near c.args.sum.now.p c.args.sum.now.entries g c.loop-i.i
@@ -46,7 +46,7 @@ loop-i-preserved c =
                 (entry c.args.self.now.factors.now c.loop-i.i) w.add_product-y.result
                 (entries_of w.row.result) c.loop-i.sum w.add.new.self len
                 (w.add_product-y.ensures.value ∙ ap (λ q. (0 + c.args.x * entry c.args.self.now.factors.now
-                c.loop-i.i) % q) (w.prime.ensures ∙ c.requires.prime ∙ sym p))
+                c.loop-i.i) % q) (w.prime.ensures ∙ c.requires.images.prime ∙ sym p))
                 w.add.ensures j (omega (arith, l, c.loop-i.invariant.added.count)))));
           }
       | else-c-ne0 w ↦

@@ -1,20 +1,15 @@
-use Rattle.std.proofs.Common.{◌≡◌, ◌+◌, arith, ap, ◌∙◌}
+use Rattle.std.proofs.Common.{◌+◌, arith}
 use Rattle.fp_rows.specs.Refs.{entries_of}
-use Rattle.p_groups.specs.PGroups.{order_of}
 use Rattle.group_algebra.specs.Coordinates.{member, product_with, table_of}
 use Rattle.min_res.proofs.ProductMaps.{member-inside, product-is, product-row}
 use Rattle.min_res.proofs.layer_products.LayerProductsOps.apply.Goals as goal
 
 pub overflow_add-member : goal.overflow_add-member
-overflow_add-member c =
-    let order : c.order-order.result ≡ order_of c.args.self.now.algebra.now =
-    c.order-order.ensures.value ∙ ap order_of c.group.ensures in
-    omega (
-      arith,
-      order,
-      c.order-order.ensures.small,
-      member-inside c.args.self.now.algebra.now c.args.self.now.members_are c.args.i c.requires.map,
-    )
+overflow_add-member c = omega (
+  arith,
+  c.args.self.now.small,
+  member-inside c.args.self.now.algebra.now c.args.self.now.members_are c.args.i c.requires.map,
+)
 
 pub multiply_by_member-requires-clause-member : goal.multiply_by_member-requires-clause-member
 multiply_by_member-requires-clause-member c = member-inside c.args.self.now.algebra.now

@@ -5,7 +5,7 @@ use Rattle.fp_rows.specs.Values.{MatrixValue}
 use Rattle.p_groups.specs.PGroups.{PGroup}
 use Rattle.min_res.specs.Values.{StageValue}
 use Rattle.min_res.proofs.SpanMembers.{in-kernel-list}
-use Rattle.resolution_tests.proofs.resolutions.is_in_kernel.Goals as goal
+use Rattle.resolution_tests.proofs.sections.is_in_kernel.Goals as goal
 
 pub contains-requires-clause-same_prime : goal.contains-requires-clause-same_prime
 contains-requires-clause-same_prime c =

@@ -1,6 +1,0 @@
-use Rattle.std.proofs.Common.{◌≡◌}
-use Rattle.group_table.specs.Prime.{prime_value}
-use Rattle.resolution_tests.proofs.resolutions.row_of.Given as goal
-
-abbrev pub invariant-loop-i : goal.invariant-loop-i
-invariant-loop-i g l = l.row.p ≡ prime_value l.p
