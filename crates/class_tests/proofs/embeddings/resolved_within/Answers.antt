@@ -3,7 +3,7 @@ use Rattle.group_table.specs.Tables.{GroupTable}
 use Rattle.elementary_subgroups.specs.OwnGroups.{elementary_group}
 use Rattle.p_groups.specs.PGroups.{PGroup}
 use Rattle.chain_lift.proofs.EmbeddingElements.{elementary-is}
-use Rattle.class_tests.proofs.lifts.embeddings.resolved_within.Goals as goal
+use Rattle.class_tests.proofs.embeddings.resolved_within.Goals as goal
 
 pub returns-clause-own : goal.returns-clause-own
 returns-clause-own g c =

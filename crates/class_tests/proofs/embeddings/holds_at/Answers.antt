@@ -4,7 +4,7 @@ use Rattle.group_table.specs.Tables.{GroupTable}
 use Rattle.elementary_subgroups.specs.Bases.{IsSubgroupOf}
 use Rattle.elementary_subgroups.proofs.Indices.{in_get}
 use Rattle.elementary_subgroups.proofs.NumberedLists.{subgroup_in}
-use Rattle.class_tests.proofs.lifts.embeddings.holds_at.Goals as goal
+use Rattle.class_tests.proofs.embeddings.holds_at.Goals as goal
 
 pub holds_within-requires-clause-subgroup : goal.holds_within-requires-clause-subgroup
 holds_within-requires-clause-subgroup g c =

@@ -1,11 +1,13 @@
-//! Products of classes.
+//! Products of classes by hand. With X = g_1 - 1 and Y = g_2 - 1, the boundaries of e_1 and e_2 of degree 1,
+//! those of degree 2 are X e_1, Y e_1 + X e_2 and Y e_2 in the Klein group. In the dihedral group they are
+//! X e_1, Y e_2 and one whose coefficients lie in the third power of the augmentation ideal.
 
 ghost use Rattle.std.specs.Prelude.{◌≡◌, ◌≤◌, IfOk, length};
 ghost use Rattle.fp_rows.specs.Refs.{entries_of, modulus_of};
 ghost use Rattle.min_res.specs.Stages.{rank_of};
 ghost use Rattle.p_groups.specs.PGroups.{prime_of};
 
-use super::{basis, extend, resolved, shows, zero};
+use crate::resolutions::{basis, extend, resolved, shows, zero};
 use chain_lift::Lift;
 use fp_rows::RowRef;
 use group_table::{Group, Memory};
@@ -64,26 +66,29 @@ fn is_product_in(
     is_product(rt, alloc, &resolution, i, k, expected)
 }
 
-// By hand. The square of x is 0 in a cyclic group of order 4 and not in one of order 2; xy is 0 in the
-// dihedral group and xx + xy + yy in the quaternion group; for an odd prime xx is 0, and yx is -xy.
+// A group, two basis classes of degree 1 by their numbers, and their product. The square of x is 0 in a cyclic
+// group of order 4 and not in one of order 2; xy is 0 in the dihedral group and xx + xy + yy in the quaternion
+// group; for an odd prime xx is 0, and yx is -xy.
+const PRODUCTS: [(SmallGroup, usize, usize, &[u8]); 14] = [
+    (SmallGroup::Two, 0, 0, &[1]),
+    (SmallGroup::Four, 0, 0, &[0]),
+    (SmallGroup::Klein, 0, 0, &[1, 0, 0]),
+    (SmallGroup::Klein, 0, 1, &[0, 1, 0]),
+    (SmallGroup::Klein, 1, 1, &[0, 0, 1]),
+    (SmallGroup::Dihedral, 0, 0, &[1, 0, 0]),
+    (SmallGroup::Dihedral, 0, 1, &[0, 0, 0]),
+    (SmallGroup::Dihedral, 1, 1, &[0, 1, 0]),
+    (SmallGroup::Quaternion, 0, 0, &[1, 0]),
+    (SmallGroup::Quaternion, 0, 1, &[0, 1]),
+    (SmallGroup::Quaternion, 1, 1, &[1, 1]),
+    (SmallGroup::Nine, 0, 0, &[0, 0, 0]),
+    (SmallGroup::Nine, 0, 1, &[2, 0, 0]),
+    (SmallGroup::Nine, 1, 0, &[1, 0, 0]),
+];
+
 #[test]
 fn multiplies_classes_of_degree_one(rt: HostRuntime) -> Result<(), Fail> {
-    for (kind, i, k, expected) in [
-        (SmallGroup::Two, 0, 0, &[1_u8] as &[u8]),
-        (SmallGroup::Four, 0, 0, &[0]),
-        (SmallGroup::Klein, 0, 0, &[1, 0, 0]),
-        (SmallGroup::Klein, 0, 1, &[0, 1, 0]),
-        (SmallGroup::Klein, 1, 1, &[0, 0, 1]),
-        (SmallGroup::Dihedral, 0, 0, &[1, 0, 0]),
-        (SmallGroup::Dihedral, 0, 1, &[0, 0, 0]),
-        (SmallGroup::Dihedral, 1, 1, &[0, 1, 0]),
-        (SmallGroup::Quaternion, 0, 0, &[1, 0]),
-        (SmallGroup::Quaternion, 0, 1, &[0, 1]),
-        (SmallGroup::Quaternion, 1, 1, &[1, 1]),
-        (SmallGroup::Nine, 0, 0, &[0, 0, 0]),
-        (SmallGroup::Nine, 0, 1, &[2, 0, 0]),
-        (SmallGroup::Nine, 1, 0, &[1, 0, 0]),
-    ] {
+    for (kind, i, k, expected) in PRODUCTS {
         let group = kind.group(rt.alloc())?;
         let found = is_product_in(&rt, rt.alloc(), &group, i, k, expected)?;
         assert!(rt; found, "{i} times {k} in {kind:?}");

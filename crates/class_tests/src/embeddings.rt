@@ -4,7 +4,7 @@ ghost use Rattle.std.specs.Prelude.{◌≡◌, ◌≤◌, IfOk, length};
 ghost use Rattle.chain_lift.specs.Embeddings.{elementary};
 ghost use Rattle.elementary_subgroups.specs.Bases.{IsSubgroupOf};
 
-use super::{basis, resolved, shows, zero};
+use crate::resolutions::{basis, resolved, shows, zero};
 use chain_lift::EmbedMap;
 use group_table::{Group, Memory};
 use min_res::Resolution;
@@ -107,28 +107,29 @@ fn holds_at(
     holds_within(rt, alloc, &whole, subgroups.get(place), case)
 }
 
-// By hand. Class 2 of degree 2 of the dihedral group is no product; on both four-groups, in which xx, xy and
-// yy are the basis classes of degree 2, it is xy + yy. In the cyclic group of order 4 the class of degree 2
+// A group, the place of a subgroup in the list, a basis class by its degree and its number, and what it
+// restricts to. Class 2 of degree 2 of the dihedral group is no product; on both four-groups, in which xx, xy
+// and yy are the basis classes of degree 2, it is xy + yy. In the cyclic group of order 4 the class of degree 2
 // is the square of that of degree 1 on the subgroup of order 2, on which the class of degree 1 is 0.
+const RESTRICTIONS: [(SmallGroup, usize, u32, usize, &[u8]); 13] = [
+    (SmallGroup::Dihedral, 0, 1, 0, &[1, 0]),
+    (SmallGroup::Dihedral, 0, 1, 1, &[0, 0]),
+    (SmallGroup::Dihedral, 0, 2, 0, &[1, 0, 0]),
+    (SmallGroup::Dihedral, 0, 2, 1, &[0, 0, 0]),
+    (SmallGroup::Dihedral, 0, 2, 2, &[0, 1, 1]),
+    (SmallGroup::Dihedral, 1, 1, 0, &[0, 0]),
+    (SmallGroup::Dihedral, 1, 1, 1, &[1, 0]),
+    (SmallGroup::Dihedral, 1, 2, 0, &[0, 0, 0]),
+    (SmallGroup::Dihedral, 1, 2, 1, &[1, 0, 0]),
+    (SmallGroup::Dihedral, 1, 2, 2, &[0, 1, 1]),
+    (SmallGroup::Four, 0, 0, 0, &[1]),
+    (SmallGroup::Four, 0, 1, 0, &[0]),
+    (SmallGroup::Four, 0, 2, 0, &[1]),
+];
+
 #[test]
 fn restricts_classes(rt: HostRuntime) -> Result<(), Fail> {
-    let (first, second) = ((SmallGroup::Dihedral, 0), (SmallGroup::Dihedral, 1));
-    let squares = (SmallGroup::Four, 0);
-    for ((kind, place), degree, number, restricted) in [
-        (first, 1, 0, &[1_u8, 0] as &[u8]),
-        (first, 1, 1, &[0, 0]),
-        (first, 2, 0, &[1, 0, 0]),
-        (first, 2, 1, &[0, 0, 0]),
-        (first, 2, 2, &[0, 1, 1]),
-        (second, 1, 0, &[0, 0]),
-        (second, 1, 1, &[1, 0]),
-        (second, 2, 0, &[0, 0, 0]),
-        (second, 2, 1, &[1, 0, 0]),
-        (second, 2, 2, &[0, 1, 1]),
-        (squares, 0, 0, &[1]),
-        (squares, 1, 0, &[0]),
-        (squares, 2, 0, &[1]),
-    ] {
+    for (kind, place, degree, number, restricted) in RESTRICTIONS {
         let case = Restriction {
             degree,
             number,

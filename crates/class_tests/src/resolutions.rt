@@ -1,6 +1,4 @@
-//! Values by hand. With X = g_1 - 1 and Y = g_2 - 1, the boundaries of e_1 and e_2 of degree 1, those of
-//! degree 2 are X e_1, Y e_1 + X e_2 and Y e_2 in the Klein group. In the dihedral group they are X e_1,
-//! Y e_2 and one whose coefficients lie in the third power of the augmentation ideal.
+//! Resolutions of groups, and classes of theirs.
 
 ghost use Rattle.std.specs.Prelude.{◌≡◌, ◌≤◌, IfOk, length};
 ghost use Rattle.min_res.specs.Stages.{rank_of};
@@ -13,9 +11,6 @@ use min_res::Resolution;
 use std::alloc::Global;
 use std::process::Abort;
 
-mod embeddings;
-mod products;
-
 // The stage of degree 0 of this group.
 fn started(alloc: Global, group: &Group) -> Result<Resolution, Memory>
     ensures { IfOk result (λ r. r.group.table ≡ group.now) }
@@ -25,7 +20,7 @@ fn started(alloc: Global, group: &Group) -> Result<Resolution, Memory>
 }
 
 // Adds stages up to this degree.
-fn extend(rt: &impl Abort, resolution: &mut Resolution, last: u32)
+pub(crate) fn extend(rt: &impl Abort, resolution: &mut Resolution, last: u32)
     ensures group { resolution.new.group ≡ resolution.old.group }
     ensures last { last ≤ resolution.new.last }
 {
@@ -37,7 +32,12 @@ fn extend(rt: &impl Abort, resolution: &mut Resolution, last: u32)
 }
 
 // The stages of this group up to this degree.
-fn resolved(rt: &impl Abort, alloc: Global, group: &Group, last: u32) -> Result<Resolution, Memory>
+pub(crate) fn resolved(
+    rt: &impl Abort,
+    alloc: Global,
+    group: &Group,
+    last: u32,
+) -> Result<Resolution, Memory>
     ensures group { IfOk result (λ r. r.group.table ≡ group.now) }
     ensures last { IfOk result (λ r. last ≤ r.last) }
 {
@@ -47,7 +47,7 @@ fn resolved(rt: &impl Abort, alloc: Global, group: &Group, last: u32) -> Result<
 }
 
 // The class 0 of degree d.
-fn zero(alloc: Global, resolution: &Resolution, d: u32) -> Result<Row, Memory>
+pub(crate) fn zero(alloc: Global, resolution: &Resolution, d: u32) -> Result<Row, Memory>
     requires { d ≤ resolution.now.last }
     ensures prime { IfOk result (λ r. r.p ≡ prime_of resolution.now.group) }
     ensures length { IfOk result (λ r. length r.entries ≡ rank_of resolution.now.group d) }
@@ -57,7 +57,7 @@ fn zero(alloc: Global, resolution: &Resolution, d: u32) -> Result<Row, Memory>
 }
 
 // Basis class i of degree d.
-fn basis(
+pub(crate) fn basis(
     rt: &impl Abort,
     alloc: Global,
     resolution: &Resolution,
@@ -74,6 +74,15 @@ fn basis(
     Ok(class)
 }
 
-fn shows(r: RowRef<'_>, entries: &[u8]) -> bool {
-    r.len() == entries.len() && (0..r.len()).all(|i| r.get(i) == entries[i])
+// Whether the row has these entries.
+pub(crate) fn shows(r: RowRef<'_>, entries: &[u8]) -> bool {
+    if r.len() != entries.len() {
+        return false;
+    }
+    for i in 0..r.len() {
+        if r.get(i) != entries[i] {
+            return false;
+        }
+    }
+    true
 }
