@@ -86,7 +86,8 @@ fn tells_that_a_ring_is_not_complete(rt: HostRuntime) -> Result<(), Fail> {
 fn is_refused(
     alloc: Global,
     resolution: &Resolution,
-    (n, limit): (u32, u64),
+    n: u32,
+    limit: u64,
     degree: u32,
     dimension: u64,
 ) -> bool
@@ -107,7 +108,7 @@ fn is_refused(
 #[test]
 fn names_the_first_refusal(rt: HostRuntime) -> Result<(), Fail> {
     let resolution = resolved(&rt, rt.alloc(), SmallGroup::Klein, 3)?;
-    assert!(rt; is_refused(rt.alloc(), &resolution, (1, 7), 1, 8));
-    assert!(rt; is_refused(rt.alloc(), &resolution, (3, 8), 2, 12));
+    assert!(rt; is_refused(rt.alloc(), &resolution, 1, 7, 1, 8));
+    assert!(rt; is_refused(rt.alloc(), &resolution, 3, 8, 2, 12));
     Ok(())
 }
