@@ -4,4 +4,8 @@
 #[cfg(test)]
 mod cocycles;
 #[cfg(test)]
-mod lifts;
+mod embeddings;
+#[cfg(test)]
+mod products;
+#[cfg(test)]
+mod resolutions;

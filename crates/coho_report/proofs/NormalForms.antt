@@ -29,7 +29,7 @@ use Rattle.presentation_rows.specs.Values.{AreValues}
 use Rattle.presentation_rows.proofs.NormalFormRows.{normal-form-of}
 use Rattle.presentation_rows.proofs.RowTerms.{same-as-row}
 use Rattle.presentation_rows.proofs.RowValues.{value-row}
-use Rattle.ring_present.proofs.StandardMonomials.{standard-left}
+use Rattle.cohomology_degree.proofs.StandardMonomials.{standard-left}
 use Rattle.ring_present.specs.Standard.{AreStandard, without_pivots}
 
 module _ (q : ℕ) (F : IsFieldModulo (suc q)) (H : GradedAlgebra q) where

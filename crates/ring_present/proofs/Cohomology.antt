@@ -6,7 +6,7 @@ use Rattle.graded_algebra.specs.Algebras.{Generator}
 use Rattle.graded_algebra.specs.Vectors.{Vector}
 use Rattle.group_cocycles.specs.Rings.{cocycles_of, IsCohomologyRing}
 use Rattle.group_cocycles.proofs.Rings.{is-cohomology-ring}
-use Rattle.ring_present.specs.Rings.{IsPresentation}
+use Rattle.cohomology_degree.specs.Rings.{IsPresentation}
 
 pub cohomology-ring : (G : PGroup) (n : ℕ) (gs : List (Generator (Vector (largest_residue G))))
     (rs : List Polynomial) → IsPresentation G n gs rs → IsCohomologyRing G n (cocycles_of G gs) rs

@@ -14,13 +14,13 @@ use Rattle.chain_lift.specs.Values.{LiftValue}
 use Rattle.ring_completion.specs.Candidates.{AreCandidates, AreSome}
 use Rattle.ring_degree.specs.Tables.{AreTables, AreTablesOf, standard_at}
 use Rattle.ring_degree.specs.declared.table.Table.{Table}
-use Rattle.ring_present.specs.Degrees.{kept}
-use Rattle.ring_present.specs.Graded.{graded_classes}
-use Rattle.ring_present.specs.KnownTables.{HasTables, IsFirst, IsTableStore}
-use Rattle.ring_present.specs.KnownTables.{AreCandidatesOf, IsCandidateStore}
-use Rattle.ring_present.specs.Rings.{cohomology}
+use Rattle.cohomology_degree.specs.Degrees.{kept}
+use Rattle.cohomology_degree.specs.Graded.{graded_classes}
+use Rattle.cohomology_degree.specs.KnownTables.{AreCandidatesOf, HasTables}
+use Rattle.ring_present.specs.KnownTables.{IsCandidateStore, IsFirst, IsTableStore}
+use Rattle.cohomology_degree.specs.Rings.{cohomology}
 use Rattle.ring_present.specs.Stores.{IsRingStore}
-use Rattle.ring_present.specs.declared.degree.Degree.{Degree}
+use Rattle.cohomology_degree.specs.declared.degree.Degree.{Degree}
 use Rattle.ring_present.proofs.Stores.{classes-kept, degrees-kept}
 
 no-generator : (i : ℕ) → IsWithin [] (power i 1) → ⊥

@@ -11,10 +11,10 @@ use Rattle.min_res.specs.Stages.{rank_of}
 use Rattle.chain_lift.specs.Values.{LiftValue}
 use Rattle.ring_present.specs.Values.{RingValue, GeneratorValue}
 use Rattle.ring_present.specs.Known.{IsKnown}
-use Rattle.ring_present.specs.Degrees.{lifted, IsLiftBelow}
+use Rattle.cohomology_degree.specs.Degrees.{lifted, IsLiftBelow}
 use Rattle.ring_present.specs.Stores.{IsRingStore}
-use Rattle.ring_present.specs.declared.degree.Degree.{Degree}
-use Rattle.ring_present.proofs.Factors.{all-at}
+use Rattle.cohomology_degree.specs.declared.degree.Degree.{Degree}
+use Rattle.cohomology_degree.proofs.Factors.{all-at}
 use Rattle.ring_present.proofs.RelationsOver.{relations-over}
 use Rattle.ring_present.proofs.Shown.{ring-at}
 

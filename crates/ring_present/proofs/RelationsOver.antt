@@ -7,7 +7,7 @@ use Rattle.graded_polynomials.specs.Polynomials.{Polynomial, IsPolynomial}
 use Rattle.graded_algebra.specs.Algebras.{degrees}
 use Rattle.graded_algebra.specs.Vectors.{Vector}
 use Rattle.gc_poly.specs.Polynomials.{IsOverGenerators}
-use Rattle.ring_present.specs.Rings.{cohomology, IsPresentation}
+use Rattle.cohomology_degree.specs.Rings.{cohomology, IsPresentation}
 use Rattle.ring_present.specs.Values.{GeneratorValue, generators_of}
 use Rattle.ring_present.proofs.Kept.{relations-stored}
 

@@ -19,14 +19,14 @@ use Rattle.min_res.specs.Stages.{rank_of}
 use Rattle.chain_lift.specs.Values.{LiftValue}
 use Rattle.chain_lift.specs.Products.{multiply}
 use Rattle.ring_completion.specs.Candidates.{AreSome}
-use Rattle.ring_present.specs.Rings.{cohomology}
+use Rattle.cohomology_degree.specs.Rings.{cohomology}
 use Rattle.ring_present.specs.Values.{RingValue, generators_of, standard_of}
-use Rattle.ring_present.specs.Standard.{AreStandard}
-use Rattle.ring_present.specs.Degrees.{classes, degrees_of, lifted, IsDegree, IsLiftBelow}
+use Rattle.cohomology_degree.specs.Standard.{AreStandard}
+use Rattle.cohomology_degree.specs.Degrees.{classes, degrees_of, lifted, IsDegree, IsLiftBelow}
 use Rattle.ring_present.specs.Stores.{IsRingOf, IsRingStore}
-use Rattle.ring_present.specs.declared.degree.Degree.{Degree}
-use Rattle.ring_present.proofs.Factors.{all-at, degrees-are}
-use Rattle.ring_present.proofs.StandardMonomials.{normal-form-among}
+use Rattle.cohomology_degree.specs.declared.degree.Degree.{Degree}
+use Rattle.cohomology_degree.proofs.Factors.{all-at, degrees-are}
+use Rattle.cohomology_degree.proofs.StandardMonomials.{normal-form-among}
 
 pub ring-at : (group : Option PGroup) (gens : Generators) (lifts : List LiftValue) (rs : List Polynomial)
     (Ds : List Degree) (G : PGroup) → IsRingStore group gens lifts rs Ds

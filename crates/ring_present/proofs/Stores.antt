@@ -14,18 +14,18 @@ use Rattle.gc_poly.specs.Generators.{Generators}
 use Rattle.presentation_rows.specs.Values.{vector, AreValues}
 use Rattle.chain_lift.specs.Values.{LiftValue}
 use Rattle.ring_completion.specs.Candidates.{AreSome}
-use Rattle.ring_present.specs.Rings.{cohomology, IsPresentation}
-use Rattle.ring_present.specs.Standard.{AreStandard}
-use Rattle.ring_present.specs.Degrees.{classes, degrees_of, lifted, kept, IsLiftBelow, AreValued, IsDegree}
-use Rattle.ring_present.specs.Degrees.{IsLower}
-use Rattle.ring_present.specs.Nexts.{IsNext, IsLiftOf}
+use Rattle.cohomology_degree.specs.Rings.{cohomology, IsPresentation}
+use Rattle.cohomology_degree.specs.Standard.{AreStandard}
+use Rattle.cohomology_degree.specs.Degrees.{classes, degrees_of, lifted, kept, IsLiftBelow, AreValued, IsDegree}
+use Rattle.cohomology_degree.specs.Degrees.{IsLower}
+use Rattle.cohomology_degree.specs.Nexts.{IsNext, IsLiftOf}
 use Rattle.ring_present.specs.Stores.{IsRingOf, IsRingStore}
-use Rattle.ring_present.specs.declared.degree.Valued.{Valued}
-use Rattle.ring_present.specs.declared.degree.Degree.{Degree}
-use Rattle.ring_present.specs.declared.next.Next.{Next}
-use Rattle.ring_present.proofs.Lists.{kept-at, length-kept}
-use Rattle.ring_present.proofs.Growing.{degree-stays}
-use Rattle.ring_present.proofs.Nexts.{above-new}
+use Rattle.cohomology_degree.specs.declared.degree.Valued.{Valued}
+use Rattle.cohomology_degree.specs.declared.degree.Degree.{Degree}
+use Rattle.cohomology_degree.specs.declared.next.Next.{Next}
+use Rattle.cohomology_degree.proofs.Lists.{kept-at, length-kept}
+use Rattle.cohomology_degree.proofs.Growing.{degree-stays}
+use Rattle.cohomology_degree.proofs.Nexts.{above-new}
 
 pub lifted-kept : (xs ys : List LiftValue) → map kept xs ≡ map kept ys → lifted xs ≡ lifted ys
 lifted-kept [] [] e = refl

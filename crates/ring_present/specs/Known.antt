@@ -2,7 +2,7 @@
 use Rattle.std.specs.Prelude.{◌≡◌, ◌≤◌, [], length, MatchOption}
 use Rattle.limits.specs.declared.TheConstants.{GREATEST_DEGREE}
 use Rattle.p_groups.specs.PGroups.{PGroup, largest_residue, prime_of}
-use Rattle.ring_present.specs.Rings.{IsPresentation}
+use Rattle.cohomology_degree.specs.Rings.{IsPresentation}
 use Rattle.ring_present.specs.Values.{RingValue, generators_of}
 
 -- the ring through degree 0

@@ -1,10 +1,7 @@
 pub mod Rings
-pub mod Graded
 pub mod KnownTables
 pub mod Values
 pub mod Prefixes
 pub mod Standard
-pub mod Degrees
-pub mod Nexts
 pub mod Stores
 pub mod Known

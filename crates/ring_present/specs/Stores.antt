@@ -5,9 +5,9 @@ use Rattle.p_groups.specs.PGroups.{PGroup, prime_of}
 use Rattle.graded_polynomials.specs.Polynomials.{Polynomial}
 use Rattle.gc_poly.specs.Generators.{Generators}
 use Rattle.chain_lift.specs.Values.{LiftValue}
-use Rattle.ring_present.specs.Rings.{IsPresentation}
-use Rattle.ring_present.specs.Degrees.{IsLower, classes, degrees_of}
-use Rattle.ring_present.specs.declared.degree.Degree.{Degree}
+use Rattle.cohomology_degree.specs.Rings.{IsPresentation}
+use Rattle.cohomology_degree.specs.Degrees.{IsLower, classes, degrees_of}
+use Rattle.cohomology_degree.specs.declared.degree.Degree.{Degree}
 
 -- generators, relations and degrees of the ring of G
 pub record IsRingOf (G : PGroup) (gens : Generators) (lifts : List LiftValue) (relations : List Polynomial)

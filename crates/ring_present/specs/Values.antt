@@ -1,17 +1,10 @@
 -- What contracts see of a ring.
-use Rattle.std.specs.Prelude.{ℕ, zero, suc, List, [], Option, map, slice_index_or, refl}
+use Rattle.std.specs.Prelude.{ℕ, zero, suc, List, [], Option, slice_index_or, refl}
 use Rattle.std.specs.Coded.{Coded, code_by, coded×, coded_ℕ, coded_list, coded_option}
 use Rattle.graded_polynomials.specs.Polynomials.{Polynomial, Term}
-use Rattle.graded_algebra.specs.Algebras.{Generator}
-use Rattle.graded_algebra.specs.Vectors.{Vector}
 use Rattle.p_groups.specs.PGroups.{PGroup}
 use Rattle.group_algebra.specs.Coded.{coded_p_group}
-use Rattle.presentation_rows.specs.Values.{vector}
-
--- a generator: its degree, and the row of its class
-pub record GeneratorValue : Type 0 where
-  pub degree : ℕ
-  pub class : List ℕ
+pub use Rattle.cohomology_degree.specs.Values.{GeneratorValue, generators_of}
 
 -- a ring through a degree
 pub record RingValue : Type 0 where
@@ -62,10 +55,6 @@ coded_ring =
       standard = t.1.1.0;
       candidates = t.1.1.1;
     }) (λ _. refl)
-
--- the generators with their classes as vectors
-abbrev pub generators_of : (q : ℕ) → List GeneratorValue → List (Generator (Vector q))
-generators_of q gs = map (λ g. record { degree = g.degree; class = vector q g.class }) gs
 
 -- the standard monomials of degree d
 abbrev pub standard_of : RingValue → ℕ → List (List ℕ)

@@ -13,16 +13,16 @@ ghost use Rattle.presentation_rows.specs.Values.{vector};
 ghost use Rattle.fp_rows.specs.Refs.{entries_of, modulus_of};
 ghost use Rattle.min_res.specs.Stages.{rank_of};
 ghost use Rattle.group_cocycles.specs.Rings.{cocycles_of, IsCohomologyRing};
-ghost use Rattle.ring_present.specs.Rings.{cohomology, IsPresentation};
+ghost use Rattle.cohomology_degree.specs.Rings.{cohomology, IsPresentation};
 ghost use Rattle.ring_present.specs.Values.{GeneratorValue, generators_of, standard_of};
-ghost use Rattle.ring_present.specs.Standard.{AreStandard};
+ghost use Rattle.cohomology_degree.specs.Standard.{AreStandard};
 ghost use Rattle.ring_present.specs.Known.{IsKnown};
 ghost use Rattle.ring_completion.specs.Candidates.{AreCandidates};
 ghost use Rattle.ring_present.specs.Prefixes.{IsPrefix};
 
 use crate::normal_forms::combination;
-use crate::relations::polynomial_of;
 use crate::ring_parts::RingParts;
+use cohomology_degree::polynomial_of;
 use fp_rows::RowRef;
 use gc_poly::{Gens, Monos, Poly};
 use group_table::{Memory, Prime};
@@ -56,7 +56,7 @@ impl Model for Ring {
 
     ghost coded = { coded_ring };
 
-    ghost use Rattle.ring_present.specs.Degrees.{lifted};
+    ghost use Rattle.cohomology_degree.specs.Degrees.{lifted};
     ghost use Rattle.ring_present.specs.Stores.{IsRingStore};
 
     ghost view = { λ r. record {

@@ -3,16 +3,14 @@
 ghost use Rattle.std.specs.Prelude.{◌≡◌, suc, ◌<◌, ◌≤◌, [], ◌∷◌, ◌++◌, length, map, OnOk, OnErr, IfOk};
 ghost use Rattle.std.specs.Prelude.{IfSome, Some};
 ghost use Rattle.limits.specs.declared.TheConstants.{GREATEST_DEGREE};
-ghost use Rattle.ring_present.specs.Degrees.{degrees_of, kept, lifted};
-ghost use Rattle.ring_present.specs.KnownTables.{AreCandidatesOf, HasTables, IsFirst, IsTableStore};
+ghost use Rattle.cohomology_degree.specs.Degrees.{degrees_of, kept, lifted};
+ghost use Rattle.cohomology_degree.specs.KnownTables.{AreCandidatesOf, HasTables};
+ghost use Rattle.ring_present.specs.KnownTables.{IsFirst, IsTableStore};
 ghost use Rattle.ring_present.specs.Prefixes.{IsPrefix};
 ghost use Rattle.ring_present.specs.Stores.{IsRingOf, IsRingStore};
 
-use crate::degree::Degree;
-use crate::generators::{gens_over, raise};
-use crate::next::Next;
-use crate::values::Lower;
 use chain_lift::Lift;
+use cohomology_degree::{Degree, Lower, Next, gens_over, raise};
 use gc_poly::{Gens, Mono, Monos, Poly};
 use group_algebra::PGroup;
 use group_table::Memory;

@@ -1,10 +1,9 @@
 //! Rings worked out by hand.
 
-ghost use Rattle.std.specs.Prelude.{◌≡◌, ◌≤◌, ◌<◌, IfOk, IfSome, length};
+ghost use Rattle.std.specs.Prelude.{◌≡◌, ◌≤◌, ◌<◌, IfSome, length};
 ghost use Rattle.ring_present.specs.Values.{standard_of};
 
 use fp_rows::RowRef;
-use gc_poly::write_text;
 use group_algebra::Algebra;
 use group_table::{Group, Memory};
 use limits::{GREATEST_DEGREE, GREATEST_DIMENSION};
@@ -50,25 +49,28 @@ fn presented(rt: &impl Abort, alloc: Global, resolution: &Resolution, degree: u3
 
 fn has_generators(ring: &Ring, degrees: &[u32]) -> bool {
     let gens = ring.gens();
-    gens.len() == degrees.len() && (0..gens.len()).all(|i| gens.degree(i) == degrees[i])
-}
-
-// Whether relation i has this text.
-fn has_relation(alloc: Global, ring: &Ring, i: usize, text: &str) -> Result<bool, Memory>
-    requires { i < length ring.now.relations }
-{
-    let mut written = Vec::new(alloc);
-    write_text(ring.gens(), ring.relation(i), &mut written)?;
-    Ok(written.as_slice() == text.as_bytes())
-}
-
-fn has_relations(alloc: Global, ring: &Ring, texts: &[&str]) -> Result<bool, Memory> {
-    for i in 0..ring.relations() {
-        if i >= texts.len() || !has_relation(alloc, ring, i, texts[i])? {
-            return Ok(false);
+    if gens.len() != degrees.len() {
+        return false;
+    }
+    for i in 0..gens.len() {
+        if gens.degree(i) != degrees[i] {
+            return false;
         }
     }
-    Ok(ring.relations() == texts.len())
+    true
+}
+
+// Whether the relations have so many terms.
+fn has_relations(ring: &Ring, terms: &[usize]) -> bool {
+    if ring.relations() != terms.len() {
+        return false;
+    }
+    for i in 0..ring.relations() {
+        if ring.relation(i).terms() != terms[i] {
+            return false;
+        }
+    }
+    true
 }
 
 // Whether standard monomial i of degree d is the normal form of its class.
@@ -96,17 +98,25 @@ fn has_standard(alloc: Global, ring: &Ring, d: u32, count: usize) -> Result<bool
 }
 
 fn shows(r: RowRef<'_>, entries: &[u8]) -> bool {
-    r.len() == entries.len() && (0..r.len()).all(|i| r.get(i) == entries[i])
+    if r.len() != entries.len() {
+        return false;
+    }
+    for i in 0..r.len() {
+        if r.get(i) != entries[i] {
+            return false;
+        }
+    }
+    true
 }
 
 // What the ring of a group through a degree has: generators of these degrees, the last with this class,
-// relations with these texts, so many standard monomials of degree 1, of degree 2 and so on, and so many
+// relations of so many terms, so many standard monomials of degree 1, of degree 2 and so on, and so many
 // candidates of the last degree.
 #[derive(Clone, Copy)]
 struct Case<'a> {
     generators: &'a [u32],
     class: &'a [u8],
-    relations: &'a [&'a str],
+    relations: &'a [usize],
     standard: &'a [usize],
     candidates: usize,
 }
@@ -116,19 +126,31 @@ fn has_last_class(ring: &Ring, class: &[u8]) -> bool {
     count > 0 && shows(ring.class_of(count - 1), class)
 }
 
-// Whether the ring is as in the case.
-fn is_ring(rt: &impl Abort, alloc: Global, ring: &Ring, case: Case<'_>) -> Result<bool, Memory> {
-    for (i, count) in case.standard.iter().enumerate() {
-        assert!(rt; i < ring.degree() as usize);
-        if !has_standard(alloc, ring, i as u32 + 1, *count)? {
+// Whether there are so many standard monomials of degree 1, of degree 2 and so on.
+fn has_all_standard(
+    rt: &impl Abort,
+    alloc: Global,
+    ring: &Ring,
+    counts: &[usize],
+) -> Result<bool, Memory> {
+    assert!(rt; counts.len() <= ring.degree() as usize);
+    for i in 0..counts.len() {
+        if !has_standard(alloc, ring, i as u32 + 1, counts[i])? {
             return Ok(false);
         }
     }
+    Ok(true)
+}
+
+// Whether the ring is as in the case.
+fn is_ring(rt: &impl Abort, alloc: Global, ring: &Ring, case: Case<'_>) -> Result<bool, Memory> {
+    let standard = has_all_standard(rt, alloc, ring, case.standard)?;
     Ok(
-        has_generators(ring, case.generators)
+        standard
+            && has_generators(ring, case.generators)
             && has_last_class(ring, case.class)
-            && ring.candidates().len() == case.candidates
-            && has_relations(alloc, ring, case.relations)?,
+            && has_relations(ring, case.relations)
+            && ring.candidates().len() == case.candidates,
     )
 }
 
@@ -136,43 +158,41 @@ fn is_ring(rt: &impl Abort, alloc: Global, ring: &Ring, case: Case<'_>) -> Resul
 fn is_ring_of(
     rt: &impl Abort,
     alloc: Global,
-    group: &Group,
+    kind: SmallGroup,
     case: Case<'_>,
 ) -> Result<bool, Memory> {
     assert!(rt; case.standard.len() <= 24);
     let degree = case.standard.len() as u32;
-    let resolution = resolved(rt, alloc, group, degree)?;
+    let resolution = resolved(rt, alloc, &kind.group(alloc)?, degree)?;
     let ring = presented(rt, alloc, &resolution, degree);
     is_ring(rt, alloc, &ring, case)
 }
 
+// The relations are xx + xy + yy and yyy.
 #[test]
-fn presents_rings(rt: HostRuntime) -> Result<(), Fail> {
-    for (kind, case) in [
-        (
-            SmallGroup::Quaternion,
-            Case {
-                generators: &[1, 1, 4],
-                class: &[1],
-                relations: &["x_1_1^2+x_1_1*x_1_2+x_1_2^2", "x_1_2^3"],
-                standard: &[2, 2, 1, 1],
-                candidates: 1,
-            },
-        ),
-        (
-            SmallGroup::Three,
-            Case {
-                generators: &[1, 2],
-                class: &[1],
-                relations: &[],
-                standard: &[1, 1],
-                candidates: 1,
-            },
-        ),
-    ] {
-        let group = kind.group(rt.alloc())?;
-        let found = is_ring_of(&rt, rt.alloc(), &group, case)?;
-        assert!(rt; found, "{kind:?}");
-    }
+fn presents_the_ring_of_the_quaternion_group(rt: HostRuntime) -> Result<(), Fail> {
+    let case = Case {
+        generators: &[1, 1, 4],
+        class: &[1],
+        relations: &[3, 1],
+        standard: &[2, 2, 1, 1],
+        candidates: 1,
+    };
+    let found = is_ring_of(&rt, rt.alloc(), SmallGroup::Quaternion, case)?;
+    assert!(rt; found);
+    Ok(())
+}
+
+#[test]
+fn presents_the_ring_of_the_group_of_order_three(rt: HostRuntime) -> Result<(), Fail> {
+    let case = Case {
+        generators: &[1, 2],
+        class: &[1],
+        relations: &[],
+        standard: &[1, 1],
+        candidates: 1,
+    };
+    let found = is_ring_of(&rt, rt.alloc(), SmallGroup::Three, case)?;
+    assert!(rt; found);
     Ok(())
 }

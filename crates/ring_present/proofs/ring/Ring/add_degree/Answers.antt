@@ -8,10 +8,10 @@ use Rattle.graded_polynomials.specs.Polynomials.{Polynomial}
 use Rattle.gc_poly.specs.Generators.{Generators}
 use Rattle.chain_lift.specs.Values.{LiftValue}
 use Rattle.ring_present.specs.Values.{RingValue, GeneratorValue}
-use Rattle.ring_present.specs.Degrees.{classes, lifted}
+use Rattle.cohomology_degree.specs.Degrees.{classes, lifted}
 use Rattle.ring_present.specs.Prefixes.{IsPrefix}
 use Rattle.ring_present.specs.Stores.{IsRingOf, IsRingStore}
-use Rattle.ring_present.specs.declared.degree.Degree.{Degree}
+use Rattle.cohomology_degree.specs.declared.degree.Degree.{Degree}
 use Rattle.ring_present.proofs.Cohomology.{cohomology-ring}
 use Rattle.ring_present.specs.KnownTables.{IsCandidateStore, IsTableStore}
 use Rattle.ring_present.proofs.FirstTables.{table-store-known, table-store-same, candidate-store-known}

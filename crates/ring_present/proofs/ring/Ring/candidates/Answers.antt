@@ -2,7 +2,7 @@ use Rattle.std.proofs.Common.{◌∙◌, ap}
 use mathlib.Core.Path.{subst}
 use Rattle.p_groups.specs.PGroups.{largest_residue}
 use Rattle.ring_completion.specs.Candidates.{AreCandidates}
-use Rattle.ring_present.specs.Rings.{cohomology}
+use Rattle.cohomology_degree.specs.Rings.{cohomology}
 use Rattle.ring_present.specs.Values.{RingValue, generators_of}
 use Rattle.ring_present.proofs.FirstTables.{candidates-at, no-candidates}
 use Rattle.ring_present.proofs.ring.Ring.candidates.Goals as goal

@@ -5,7 +5,7 @@ use Rattle.fp_rows.specs.Refs.{entries_of}
 use Rattle.graded_polynomials.specs.Polynomials.{Polynomial, Term}
 use Rattle.graded_algebra.specs.Presentations.{IsNormalForm}
 use Rattle.presentation_rows.specs.Values.{vector}
-use Rattle.ring_present.specs.Rings.{cohomology}
+use Rattle.cohomology_degree.specs.Rings.{cohomology}
 use Rattle.ring_present.specs.Values.{generators_of}
 use Rattle.ring_present.proofs.Shown.{seen-of, some-group, prime-seen, targets-seen, width-of-forms}
 use Rattle.ring_present.proofs.Shown.{monomials-seen, form-seen}

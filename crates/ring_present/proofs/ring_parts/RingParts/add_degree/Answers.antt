@@ -5,11 +5,12 @@ use mathlib.Core.Path.{subst}
 use Rattle.p_groups.specs.PGroups.{PGroup}
 use Rattle.graded_polynomials.specs.Polynomials.{Polynomial}
 use Rattle.chain_lift.specs.Values.{LiftValue}
-use Rattle.ring_present.specs.Rings.{IsPresentation}
-use Rattle.ring_present.specs.Degrees.{classes, kept, lifted, IsLower}
+use Rattle.cohomology_degree.specs.Rings.{IsPresentation}
+use Rattle.cohomology_degree.specs.Degrees.{classes, kept, lifted, IsLower}
 use Rattle.ring_degree.specs.declared.table.Table.{Table}
-use Rattle.ring_present.specs.KnownTables.{AreCandidatesOf, HasTables, IsFirst}
-use Rattle.ring_present.specs.declared.degree.Degree.{Degree}
+use Rattle.cohomology_degree.specs.KnownTables.{AreCandidatesOf, HasTables}
+use Rattle.ring_present.specs.KnownTables.{IsFirst}
+use Rattle.cohomology_degree.specs.declared.degree.Degree.{Degree}
 use Rattle.ring_present.proofs.Stores.{IsBefore, before-of, lower-kept, classes-kept, degrees-kept}
 use Rattle.ring_present.proofs.Stores.{lifted-kept, lifted-append, ring-next, on-err}
 use Rattle.ring_present.proofs.FirstTables.{tables-before, tables-kept}

@@ -1,0 +1,14 @@
+pub mod Lists
+pub mod Monomials
+pub mod Products
+pub mod Factors
+pub mod Growing
+pub mod LeftMonomials
+pub mod NewCandidates
+pub mod Nexts
+pub mod Steps
+pub mod StandardMonomials
+pub mod StandardPlaces
+pub mod Ranks
+pub mod Places
+pub mod RelationSteps
