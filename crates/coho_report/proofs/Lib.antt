@@ -31,3 +31,5 @@ pub mod Chosen
 pub mod ParametersTold
 pub mod RestrictedCocycles
 pub mod ParameterCocycles
+pub mod SubgroupRings
+pub mod Dimensions
