@@ -33,3 +33,7 @@ pub mod RestrictedCocycles
 pub mod ParameterCocycles
 pub mod SubgroupRings
 pub mod Dimensions
+pub mod ImageDegrees
+pub mod Variables
+pub mod ExchangedVariables
+pub mod ZeroParameters

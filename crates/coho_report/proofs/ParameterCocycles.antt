@@ -39,22 +39,9 @@ use Rattle.coho_report.specs.Related.{AreRelated}
 use Rattle.coho_report.specs.Subgroups.{IsImage, IsToldOf}
 use Rattle.coho_report.specs.Values.{SubgroupValue}
 use Rattle.coho_report.proofs.ListsBelow.{ascends_below}
-use Rattle.coho_report.proofs.Related.{related-length, related-place}
+use Rattle.coho_report.proofs.Related.{get-map, related-get, related-length, related-place}
 use Rattle.coho_report.proofs.RestrictedCocycles.{restriction-is}
 use Rattle.coho_report.proofs.SubgroupRings.{ring_of, rings_of, each-ring, ranks-same}
-
-related-get : {A B : Type 0} (R : A → B → Type 0) (xs : List A) (ys : List B) → AreRelated R xs ys → (j : ℕ)
-    (x : A) (d : B) → slice_get xs j ≡ Some x → R x (slice_index_or ys j d)
-related-get R [] ys r j x d e = absurd (cc)
-related-get R (z ∷ xs) [] r j x d e = absurd r
-related-get R (z ∷ xs) (y ∷ ys) r zero x d e = let same : z ≡ x = cc in subst (λ x. R x y) same r.0
-related-get R (z ∷ xs) (y ∷ ys) r (suc j) x d e = related-get R xs ys r.1 j x d e
-
-get-map : {X Y : Type 0} (f : X → Y) (xs : List X) (j : ℕ) (x : X) → slice_get xs j ≡ Some x
-    → slice_get (map f xs) j ≡ Some (f x)
-get-map f [] j x e = absurd (cc)
-get-map f (y ∷ xs) zero x e = let same : y ≡ x = cc in ap (λ z. Some (f z)) same
-get-map f (y ∷ xs) (suc j) x e = get-map f xs j x e
 
 each-last : {X : Type 0} (P : X → Type 0) (xs : List X) (x : X) → Each P (xs ++ x ∷ []) → P x
 each-last P [] x h = h.0

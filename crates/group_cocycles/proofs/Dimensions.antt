@@ -30,7 +30,7 @@ use Rattle.group_cocycles.proofs.Classes.{row_of_class, class-row}
 
 module _ (q : ℕ) where
   -- the sum of the units at the places from k on, each times the number in its place of the row
-  sum-of-units : ℕ → List ℕ → Vector q
+  abbrev sum-of-units : ℕ → List ℕ → Vector q
   sum-of-units k [] i = residue q 0
   sum-of-units k (c ∷ x) i = plus q (residue q (c * (unit q k i).0)) (sum-of-units (suc k) x i)
 
@@ -116,7 +116,8 @@ module _ (G : PGroup) (d : ℕ) where
   combination-is x m e =
       ap (λ n. combination G x (basis-from 0 n)) (sym e)
       ∙ fun_ext (λ t. combined 0 x t)
-      ∙ ap (λ (c : Vector r). cocycle c) (fun_ext (λ i. at-units r i 0 x))
+      ∙ ap (λ (c : Vector r). cocycle c) (fun_ext (λ i.
+      ap (sum-of-units r 0 x) (let z : i ≡ 0 + i = omega arith in z) ∙ at-units r i 0 x))
 
   pub is-basis : IsBasis G d (basis-from 0 (rank_of G d))
   is-basis = record {

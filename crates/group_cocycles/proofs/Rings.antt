@@ -5,6 +5,7 @@ use Rattle.std.specs.List.{AllByRecursion as Each}
 use mathlib.Core.Path.{subst, fun_ext}
 use Rattle.group_modules.specs.Module.{Module}
 use Rattle.group_modules.specs.Field.{Below, Fp, residue, plus, minus}
+use Rattle.group_modules.specs.Resolutions.{rank}
 use Rattle.group_modules.specs.Tables.{monoid}
 use Rattle.p_groups.specs.PGroups.{PGroup, largest_residue, group, order_of}
 use Rattle.p_groups.proofs.Fields.{field}
@@ -15,7 +16,7 @@ use Rattle.graded_polynomials.specs.Monomials.{exponent}
 use Rattle.graded_polynomials.specs.Polynomials.{Term, Polynomial, IsOver, IsInIdeal, product}
 use Rattle.graded_algebra.specs.Algebras.{Generator, degrees, value}
 use Rattle.graded_algebra.specs.Cochains.{cochains}
-use Rattle.graded_algebra.specs.Vectors.{Vector}
+use Rattle.graded_algebra.specs.Vectors.{Vector, units}
 use Rattle.graded_algebra.specs.Claims.{CochainClaims}
 use Rattle.resolution_stages.proofs.FromDefinitions.{resolution-claims}
 use Rattle.bar_comparison.proofs.Classes.{bar-normal, bar-cocycle}
@@ -92,7 +93,7 @@ module _ (G : PGroup) where
       fun_ext (λ xs. ap (plus q (u xs)) minus-zero ∙ K.add-zero (u xs))
 
   -- a cochain that differs by a coboundary from 0 is one
-  zero-close : (d : ℕ) (u : GroupCochain G)
+  pub zero-close : (d : ℕ) (u : GroupCochain G)
       → AreCohomologous G d u (λ xs. residue q 0) ↔ IsCoboundary G d u
   zero-close zero u = ((λ h. h), (λ h. h))
   zero-close (suc d) u = (
@@ -190,8 +191,8 @@ module _ (G : PGroup) where
     is-cohomology-ring = record {
       cocycles = all-cocycles gs;
       within = cocycles-within n gs
-          (generators-within q (cohomology q (group G) (layer_coordinates G) (stage_rows G)) _ n gs
-          P.generators_are);
+          (generators-within q (cohomology q (group G) (layer_coordinates G) (stage_rows G))
+          (λ d. units q 0 (rank q (group G) (stage_rows G).ranks d)) n gs P.generators_are);
       relations_within = graded-within gs n rs relations-are;
       graded = graded-cocycles gs n rs relations-are;
       onto = λ d l u z.
