@@ -95,6 +95,38 @@ module _ (from : Word) where
     pub with_file : v ≡ from_is (Some from) all
     pub without : with_words (Some (from_is None w)) words ≡ Some (from_is None all)
 
+  -- one word, where more words after it are known to do so
+  module _ (word : Word) (words : List Word) (w v : RingWords)
+      (e : with_words (Some (from_is (Some from) w)) (word ∷ words) ≡ Some v)
+      (rest : (x : RingWords) → with_words (Some (from_is (Some from) x)) words ≡ Some v
+      → AreBoth words x v) where
+    with_one : (due : Option StageOption) → w.due ≡ due → (due ≡ Some option.From → ⊥)
+        → (o : Option RingWords) → with_word w due word ≡ o → AreBoth (word ∷ words) w v
+    with_one due is other None none =
+        no_value v (sym (none_more words) ∙ sym (ap (λ o. with_words o words)
+        (ap (λ d. with_word (from_is (Some from) w) d word) is ∙ one_word (Some from) w due word other
+        ∙ ap (option_map (from_is (Some from))) none)) ∙ e)
+    with_one due is other (Some x) some =
+        let next : (f : Option Word) → with_word (from_is f w) w.due word ≡ Some (from_is f x)
+        = λ f. ap (λ d. with_word (from_is f w) d word) is ∙ one_word f w due word other
+        ∙ ap (option_map (from_is f)) some in
+        let after : AreBoth words x v
+        = rest x (sym (ap (λ o. with_words o words) (next (Some from))) ∙ e) in
+        record {
+          all = after.all;
+          with_file = after.with_file;
+          without = ap (λ o. with_words o words) (next None) ∙ after.without;
+        }
+
+    with_due_word : (due : Option StageOption) → w.due ≡ due → AreBoth (word ∷ words) w v
+    with_due_word None is = with_one None is (λ n. no_value option.From n) (with_word w None word) refl
+    with_due_word (Some option.Save) is =
+        with_one (Some option.Save) is (λ n. absurd (let no = n in cc)) (with_word w (Some option.Save) word)
+        refl
+    with_due_word (Some option.From) is =
+        no_value v (sym (none_more words) ∙ sym (ap (λ d. with_words (with_word (from_is (Some from) w) d
+        word) words) is) ∙ e)
+
   more : (words : List Word) (w v : RingWords) → with_words (Some (from_is (Some from) w)) words ≡ Some v
       → AreBoth words w v
   more [] w v e = record {
@@ -102,39 +134,25 @@ module _ (from : Word) where
     with_file = sym (same_value (from_is (Some from) w) v e);
     without = refl;
   }
-  more (word ∷ words) w v e = go w.due refl
-    where
-      on : (due : Option StageOption) → w.due ≡ due → (due ≡ Some option.From → ⊥) → (o : Option RingWords)
-          → with_word w due word ≡ o → AreBoth (word ∷ words) w v
-      on due is other None none =
-          no_value v (sym (none_more words) ∙ sym (ap (λ o. with_words o words)
-          (ap (λ d. with_word (from_is (Some from) w) d word) is ∙ one_word (Some from) w due word other
-          ∙ ap (option_map (from_is (Some from))) none)) ∙ e)
-      on due is other (Some x) some =
-          let next : (f : Option Word) → with_word (from_is f w) w.due word ≡ Some (from_is f x)
-          = λ f. ap (λ d. with_word (from_is f w) d word) is ∙ one_word f w due word other
-          ∙ ap (option_map (from_is f)) some in
-          let rest : AreBoth words x v
-          = more words x v (sym (ap (λ o. with_words o words) (next (Some from))) ∙ e) in
-          record {
-            all = rest.all;
-            with_file = rest.with_file;
-            without = ap (λ o. with_words o words) (next None) ∙ rest.without;
-          }
-
-      go : (due : Option StageOption) → w.due ≡ due → AreBoth (word ∷ words) w v
-      go None is = on None is (λ n. no_value option.From n) (with_word w None word) refl
-      go (Some option.Save) is =
-          on (Some option.Save) is (λ n. absurd (let no = n in cc)) (with_word w (Some option.Save) word) refl
-      go (Some option.From) is =
-          no_value v (sym (none_more words) ∙ sym (ap (λ d. with_words (with_word (from_is (Some from) w) d
-          word) words) is) ∙ e)
+  more (word ∷ words) w v e =
+      with_due_word word words w v e (λ x. more words x v) w.due refl
 
   -- the command is the same but for the file
   abbrev Alike : Option Command → Command → Type 0
   Alike other c = (path : Word) × (n : ℕ) × (save : Option Word)
       × (c ≡ Ring path n (record { from = Some from; save = save }))
       × (other ≡ Some (Ring path n (record { from = None; save = save })))
+
+  abbrev named : Word → Option Word → Option Word → ℕ → Command
+  named path save f n = Ring path n (record { from = f; save = save })
+
+  read_alike : (path : Word) (save : Option Word) (c : Command) (b : Bool) (o : Option ℕ)
+      → (if b then None else option_map (named path save (Some from)) o) ≡ Some c
+      → Alike (if b then None else option_map (named path save None) o) c
+  read_alike path save c true o e = no_value c e
+  read_alike path save c false None e = no_value c e
+  read_alike path save c false (Some n) e =
+      (path, n, save, sym (same_value (named path save (Some from) n) c e), refl)
 
   asked_alike : (due : Option StageOption) (path degree save : Option Word) (c : Command)
       → ring_asked due path degree (record { from = Some from; save = save }) ≡ Some c
@@ -143,16 +161,7 @@ module _ (from : Word) where
   asked_alike None None degree save c e = no_value c e
   asked_alike None (Some path) None save c e = no_value c e
   asked_alike None (Some path) (Some degree) save c e =
-      over (saves_over save path) (numeral 1 GREATEST_DEGREE degree) e
-    where
-      abbrev named : Option Word → ℕ → Command
-      named f n = Ring path n (record { from = f; save = save })
-
-      over : (b : Bool) (o : Option ℕ) → (if b then None else option_map (named (Some from)) o) ≡ Some c
-          → Alike (if b then None else option_map (named None) o) c
-      over true o e = no_value c e
-      over false None e = no_value c e
-      over false (Some n) e = (path, n, save, sym (same_value (named (Some from) n) c e), refl)
+      read_alike path save c (saves_over save path) (numeral 1 GREATEST_DEGREE degree) e
 
   -- `--from` and the file, where no word is due and no file was given before
   given : (w : RingWords) (after : List Word) (v : RingWords) (due : Option StageOption) → w.due ≡ due

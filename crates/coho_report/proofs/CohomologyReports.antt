@@ -5,7 +5,7 @@ use Rattle.std.proofs.Common.{inl, inr, arith, ap, sym, subst}
 use Rattle.std.specs.List.{range_with_len}
 use Rattle.std.proofs.lemmas.Bool.{leb-true, le-leb}
 use Rattle.p_groups.specs.PGroups.{PGroup, largest_residue}
-use Rattle.elementary_subgroups.specs.Bases.{NumberedSubgroup, IsSubgroupOf}
+use Rattle.elementary_subgroups.specs.Bases.{NumberedSubgroup, IsSubgroupList, IsSubgroupOf}
 use Rattle.elementary_subgroups.specs.Sets.{IsIn}
 use Rattle.elementary_subgroups.proofs.NumberedLists.{subgroup_in}
 use Rattle.graded_polynomials.specs.Polynomials.{Polynomial}
@@ -56,7 +56,8 @@ module _ (G : PGroup) (n : ℕ) where
 
   pub cohomology-report : (r : ReportValue) → IsReport G n r → IsCohomologyReport G n r
   cohomology-report r R =
-      let listed = λ s i. subgroup_in G.table R.subgroups s R.subgroups_are i in
+      let listed : (s : NumberedSubgroup) → IsIn s R.subgroups → IsSubgroupOf G.table s
+      = λ s i. subgroup_in G.table R.subgroups s R.subgroups_are i in
       record {
         prime_is = R.prime;
         order_is = R.order_is;

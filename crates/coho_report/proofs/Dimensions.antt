@@ -21,6 +21,6 @@ pub ranks-are-dimensions : (G : PGroup) (c : ℕ)
 ranks-are-dimensions G zero = tt
 ranks-are-dimensions G (suc c) =
     subst (λ ds. AreRelated (IsDimension G) ds (ranks_below G (suc c))) (sym (one-more 0 c))
-    (related-append (IsDimension G) (range_with_len 0 c) (0 + c ∷ []) (ranks_below G c) (rank_of G c ∷ [])
+    (related-append (IsDimension G) (range_with_len 0 c) ((0 + c) ∷ []) (ranks_below G c) (rank_of G c ∷ [])
     (ranks-are-dimensions G c)
     (subst (λ d. IsDimension G d (rank_of G c)) (omega arith) (rank-is-dimension G c), tt))

@@ -36,10 +36,13 @@ two-variables E n hs rs d k l R m o other close =
     let g = at.generator in
     let here : degree (degrees hs) (power k 1)
     ≡ degree (degrees (at.before ++ g ∷ at.after)) (power (length at.before) 1)
-    = λ i. degree (degrees (at.whole i)) (power (at.place (~ i)) 1) in
+    = ap (λ gs. degree (degrees gs) (power k 1)) at.whole
+    ∙ ap (λ j. degree (degrees (at.before ++ g ∷ at.after)) (power j 1)) (sym at.place) in
     let same : g.degree ≡ d = sym (power-degree at.before g at.after) ∙ sym here ∙ m.degree_is in
     let class : cochain_of E hs (variable k) ≡ g.class
-    = (λ i. cochain_of E (at.whole i) (variable (at.place (~ i)))) ∙ variable-class E at.before g at.after in
+    = ap (λ gs. cochain_of E gs (variable k)) at.whole
+    ∙ ap (λ j. cochain_of E (at.before ++ g ∷ at.after) (variable j)) (sym at.place)
+    ∙ variable-class E at.before g at.after in
     R.generators_needed at.before g at.after at.whole (variable l)
     (subst (λ e. IsMonomial (largest_residue E) (degrees hs) e (power l 1)) (sym same) o, tt)
     (subst (λ j. exponent (power l 1) j ≡ 0) (sym at.place) (other-exponent k l other), tt)

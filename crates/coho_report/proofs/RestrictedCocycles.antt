@@ -42,7 +42,7 @@ module _ (G : PGroup) (s : NumberedSubgroup) (S : IsSubgroupOf G.table s) where
   abbrev f : Below (order_of E) → Below (order_of G)
   f = embedding G s.basis
 
-  along-embedding : Homomorphism (group E) (group G)
+  abbrev along-embedding : Homomorphism (group E) (group G)
   along-embedding = record { to = f; to-mul = homomorphism G s S }
 
   claims : RestrictionClaims q (group E) (group G) f (layer_coordinates E) (stage_rows E)

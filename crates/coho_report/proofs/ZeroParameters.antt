@@ -93,7 +93,9 @@ power-of-variable g d ds is e low =
     let v = variable_degree q in
     let first : d ≡ v = subst (λ xs. All (λ d. d ≡ v) xs) is (filter-same v g.degrees) 0 0 (omega arith) in
     let none = no-more ds in
-    let size : d * e + degree ds [] ≡ e * v = omega (arith, first, none) in
+    let turned : v * e + 0 ≡ e * v = omega arith in
+    let size : d * e + degree ds [] ≡ e * v
+    = ap (λ z. z * e + degree ds []) first ∙ ap (λ z. v * e + z) none ∙ turned in
     record {
       within = subst (λ xs. IsWithin xs (e ∷ [])) (sym is) tt;
       trimmed = ((λ n z. omega (arith, low, z)), tt);
@@ -113,7 +115,11 @@ module _ (G : PGroup) where
   no-relations : (q : ℕ) (ds : List ℕ) (d : ℕ) (f : List Term) → IsPolynomial q ds d f
       → IsInIdeal q ds [] d f → f ≡ []
   no-relations q ds d f P i =
-      polynomial-unique q ds d d f [] P (record { over = tt; coefficients = tt; descending = tt })
+      polynomial-unique q ds d d f [] P (record {
+        over = tt;
+        coefficients = tt;
+        descending = λ i j t l m. absurd (omega (arith, m));
+      })
       (subst (IsSame q f) (none i.multiples i.each) i.sum)
     where
       none : (ts : List Multiple) → Each (IsMultiple q ds [] d) ts → total q ds ts ≡ []
