@@ -199,9 +199,9 @@ module _ (from : Word) where
       }) (put f from)) after) at) ∙ e)
     where
       taken : (b : Bool) → with_words (option_map (λ path. record w {
-            files = record { from = Some path; save = w.files.save };
-            due = None;
-          }) (if b then Some from else None)) after ≡ Some v
+        files = record { from = Some path; save = w.files.save };
+        due = None;
+      }) (if b then Some from else None)) after ≡ Some v
           → (all : RingWords) × (v ≡ from_is (Some from) all)
           × (with_words (Some w) after ≡ Some (from_is None all))
       taken false h = no_value v (sym (none_more after) ∙ h)
