@@ -1,5 +1,7 @@
 -- An answer to `resolve` or to `ring` is for a group whose classes are cocycles up to coboundaries.
-use Rattle.std.proofs.Common.{◌≡◌, ◌⊎◌, List, ℕ, inl, inr, subst}
+use Rattle.std.proofs.Common.{◌≡◌, ◌⊎◌, List, ℕ, inl, inr, refl, subst, arith}
+use Rattle.std.specs.List.{concat}
+use Rattle.std.specs.Io.KnownBytes.{Appends}
 use Rattle.std.specs.declared.option.Option.{Option}
 use Rattle.std.specs.declared.option.Option.TheVariants.{Some}
 use Rattle.std.specs.declared.result.Result.TheVariants.{Ok}
@@ -10,14 +12,18 @@ use Rattle.bar_eval.proofs.ClassMaps.{is_linear, are_cocycles, is_injective, eac
 use Rattle.coho_main.specs.ClassAnswers.{HasCocycleClasses, HasCocycleClassesOf}
 use Rattle.coho_main.specs.Evaluating.{AreCocycleClasses}
 use Rattle.coho_main.specs.Groups.{IsTableOf}
-use Rattle.coho_main.specs.Outcome.{Load, AnswerResolve, AnswerRing, Reply, Comes}
+use Rattle.coho_main.specs.Outcome.{Load, AnswerResolve, AnswerRing, Reply, Comes, ending}
+use Rattle.coho_main.specs.RingAnswers.{AnswersOver}
 use Rattle.coho_main.specs.Run.{OfFiles}
 use Rattle.coho_main.specs.Saving.{FromTo}
 use Rattle.coho_main.specs.StageFiles.{FindStages}
 use Rattle.coho_main.specs.Stops.{Meets}
 use Rattle.coho_main.specs.Words.{Command, Resolve, Ring, StageFiles, command}
 use Rattle.coho_main.proofs.Replies.{Lines, lines_of}
+use Rattle.coho_main.proofs.RingAnswers as ring
 use Rattle.coho_main.proofs.RingAnswers.{some_is}
+use Rattle.coho_main.proofs.Run.{Appends_nothing}
+use Rattle.coho_main.specs.declared.status.Status.TheVariants as status
 
 pub classes_are_cocycles : (G : PGroup) (d : ℕ) → AreCocycleClasses G d
 classes_are_cocycles G d = record {
@@ -85,4 +91,27 @@ has_classes words known now lines h = (
   h.0,
   h.2,
   λ path n stages e. of_words path n stages h.0 (lines_of lines) words h.1 h.4 e,
+)
+
+-- an answer that was written, over one choice of files
+pub answers_over : (words : List (List ℕ)) (known now : Option Content) (lines : Lines)
+    (out out_now err : Option (List ℕ)) (k : ℕ)
+    → FromTo known now (λ files after. Meets lines_of (Comes words) files after (Ok lines))
+    → Appends out out_now (concat (lines_of lines))
+    → OfFiles known (AnswersOver words status.Answered known now out out_now err err k k)
+answers_over words known now lines out out_now err k h wrote = (
+  h.0,
+  h.2,
+  record {
+    ending = ending (Ok (lines_of lines)) h.1;
+    outcome = (Ok (lines_of lines), h.1, h.4, refl);
+    ends = record {
+      same_status = refl;
+      same_files = h.3;
+      on_out = wrote;
+      on_err = (0, Appends_nothing err, λ lt. absurd (omega arith));
+    };
+    ring = λ path n stages e. ring.of_words path n stages h.0 (lines_of lines) words h.1 h.4 e;
+    classes = λ path n stages e. of_words path n stages h.0 (lines_of lines) words h.1 h.4 e;
+  },
 )

@@ -19,6 +19,7 @@ use Rattle.coho_main.specs.Refusals.{file_refused, words_refused}
 use Rattle.coho_main.specs.StageFiles.{FindStages, OrMissing, SaveStages, TakeStages, Walk}
 use Rattle.coho_main.specs.Steps.{OrRefuse, Refusal}
 use Rattle.coho_main.specs.Words.{Command, Ring, StageFiles, command}
+use Rattle.coho_main.proofs.FromWords.{without_from}
 use Rattle.coho_main.proofs.OneTable.{one_table}
 use Rattle.coho_main.proofs.Outcomes.{load, outcome_unique}
 use Rattle.coho_main.proofs.RingAnswers.{some_is}
@@ -102,9 +103,30 @@ module _ (path : List ℕ) (n : ℕ) (from : List ℕ) (save : Option (List ℕ)
           e in absurd (cc)
       asked (Some c) r new h e = let no = h.0 in absurd (cc)
 
+-- the file and the degree of a command for a ring
+abbrev path_in : List ℕ → Command → List ℕ
+path_in other (Ring path n stages) = path
+path_in other _ = other
+
+abbrev degree_in : ℕ → Command → ℕ
+degree_in other (Ring path n stages) = n
+degree_in other _ = other
+
 pub without_it : (words fewer : List (List ℕ)) (path : List ℕ) (n : ℕ) (from : List ℕ) (files : Content)
     → AreWordsWithout words fewer path n from → IsAcceptedFile path n from files
     → (e d : Ending) → Outcome words files e → Outcome fewer files d → e ≡ d
 without_it words fewer path n from files W F e d h k =
+    let asked = sym (ap command W.words_are) ∙ W.asked in
+    let alike = without_from W.before W.after from (Ring path n W.stages) asked in
+    let save = alike.2 in
+    let same_path : path ≡ alike.0 = ap (path_in path) alike.3 in
+    let same_degree : n ≡ alike.1 = ap (degree_in n) alike.3 in
+    let ring_is : (f : Option (List ℕ)) → Ring path n (record { from = f; save = save })
+    ≡ Ring alike.0 alike.1 (record { from = f; save = save })
+    = λ f. λ i. Ring (same_path i) (same_degree i) (record { from = f; save = save }) in
+    let with_file : command words ≡ Some (Ring path n (record { from = Some from; save = save }))
+    = W.asked ∙ ap (λ (c : Command). Some c) (alike.3 ∙ sym (ring_is (Some from))) in
+    let without : command fewer ≡ Some (Ring path n (record { from = None; save = save }))
+    = ap command W.fewer_are ∙ alike.4 ∙ ap (λ (c : Command). Some c) (sym (ring_is None)) in
     outcome_unique fewer files e d
-    (h.0, h.1, come path n from W.save files F words fewer W.with_file W.without h.0 h.1 h.2, h.3) k
+    (h.0, h.1, come path n from save files F words fewer with_file without h.0 h.1 h.2, h.3) k

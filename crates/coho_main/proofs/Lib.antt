@@ -37,3 +37,4 @@ pub mod OneValue
 pub mod Evaluated
 pub mod ClassAnswers
 pub mod FileLaws
+pub mod FromWords

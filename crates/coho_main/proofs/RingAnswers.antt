@@ -1,5 +1,5 @@
 -- An answer to `ring` tells the cohomology ring.
-use Rattle.std.proofs.Common.{◌≡◌, ◌≢◌, List, ℕ, inl, inr, sym, subst, ◌∙◌}
+use Rattle.std.proofs.Common.{◌≡◌, ◌≢◌, List, ℕ, inl, inr, sym, subst, ap, ◌∙◌}
 use Rattle.std.specs.declared.option.Option.{Option}
 use Rattle.std.specs.declared.option.Option.TheVariants.{None, Some}
 use Rattle.std.specs.declared.result.Result.{Result}
@@ -18,7 +18,7 @@ use Rattle.coho_main.specs.declared.stop.Stop.{Stop}
 use Rattle.coho_main.specs.declared.stop.Stop.TheVariants as stop
 use Rattle.coho_main.specs.Outcome.{Load, AnswerRing, Reply, Comes, TellReport}
 use Rattle.coho_main.specs.Refusals.{words_refused}
-use Rattle.coho_main.specs.RingAnswers.{TellsRing, TellsRingOf}
+use Rattle.coho_main.specs.RingAnswers.{IsRingText, TellsRingOf}
 use Rattle.coho_main.specs.Run.{OfFiles}
 use Rattle.coho_main.specs.Saving.{FromTo}
 use Rattle.coho_main.specs.Steps.{Refusal, OrRefuse}
@@ -36,11 +36,9 @@ pub some_is : {A : Type 0} (o : Option A) (x y : A) (old new : Content)
 some_is None x y old new h e = absurd (let no = e in cc)
 some_is (Some z) x y old new h e = ((let first = h.0 in let second = e in cc), h.1)
 
-module _ (path : List ℕ) (n : ℕ) (stages : StageFiles) (files : Content) (lines : Answers) (old new : Option
-    (List ℕ))
-    (wrote : Appends old new (concat lines)) where
+module _ (path : List ℕ) (n : ℕ) (stages : StageFiles) (files : Content) (lines : Answers) where
   of_report : (P : Presentation) (left mid end : Content) → Load path files (Ok P) left
-      → TellReport P n mid (Ok lines) end → TellsRing path n files old new
+      → TellReport P n mid (Ok lines) end → IsRingText path n files (concat lines)
   of_report P left mid end load (inr h) = absurd (let no = h.2 in cc)
   of_report P left mid end load (inl h) =
       let same : ◌≡◌ {A = Result Answers Refusal} (Ok lines) (Ok (report_lines h.0)) = h.3.0 in
@@ -52,22 +50,22 @@ module _ (path : List ℕ) (n : ℕ) (stages : StageFiles) (files : Content) (li
         group = h.2.0.group;
         is_table = h.2.0.is_table;
         report = h.0;
-        written = subst (λ (ls : Answers). Appends old new (concat ls)) told wrote;
+        text_is = ap (λ (ls : Answers). concat ls) told;
         cohomology = cohomology-report h.2.0.group n h.0 h.2.0.holds.is;
       }
 
   of_fit : (P : Presentation) (left end : Content) → Load path files (Ok P) left
-      → AnswerRing P n stages left (Ok lines) end → TellsRing path n files old new
+      → AnswerRing P n stages left (Ok lines) end → IsRingText path n files (concat lines)
   of_fit P left end load (inr h) = absurd (let no = h.2 in cc)
   of_fit P left end load (inl h) = of_report P left h.1 end load h.3
 
   of_reply : (end : Content) → Reply (Ring path n stages) files (Ok lines) end
-      → TellsRing path n files old new
+      → IsRingText path n files (concat lines)
   of_reply end (inr h) = absurd (let no = h.2 in cc)
   of_reply end (inl h) = of_fit h.0 h.1 end h.2 h.3
 
   pub of_words : (words : List (List ℕ)) (end : Content) → Comes words files (Ok lines) end
-      → command words ≡ Some (Ring path n stages) → TellsRing path n files old new
+      → command words ≡ Some (Ring path n stages) → IsRingText path n files (concat lines)
   of_words words end (inr h) e = absurd (let no = h.2 in cc)
   of_words words end (inl h) e =
       let is = some_is (command words) (Ring path n stages) h.0 files h.1 h.2 e in
@@ -83,7 +81,8 @@ pub tells_ring : (words : List (List ℕ)) (known now : Option Content) (lines :
 tells_ring words known now lines old new h wrote = (
   h.0,
   h.2,
-  λ path n stages e. of_words path n stages h.0 (lines_of lines) old new wrote words h.1 h.4 e,
+  λ path n stages e.
+      (concat (lines_of lines), of_words path n stages h.0 (lines_of lines) words h.1 h.4 e, wrote),
 )
 
 -- no stop has the status of an answer

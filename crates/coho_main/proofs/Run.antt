@@ -29,7 +29,7 @@ use Rattle.coho_main.proofs.Replies.{Lines, lines_of}
 use Rattle.coho_main.proofs.Outcomes.{none_comes, outcome_unique, usage_is}
 use Rattle.coho_main.proofs.Settled.{IsOrMemory, is_memory, no_fault, not_memory}
 
-Appends_nothing : (known : Option (List ℕ)) → Appends known known []
+pub Appends_nothing : (known : Option (List ℕ)) → Appends known known []
 Appends_nothing None = tt
 Appends_nothing (Some bytes) = sym (append-nil bytes)
 

@@ -1,5 +1,5 @@
 -- Stage files of which nothing is refused.
-use Rattle.std.specs.Prelude.{◌≡◌, ℕ, List, take}
+use Rattle.std.specs.Prelude.{◌≡◌, ℕ, List, ◌∷◌, ◌++◌, codes, take}
 use Rattle.std.specs.declared.option.Option.{Option}
 use Rattle.std.specs.declared.option.Option.TheVariants.{None, Some}
 use Rattle.std.specs.declared.result.Result.TheVariants.{Ok}
@@ -11,7 +11,7 @@ use Rattle.power_commutator.specs.Presentations.{Presentation}
 use Rattle.stage_file.specs.Honest.{file_of, walk_of}
 use Rattle.coho_main.specs.Groups.{IsTableOf, ForGroupOf}
 use Rattle.coho_main.specs.Outcome.{Load}
-use Rattle.coho_main.specs.Words.{Ring, command}
+use Rattle.coho_main.specs.Words.{Ring, StageFiles, command}
 
 -- the walk to record n refuses nothing of these bytes
 abbrev pub IsAccepted : Presentation → ℕ → List ℕ → Type 0
@@ -28,9 +28,13 @@ pub record IsAcceptedFile (path : List ℕ) (n : ℕ) (from : List ℕ) (files :
   pub there : file files from ≡ Some bytes
   pub accepted : (P : Presentation) (left : Content) → Load path files (Ok P) left → IsAccepted P n bytes
 
--- the words ask for a ring with a file to take stages from, and the others for the same without it
+-- the words ask for a ring with a file to take stages from, and the others are these words with `--from` and
+-- the file's word taken out
 pub record AreWordsWithout (words fewer : List (List ℕ)) (path : List ℕ) (n : ℕ)
     (from : List ℕ) : Type 0 where
-  pub save : Option (List ℕ)
-  pub with_file : command words ≡ Some (Ring path n (record { from = Some from; save = save }))
-  pub without : command fewer ≡ Some (Ring path n (record { from = None; save = save }))
+  pub before : List (List ℕ)
+  pub after : List (List ℕ)
+  pub words_are : words ≡ codes "ring" ∷ (before ++ codes "--from" ∷ from ∷ after)
+  pub fewer_are : fewer ≡ codes "ring" ∷ (before ++ after)
+  pub stages : StageFiles
+  pub asked : command words ≡ Some (Ring path n stages)

@@ -39,7 +39,7 @@ pub use cause::{Cause, FilePart};
 use coho_io::{DiskFiles, StdSink};
 pub use degree::read_degree;
 pub use evaluating::{basis_value, fit_elements, value_lines};
-pub use file_laws::{from_law, honest_law};
+pub use file_laws::{from_law, honest_law, words_law};
 pub use layers::{algebra_of, radical_dimensions};
 pub use loading::{accept, load};
 pub use numbers::{GREATEST_NUMBER, MOST_ELEMENTS, read_number, read_place};
@@ -47,7 +47,7 @@ pub use operands::{PlaceWords, all_plain, is_plain, one_operand, place_operands,
 pub use products::direct_product;
 pub use reading::read_front;
 pub use ring_words::{RingWords, StageFiles, StageOption, ring_command};
-pub use running::{outcome_exists, outcome_is_unique, run};
+pub use running::{outcome_exists, outcome_is_unique, ring_outcome, run};
 pub use samples::{GREATEST_SAMPLE, read_sample, sample_presentation};
 pub use stage_files::{count_records, find_stages};
 pub use stages::resolution_of;

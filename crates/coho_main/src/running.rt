@@ -1,5 +1,5 @@
-ghost use Rattle.std.specs.Prelude.{◌≡◌, ◌≢◌, ◌≤◌, ◌⊎◌, ℕ, List, None, Some};
-ghost use Rattle.std.specs.List.{Contains};
+ghost use Rattle.std.specs.Prelude.{◌≡◌, ◌≢◌, ◌≤◌, ◌⊎◌, ℕ, List, None, Some, Ok};
+ghost use Rattle.std.specs.List.{Contains, concat};
 ghost use Rattle.coho_io.specs.Content.{Content};
 ghost use Rattle.coho_io.specs.Causes.{NoneFell, Rose};
 ghost use Rattle.coho_main.specs.Words.{AskForValue, IsPlace, IsWithin, asked, command};
@@ -8,7 +8,7 @@ ghost use Rattle.coho_main.specs.Outcome.{Answer, AnswerCheck, AnswerGroup, Answ
 ghost use Rattle.coho_main.specs.Outcome.{AnswerSample, TellCount, TellReport};
 ghost use Rattle.coho_main.specs.Outcome.{AnswerValue, Comes, Ending, Given, Outcome};
 ghost use Rattle.coho_main.specs.Refusals.{read_refused, write_refused};
-ghost use Rattle.coho_main.specs.RingAnswers.{TellsRingOf};
+ghost use Rattle.coho_main.specs.RingAnswers.{AnswersOver, IsRingTextOf, TellsRingOf};
 ghost use Rattle.coho_main.specs.ClassAnswers.{HasCocycleClassesOf};
 ghost use Rattle.coho_main.specs.StageFiles.{AreTaken, IsFrontSaved};
 ghost use Rattle.coho_main.specs.Stops.{HasReadCause, Meets, OnlyReads, Settles};
@@ -256,6 +256,14 @@ pub fn run<F: Files, O: Sink, E: Sink>(
     ensures classes { result ≡ Status.Answered → OfFiles (F.content files.old)
         (HasCocycleClassesOf (texts words.now)) }
 
+    // An answer is all of this over one choice of files, and the text of the report is the outcome's, whether
+    // out tells its bytes or not.
+    ensures answer { result ≡ Status.Answered → OfFiles (F.content files.old)
+        (AnswersOver (texts words.now) result (F.content files.old) (F.content files.new)
+        (O.written out.old) (O.written out.new)
+        (E.written err.old) (E.written err.new)
+        (E.faults err.old) (E.faults err.new)) }
+
     // Whether files are told or not, the words decide alone whether they are refused, but for those of
     // `value`, where the group decides too.
     ensures usage { result ≡ Status.Usage
@@ -315,6 +323,13 @@ pub fn run<F: Files, O: Sink, E: Sink>(
         Err(stop) => report(alloc, stop, err),
     }
 }
+
+/// The answer that words and files come to, where the words ask for a ring, is the text of a report that is of
+/// the cohomology ring of the group of the presentation in the file.
+pub fn ring_outcome()
+    ensures { (words : List (List ℕ)) (files left : Content) (lines : List (List ℕ))
+        → Comes words files (Ok lines) left → IsRingTextOf words files (concat lines) }
+{}
 
 /// Words and files have an outcome.
 pub fn outcome_exists()

@@ -1,17 +1,18 @@
 -- A report is that of the cohomology ring of the bar complex, with restrictions of cocycles, and with
 -- parameters by cocycles.
-use Rattle.std.specs.Prelude.{◌≡◌, ◌↔◌, ℕ, ◌≤◌, true, Option, Some, None, List, [], ◌∷◌, refl}
-use Rattle.std.proofs.Common.{◌∙◌, inl, inr, arith, ap}
+use Rattle.std.specs.Prelude.{◌≡◌, ◌↔◌, ℕ, suc, ◌≤◌, true, Option, Some, None, List, [], ◌∷◌, refl}
+use Rattle.std.proofs.Common.{inl, inr, arith, ap, sym, subst}
+use Rattle.std.specs.List.{range_with_len}
 use Rattle.std.proofs.lemmas.Bool.{leb-true, le-leb}
 use Rattle.p_groups.specs.PGroups.{PGroup, largest_residue}
-use Rattle.elementary_subgroups.specs.Bases.{NumberedSubgroup, IsSubgroupOf}
+use Rattle.elementary_subgroups.specs.Bases.{NumberedSubgroup, IsSubgroupList, IsSubgroupOf}
 use Rattle.elementary_subgroups.specs.Sets.{IsIn}
 use Rattle.elementary_subgroups.proofs.NumberedLists.{subgroup_in}
 use Rattle.graded_polynomials.specs.Polynomials.{Polynomial}
 use Rattle.graded_algebra.specs.Algebras.{Generator}
 use Rattle.graded_algebra.specs.Vectors.{Vector}
+use Rattle.group_cocycles.specs.Dimensions.{IsDimension}
 use Rattle.group_cocycles.specs.Rings.{cocycles_of}
-use Rattle.group_cocycles.proofs.Rings.{degrees-same}
 use Rattle.ring_present.proofs.Cohomology.{cohomology-ring}
 use Rattle.coho_report.specs.Related.{AreRelated}
 use Rattle.coho_report.specs.Subgroups.{IsToldOf}
@@ -19,8 +20,10 @@ use Rattle.coho_report.specs.Reports.{IsReport}
 use Rattle.coho_report.specs.Values.{ReportValue, SubgroupValue}
 use Rattle.coho_report.specs.Verdicts.{bound_of, is_complete}
 use Rattle.coho_report.specs.Cohomology.{AreRestrictions, IsCohomologyReport}
+use Rattle.coho_report.proofs.Dimensions.{ranks-are-dimensions}
 use Rattle.coho_report.proofs.ParameterCocycles.{parameters-by-cocycles}
 use Rattle.coho_report.proofs.RestrictedCocycles.{told-restrictions}
+use Rattle.coho_report.proofs.SubgroupRings.{own-rings, rings_of, subgroups-same}
 
 -- a verdict is complete exactly where there are parameters whose bound is at most the degree
 verdict-is : (d n : ℕ) (found : Option (List Polynomial)) → d ≡ n
@@ -41,8 +44,8 @@ module _ (G : PGroup) (n : ℕ) where
 
   all-told : (gs : List (Generator Class)) (ss : List NumberedSubgroup) (vs : List SubgroupValue)
       → ((s : NumberedSubgroup) → IsIn s ss → IsSubgroupOf G.table s)
-      → AreRelated (IsToldOf G n gs) ss vs
-      → AreRelated (AreRestrictions G n (cocycles_of G gs)) ss vs
+      → (r : AreRelated (IsToldOf G n gs) ss vs)
+      → AreRelated (AreRestrictions G (cocycles_of G gs)) (rings_of G n gs ss vs r) vs
   all-told gs [] [] h r = r
   all-told gs [] (v ∷ vs) h r = absurd r
   all-told gs (s ∷ ss) [] h r = absurd r
@@ -52,15 +55,27 @@ module _ (G : PGroup) (n : ℕ) where
   )
 
   pub cohomology-report : (r : ReportValue) → IsReport G n r → IsCohomologyReport G n r
-  cohomology-report r R = record {
-    generators = cocycles_of G R.generators;
-    degrees_are = R.degrees_are ∙ degrees-same G R.generators;
-    ring = cohomology-ring G n R.generators r.relations R.presentation;
-    subgroups = R.subgroups;
-    subgroups_are = R.subgroups_are;
-    restrictions = all-told R.generators R.subgroups r.subgroups
-        (λ s i. subgroup_in G.table R.subgroups s R.subgroups_are i) R.told;
-    parameters = parameters-by-cocycles G n R.generators R.subgroups r.subgroups R.told
-        (λ s i. subgroup_in G.table R.subgroups s R.subgroups_are i) r.parameters R.parameters;
-    verdict = verdict-is r.degree n r.parameters R.degree;
-  }
+  cohomology-report r R =
+      let listed : (s : NumberedSubgroup) → IsIn s R.subgroups → IsSubgroupOf G.table s
+      = λ s i. subgroup_in G.table R.subgroups s R.subgroups_are i in
+      record {
+        prime_is = R.prime;
+        order_is = R.order_is;
+        degree_is = R.degree;
+        ranks = subst (AreRelated (IsDimension G) (range_with_len 0 (suc n))) (sym R.ranks)
+            (ranks-are-dimensions G (suc n));
+        generators = R.generators;
+        degrees_are = R.degrees_are;
+        ring = record {
+          presentation = R.presentation;
+          ring = cohomology-ring G n R.generators r.relations R.presentation;
+        };
+        subgroups = rings_of G n R.generators R.subgroups r.subgroups R.told;
+        subgroups_are = subst (IsSubgroupList G.table)
+            (sym (subgroups-same G n R.generators R.subgroups r.subgroups R.told)) R.subgroups_are;
+        own_rings = own-rings G n R.generators R.subgroups r.subgroups R.told;
+        restrictions = all-told R.generators R.subgroups r.subgroups listed R.told;
+        parameters = parameters-by-cocycles G n R.generators R.subgroups r.subgroups R.told listed
+            r.parameters R.parameters;
+        verdict = verdict-is r.degree n r.parameters R.degree;
+      }

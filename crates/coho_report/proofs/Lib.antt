@@ -31,3 +31,9 @@ pub mod Chosen
 pub mod ParametersTold
 pub mod RestrictedCocycles
 pub mod ParameterCocycles
+pub mod SubgroupRings
+pub mod Dimensions
+pub mod ImageDegrees
+pub mod Variables
+pub mod ExchangedVariables
+pub mod ZeroParameters

@@ -27,7 +27,7 @@ module _ (G : PGroup) where
   abbrev Class : Type 0
   Class = Vector (largest_residue G)
 
-  same_generators : (n : ℕ) (gs hs : List (Generator Class)) (rs ss : List Polynomial)
+  pub same_generators : (n : ℕ) (gs hs : List (Generator Class)) (rs ss : List Polynomial)
       → IsPresentation G n gs rs → IsPresentation G n hs ss → gs ≡ hs
   same_generators n gs hs rs ss g k = span-generators-unique (largest_residue G) (cohomology G)
       (dual_basis G) n gs hs g.generators_are k.generators_are

@@ -1,5 +1,5 @@
 -- By cocycles, the parameters of a report restrict to polynomials that leave a finite ring on each subgroup.
-use Rattle.std.proofs.Common.{◌≡◌, ◌∙◌, inl, inr, ℕ, zero, suc, ◌<◌, List, [], ◌∷◌, ◌++◌, length}
+use Rattle.std.proofs.Common.{◌≡◌, ◌∙◌, ℕ, zero, suc, ◌<◌, ◌≤◌, List, [], ◌∷◌, ◌++◌, length}
 use Rattle.std.proofs.Common.{map, Option, Some, None, Bool, true, false, cond, refl, sym, ap, arith}
 use Rattle.std.specs.Prelude.{IfSome, slice_get, slice_index_or}
 use Rattle.std.specs.List.{AllByRecursion as Each}
@@ -11,9 +11,7 @@ use Rattle.elementary_subgroups.specs.Bases.{NumberedSubgroup, IsSubgroupOf}
 use Rattle.elementary_subgroups.specs.Sets.{IsIn}
 use Rattle.group_algebra.specs.Coordinates.{layer_coordinates}
 use Rattle.min_res.specs.Stages.{stage_rows}
-use Rattle.bar_complex.proofs.Cohomologous.{near-sym, near-trans}
-use Rattle.class_restriction.proofs.Restrict.{Homomorphism}
-use Rattle.class_restriction.proofs.Pull.{pull-near}
+use Rattle.bar_complex.proofs.Cohomologous.{near-sym}
 use Rattle.graded_polynomials.specs.Monomials.{IsMonomial, is_exterior}
 use Rattle.graded_polynomials.specs.Polynomials.{Polynomial, IsOver}
 use Rattle.graded_polynomials.proofs.Terms.{each-append}
@@ -22,7 +20,6 @@ use Rattle.graded_algebra.specs.Vectors.{Vector}
 use Rattle.graded_algebra.proofs.SpansUnique.{span-generators-unique}
 use Rattle.cohomology_algebra.specs.Claims.{vector_cocycle}
 use Rattle.presentation_rows.proofs.RowTerms.{each-term}
-use Rattle.group_cocycles.specs.Cocycles.{GroupCochain}
 use Rattle.group_cocycles.specs.Rings.{Generators, cochain_of, cocycles_of}
 use Rattle.group_cocycles.proofs.Rings.{degrees-same, value-cocycle}
 use Rattle.param_test.specs.Bounds.{greatest}
@@ -30,11 +27,9 @@ use Rattle.param_test.specs.Finiteness.{IsFinite}
 use Rattle.param_test.specs.Parameters.{IsFoundIn, restriction}
 use Rattle.param_test.specs.Tables.{CandidateValue, TableValue, degrees_of}
 use Rattle.param_test.specs.Tuples.{IsTuple}
-use Rattle.chain_lift.specs.Embeddings.{elementary, embedding}
-use Rattle.chain_lift.proofs.EmbeddingElements.{homomorphism}
+use Rattle.chain_lift.specs.Embeddings.{elementary}
 use Rattle.ring_present.specs.Rings.{cohomology, dual_basis, IsPresentation}
 use Rattle.ring_present.specs.Standard.{AreStandard}
-use Rattle.ring_present.proofs.Cohomology.{cohomology-ring}
 use Rattle.coho_report.specs.Candidates.{polynomials_of, AreCombinations, AreCandidatesIn, AreCandidates}
 use Rattle.coho_report.specs.Cohomology as report
 use Rattle.coho_report.specs.Cohomology.{with_cocycle, AreFiniteOn, AreParametersOf}
@@ -44,21 +39,9 @@ use Rattle.coho_report.specs.Related.{AreRelated}
 use Rattle.coho_report.specs.Subgroups.{IsImage, IsToldOf}
 use Rattle.coho_report.specs.Values.{SubgroupValue}
 use Rattle.coho_report.proofs.ListsBelow.{ascends_below}
-use Rattle.coho_report.proofs.Related.{related-length, related-place}
-use Rattle.coho_report.proofs.RestrictedCocycles.{image-is}
-
-related-get : {A B : Type 0} (R : A → B → Type 0) (xs : List A) (ys : List B) → AreRelated R xs ys → (j : ℕ)
-    (x : A) (d : B) → slice_get xs j ≡ Some x → R x (slice_index_or ys j d)
-related-get R [] ys r j x d e = absurd (cc)
-related-get R (z ∷ xs) [] r j x d e = absurd r
-related-get R (z ∷ xs) (y ∷ ys) r zero x d e = let same : z ≡ x = cc in subst (λ x. R x y) same r.0
-related-get R (z ∷ xs) (y ∷ ys) r (suc j) x d e = related-get R xs ys r.1 j x d e
-
-get-map : {X Y : Type 0} (f : X → Y) (xs : List X) (j : ℕ) (x : X) → slice_get xs j ≡ Some x
-    → slice_get (map f xs) j ≡ Some (f x)
-get-map f [] j x e = absurd (cc)
-get-map f (y ∷ xs) zero x e = let same : y ≡ x = cc in ap (λ z. Some (f z)) same
-get-map f (y ∷ xs) (suc j) x e = get-map f xs j x e
+use Rattle.coho_report.proofs.Related.{get-map, related-get, related-length, related-place}
+use Rattle.coho_report.proofs.RestrictedCocycles.{restriction-is}
+use Rattle.coho_report.proofs.SubgroupRings.{ring_of, rings_of, each-ring, ranks-same}
 
 each-last : {X : Type 0} (P : X → Type 0) (xs : List X) (x : X) → Each P (xs ++ x ∷ []) → P x
 each-last P [] x h = h.0
@@ -80,61 +63,55 @@ module _ (G : PGroup) (n : ℕ) (gs : List (Generator (Vector (largest_residue G
   abbrev hs : Generators G
   hs = cocycles_of G gs
 
-  abbrev Over : Polynomial → Type 0
-  Over f = IsOver q (degrees gs) f.degree f.terms
+  -- f is a polynomial of degree 1 to m in the generators
+  abbrev Over : ℕ → Polynomial → Type 0
+  Over m f = (1 ≤ f.degree) × (f.degree ≤ m) × IsOver q (degrees gs) f.degree f.terms
 
   -- candidates are polynomials in the generators
-  rows-over : (d : ℕ) (ms rows : List (List ℕ)) → AreStandard q (cohomology G) gs d ms
-      → Each Over (polynomials_of d ms rows)
+  rows-over : (d : ℕ) (ms rows : List (List ℕ)) → AreStandard q (cohomology G) gs (suc d) ms
+      → Each (Over (suc d)) (polynomials_of (suc d) ms rows)
   rows-over d ms [] S = tt
   rows-over d ms (row ∷ rows) S = (
-    each-term (λ t. IsMonomial q (degrees gs) d t.monomial) ms row (λ k c l h. (S.each k l).0),
+    (
+      omega arith,
+      omega arith,
+      each-term (λ t. IsMonomial q (degrees gs) (suc d) t.monomial) ms row (λ k c l h. (S.each k l).0),
+    ),
     rows-over d ms rows S,
   )
 
-  over-in : (d : ℕ) (fs : List Polynomial) → AreCandidatesIn G gs d fs → Each Over fs
-  over-in d fs a = go (is_exterior q d) a
+  over-in : (d : ℕ) (fs : List Polynomial) → AreCandidatesIn G gs (suc d) fs → Each (Over (suc d)) fs
+  over-in d fs a = go (is_exterior q (suc d)) a
     where
-      go : (t : Bool) → cond t (fs ≡ []) (AreCombinations G gs d fs) → Each Over fs
-      go true e = subst (Each Over) (sym e) tt
-      go false c = subst (Each Over) (sym c.polynomials_are) (rows-over d c.monomials c.rows c.monomials_are)
+      go : (t : Bool) → cond t (fs ≡ []) (AreCombinations G gs (suc d) fs) → Each (Over (suc d)) fs
+      go true e = subst (Each (Over (suc d))) (sym e) tt
+      go false c =
+          subst (Each (Over (suc d))) (sym c.polynomials_are) (rows-over d c.monomials c.rows c.monomials_are)
 
-  candidates-over : (d : ℕ) (fs : List Polynomial) → AreCandidates G gs d fs → Each Over fs
-  candidates-over zero fs e = subst (Each Over) (sym e) tt
+  wider-over : (d : ℕ) (fs : List Polynomial) → Each (Over d) fs → Each (Over (suc d)) fs
+  wider-over d [] h = tt
+  wider-over d (f ∷ fs) h =
+      ((h.0.0, (let l = h.0.1 in omega (arith, l)), h.0.2), wider-over d fs h.1)
+
+  candidates-over : (d : ℕ) (fs : List Polynomial) → AreCandidates G gs d fs → Each (Over d) fs
+  candidates-over zero fs e = subst (Each (Over zero)) (sym e) tt
   candidates-over (suc d) fs (before, new, early, here, is) =
-      subst (Each Over) (sym is)
-      (each-append Over before new (candidates-over d before early) (over-in (suc d) new here))
+      subst (Each (Over (suc d))) (sym is)
+      (each-append (Over (suc d)) before new (wider-over d before (candidates-over d before early))
+      (over-in d new here))
 
   -- the restriction of the value of a polynomial is that of its cocycle
   restricted-cocycle : (s : NumberedSubgroup) → IsSubgroupOf G.table s
-      → (own : List (Generator (Vector q))) (f y : Polynomial) → Over f
-      → IsImage G s.basis own (class_of G gs f) y
-      → report.IsRestriction G s.basis (cocycles_of (elementary G (length s.basis)) own)
+      → (own : List (Generator (Vector q))) (rs : List Polynomial) (f y : Polynomial)
+      → IsOver q (degrees gs) f.degree f.terms → IsImage G s.basis own (class_of G gs f) y
+      → report.IsRestriction G (record { subgroup = s; generators = own; relations = rs })
       (with_cocycle G hs f) y
-  restricted-cocycle s S own f y over I =
-      let E = elementary G (length s.basis) in
-      let φ : Homomorphism (group E) (group G) = record {
-        to = embedding G s.basis;
-        to-mul = homomorphism G s S;
-      } in
-      let large : GroupCochain G = vector_cocycle q (group G) (layer_coordinates G) (stage_rows G) f.degree
-      (value (cohomology G) gs f.terms) in
-      near-trans q (monoid (group E)) f.degree (cochain_of E (cocycles_of E own) y.terms)
-      (λ xs. large (map (embedding G s.basis) xs))
-      (λ xs. cochain_of G hs f.terms (map (embedding G s.basis) xs))
-      (image-is G s S own (class_of G gs f) y I)
-      (pull-near φ q f.degree large (cochain_of G hs f.terms)
-      (near-sym q (monoid (group G)) f.degree (cochain_of G hs f.terms) large
-      (value-cocycle G gs f.degree f.terms over)))
-
-  -- what is told of a subgroup of the list, and its place
-  told-at : (ss : List NumberedSubgroup) (vs : List SubgroupValue) → AreRelated (IsToldOf G n gs) ss vs
-      → (s : NumberedSubgroup) → IsIn s ss
-      → (j : ℕ) × (v : SubgroupValue) × (slice_get vs j ≡ Some v) × IsToldOf G n gs s v
-  told-at [] vs r s h = absurd h
-  told-at (t ∷ ss) [] r s h = absurd r
-  told-at (t ∷ ss) (v ∷ vs) r s (inl e) = (0, v, refl, subst (λ t. IsToldOf G n gs t v) (sym e) r.0)
-  told-at (t ∷ ss) (v ∷ vs) r s (inr h) = let k = told-at ss vs r.1 s h in (suc k.0, k.1, k.2, k.3)
+  restricted-cocycle s S own rs f y over I =
+      restriction-is G s S own rs (class_of G gs f) (cochain_of G hs f.terms)
+      (near-sym q (monoid (group G)) f.degree (cochain_of G hs f.terms)
+      (vector_cocycle q (group G) (layer_coordinates G) (stage_rows G) f.degree
+      (value (cohomology G) gs f.terms))
+      (value-cocycle G gs f.degree f.terms over)) y I
 
   image-of : (s : NumberedSubgroup) (v : SubgroupValue) (T : IsToldOf G n gs s v)
       (g : Generator (Vector q)) (y : Polynomial) → IsRestriction G n g v y → IsImage G s.basis T.own g y
@@ -150,9 +127,9 @@ module _ (G : PGroup) (n : ℕ) (gs : List (Generator (Vector (largest_residue G
   module _ (s : NumberedSubgroup) (S : IsSubgroupOf G.table s) (v : SubgroupValue) (T : IsToldOf G n gs s v)
       (vs : List SubgroupValue) (j : ℕ) (at : slice_get vs j ≡ Some v) (fs : List Polynomial)
       (t : TableValue) (restricted : AreRelated (IsRestricted G n gs vs) fs t.candidates)
-      (over : Each Over fs) where
+      (over : Each (Over n) fs) where
     images-of : (ks : List ℕ) → Each (λ k. k < length t.candidates) ks
-        → AreRelated (report.IsRestriction G s.basis (cocycles_of (elementary G (length s.basis)) T.own))
+        → AreRelated (report.IsRestriction G (ring_of G n gs s v T))
         (map (with_cocycle G hs) (map (λ k. slice_index_or fs k none) ks)) (map (restriction t j) ks)
     images-of [] b = tt
     images-of (k ∷ ks) b =
@@ -164,25 +141,25 @@ module _ (G : PGroup) (n : ℕ) (gs : List (Generator (Vector (largest_residue G
         (slice_index_or t.candidates k c).images here.images_are j v none at in
         let count = related-length (IsRestricted G n gs vs) fs t.candidates restricted in
         let low : k < length fs = let l = b.0 in omega (arith, count, l) in (
-          restricted-cocycle s S T.own f y (each-at Over fs over k none low)
+          restricted-cocycle s S T.own T.relations f y (each-at (Over n) fs over k none low).2
               (image-of s v T (class_of G gs f) y r),
           images-of ks b.1,
         )
 
-  ranks-same : (ss : List NumberedSubgroup) (vs : List SubgroupValue) → AreRelated (IsToldOf G n gs) ss vs
-      → map (λ (v : SubgroupValue). length v.basis) vs ≡ map (λ (s : NumberedSubgroup). length s.basis) ss
-  ranks-same [] [] r = refl
-  ranks-same [] (v ∷ vs) r = absurd r
-  ranks-same (s ∷ ss) [] r = absurd r
-  ranks-same (s ∷ ss) (v ∷ vs) r =
-      let head = ap (λ (b : List ℕ). length b) r.0.basis_is in
-      let tail = ranks-same ss vs r.1 in
-      λ i. head i ∷ tail i
+  each-within : (fs : List Polynomial) → Each (Over n) fs
+      → Each (λ f. (1 ≤ f.degree) × (f.degree ≤ n)) fs
+  each-within [] h = tt
+  each-within (f ∷ fs) h = ((h.0.0, h.0.1), each-within fs h.1)
+
+  each-over : (fs : List Polynomial) → Each (Over n) fs → Each (λ f. IsOver q (degrees hs) f.degree f.terms) fs
+  each-over [] h = tt
+  each-over (f ∷ fs) h =
+      (subst (λ ds. IsOver q ds f.degree f.terms) (degrees-same G gs) h.0.2, each-over fs h.1)
 
   module _ (ss : List NumberedSubgroup) (vs : List SubgroupValue) (told : AreRelated (IsToldOf G n gs) ss vs)
       (listed : (s : NumberedSubgroup) → IsIn s ss → IsSubgroupOf G.table s) (fs : List Polynomial)
       (cs : List CandidateValue) (restricted : AreRelated (IsRestricted G n gs vs) fs cs)
-      (over : Each Over fs) where
+      (over : Each (Over n) fs) where
     abbrev table : TableValue
     table = record {
       prime = prime_of G;
@@ -191,52 +168,48 @@ module _ (G : PGroup) (n : ℕ) (gs : List (Generator (Vector (largest_residue G
     }
 
     chosen-over : (ks : List ℕ) → Each (λ k. k < length cs) ks
-        → Each (λ f. IsOver q (degrees hs) f.degree f.terms) (map (λ k. slice_index_or fs k none) ks)
+        → Each (Over n) (map (λ k. slice_index_or fs k none) ks)
     chosen-over [] b = tt
     chosen-over (k ∷ ks) b =
-        let f = slice_index_or fs k none in
         let count = related-length (IsRestricted G n gs vs) fs cs restricted in
-        let low : k < length fs = let l = b.0 in omega (arith, count, l) in (
-          subst (λ ds. IsOver q ds f.degree f.terms) (degrees-same G gs) (each-at Over fs over k none low),
-          chosen-over ks b.1,
-        )
+        let low : k < length fs = let l = b.0 in omega (arith, count, l) in
+        (each-at (Over n) fs over k none low, chosen-over ks b.1)
 
     found-by-cocycles : (places : Option (List ℕ)) → IsFoundIn table (greatest_rank vs) places
-        → IfSome (at_places fs places) (AreParametersOf G n hs ss)
+        → IfSome (at_places fs places) (AreParametersOf G n hs (rings_of G n gs ss vs told))
     found-by-cocycles None F = tt
     found-by-cocycles (Some ks) F =
         let tuple = each-last (IsTuple (length (degrees_of cs)) (greatest_rank vs)) F.earlier ks
         F.first.members in
         let below = subst (λ m. Each (λ k. k < m) ks) (length-map cs (λ (c : CandidateValue). c.degree))
         (ascends_below 0 (length (degrees_of cs)) ks tuple.ascends) in
+        let chosen = chosen-over ks below in
+        let ps = map (λ k. slice_index_or fs k none) ks in
         record {
-          polynomials = chosen-over ks below;
+          within = each-within ps chosen;
+          polynomials = each-over ps chosen;
           count = length-map ks (λ k. slice_index_or fs k none) ∙ tuple.length_is
-              ∙ ap greatest (ranks-same ss vs told);
-          finite = λ s i.
-              let at = told-at ss vs told s i in
-              let T = at.3 in
-              let E = elementary G (length s.basis) in
-              let ys = map (restriction table at.0) ks in
+              ∙ ap greatest (ranks-same G n gs ss vs told);
+          finite = each-ring G n gs (AreFiniteOn G hs ps) ss vs told (λ s i v T j e.
+              let ys = map (restriction table j) ks in
               record {
-                own = cocycles_of E T.own;
-                relations = T.relations;
-                ring = cohomology-ring E n T.own T.relations T.presentation;
                 images = ys;
-                restrictions = images-of s (listed s i) at.1 T vs at.0 at.2 fs table restricted over ks below;
+                restrictions = images-of s (listed s i) v T vs j e fs table restricted over ks below;
                 finite = subst (λ ds. IsFinite (record { prime = prime_of G; degrees = ds }) ys)
-                    (T.generators_are ∙ degrees-same E T.own)
-                    (F.pass at.0 (record { prime = prime_of G; degrees = at.1.generators })
+                    T.generators_are
+                    (F.pass j (record { prime = prime_of G; degrees = v.generators })
                     (get-map (λ (v : SubgroupValue). record { prime = prime_of G; degrees = v.generators }) vs
-                    at.0 at.1 at.2));
-              };
+                    j v e));
+              });
         }
 
   pub parameters-by-cocycles : (ss : List NumberedSubgroup) (vs : List SubgroupValue)
-      → AreRelated (IsToldOf G n gs) ss vs → ((s : NumberedSubgroup) → IsIn s ss → IsSubgroupOf G.table s)
+      (told : AreRelated (IsToldOf G n gs) ss vs)
+      → ((s : NumberedSubgroup) → IsIn s ss → IsSubgroupOf G.table s)
       → (found : Option (List Polynomial)) → AreParameters G n gs vs found
-      → IfSome found (AreParametersOf G n hs ss)
+      → IfSome found (AreParametersOf G n hs (rings_of G n gs ss vs told))
   parameters-by-cocycles ss vs told listed found P =
-      subst (λ found. IfSome found (AreParametersOf G n hs ss)) (sym P.parameters_are)
+      subst (λ found. IfSome found (AreParametersOf G n hs (rings_of G n gs ss vs told)))
+      (sym P.parameters_are)
       (found-by-cocycles ss vs told listed P.candidates P.restricted P.restricted_are
       (candidates-over n P.candidates P.candidates_are) P.places P.found)

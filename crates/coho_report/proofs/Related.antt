@@ -1,7 +1,8 @@
 -- Lists that are related place by place.
 use Rattle.std.proofs.Common.{◌≡◌, ℕ, zero, suc, ◌+◌, ◌<◌, List, [], ◌∷◌, ◌++◌, length, take, refl, sym, ap}
-use Rattle.std.proofs.Common.{subst, arith}
-use Rattle.std.specs.Prelude.{All, slice_index_or}
+use Rattle.std.proofs.Common.{subst, arith, map, Some}
+use Rattle.std.specs.Prelude.{All, slice_get, slice_index_or}
+use Rattle.std.specs.List.{AllByRecursion as Each}
 use Rattle.coho_report.specs.Related.{AreRelated}
 
 module _ {A B : Type 0} (R : A → B → Type 0) where
@@ -66,3 +67,31 @@ module _ {A B : Type 0} (R : A → B → Type 0) where
   related-place (x ∷ xs) [] r k d e l = absurd r
   related-place (x ∷ xs) (y ∷ ys) r zero d e l = r.0
   related-place (x ∷ xs) (y ∷ ys) r (suc k) d e l = related-place xs ys r.1 k d e (omega (arith, l))
+
+pub related-get : {A B : Type 0} (R : A → B → Type 0) (xs : List A) (ys : List B) → AreRelated R xs ys → (j : ℕ)
+    (x : A) (d : B) → slice_get xs j ≡ Some x → R x (slice_index_or ys j d)
+related-get R [] ys r j x d e = absurd (cc)
+related-get R (z ∷ xs) [] r j x d e = absurd r
+related-get R (z ∷ xs) (y ∷ ys) r zero x d e = let same : z ≡ x = cc in subst (λ x. R x y) same r.0
+related-get R (z ∷ xs) (y ∷ ys) r (suc j) x d e = related-get R xs ys r.1 j x d e
+
+pub get-map : {X Y : Type 0} (f : X → Y) (xs : List X) (j : ℕ) (x : X) → slice_get xs j ≡ Some x
+    → slice_get (map f xs) j ≡ Some (f x)
+get-map f [] j x e = absurd (cc)
+get-map f (y ∷ xs) zero x e = let same : y ≡ x = cc in ap (λ z. Some (f z)) same
+get-map f (y ∷ xs) (suc j) x e = get-map f xs j x e
+
+-- what is related to the member at a place
+pub related-from : {A B : Type 0} (R : A → B → Type 0) (xs : List A) (ys : List B) → AreRelated R xs ys → (j : ℕ)
+    (y : B) → slice_get ys j ≡ Some y → (x : A) × (slice_get xs j ≡ Some x) × R x y
+related-from R [] [] r j y e = absurd (cc)
+related-from R (x ∷ xs) [] r j y e = absurd r
+related-from R [] (z ∷ ys) r j y e = absurd r
+related-from R (x ∷ xs) (z ∷ ys) r zero y e = let same : z ≡ y = cc in (x, refl, subst (R x) same r.0)
+related-from R (x ∷ xs) (z ∷ ys) r (suc j) y e = related-from R xs ys r.1 j y e
+
+pub each-get : {X : Type 0} (P : X → Type 0) (xs : List X) → Each P xs → (j : ℕ) (x : X)
+    → slice_get xs j ≡ Some x → P x
+each-get P [] h j x e = absurd (cc)
+each-get P (y ∷ xs) h zero x e = let same : y ≡ x = cc in subst P same h.0
+each-get P (y ∷ xs) h (suc j) x e = each-get P xs h.1 j x e

@@ -1,6 +1,5 @@
 -- The restriction of a class to a subgroup, as a polynomial, is that of its cocycle.
 use Rattle.std.specs.Prelude.{ℕ, List, [], ◌∷◌, length, map}
-use Rattle.std.proofs.Common.{◌∙◌}
 use mathlib.Core.Path.{subst, fun_ext}
 use Rattle.group_modules.specs.Field.{Below}
 use Rattle.group_modules.specs.Tables.{monoid}
@@ -13,23 +12,25 @@ use Rattle.min_res.specs.Stages.{stage_rows, rank_of}
 use Rattle.min_res.proofs.StageRows.{stage_rows_are}
 use Rattle.chain_maps.proofs.Vectors.{extended-at}
 use Rattle.chain_maps_along.specs.Along as along
-use Rattle.bar_complex.proofs.Cohomologous.{near-trans}
+use Rattle.bar_complex.proofs.Cohomologous.{near-refl, near-trans}
 use Rattle.class_restriction.specs.Claims.{RestrictionClaims}
 use Rattle.class_restriction.proofs.Laws.{restriction-claims}
+use Rattle.class_restriction.proofs.Pull.{pull-near}
+use Rattle.class_restriction.proofs.Restrict.{Homomorphism}
 use Rattle.graded_polynomials.specs.Polynomials.{Polynomial}
 use Rattle.graded_algebra.specs.Algebras.{Generator}
 use Rattle.graded_algebra.specs.Vectors.{Vector}
 use Rattle.cohomology_algebra.specs.Claims.{vector_cocycle}
 use Rattle.group_cocycles.specs.Cocycles.{GroupCochain, AreCohomologous}
 use Rattle.group_cocycles.specs.Rings.{cochain_of, cocycles_of}
-use Rattle.group_cocycles.proofs.Rings.{degrees-same, value-cocycle}
+use Rattle.group_cocycles.proofs.Rings.{value-cocycle}
 use Rattle.chain_lift.specs.Embeddings.{elementary, embedding}
 use Rattle.chain_lift.proofs.EmbeddingElements.{homomorphism}
-use Rattle.ring_present.proofs.Cohomology.{cohomology-ring}
 use Rattle.coho_report.specs.Related.{AreRelated}
 use Rattle.coho_report.specs.Subgroups.{IsImage, IsToldOf, restricted}
 use Rattle.coho_report.specs.Values.{SubgroupValue}
 use Rattle.coho_report.specs.Cohomology.{IsRestriction, AreRestrictions}
+use Rattle.coho_report.proofs.SubgroupRings.{ring_of}
 
 module _ (G : PGroup) (s : NumberedSubgroup) (S : IsSubgroupOf G.table s) where
   abbrev q : ℕ
@@ -40,6 +41,9 @@ module _ (G : PGroup) (s : NumberedSubgroup) (S : IsSubgroupOf G.table s) where
 
   abbrev f : Below (order_of E) → Below (order_of G)
   f = embedding G s.basis
+
+  abbrev along-embedding : Homomorphism (group E) (group G)
+  along-embedding = record { to = f; to-mul = homomorphism G s S }
 
   claims : RestrictionClaims q (group E) (group G) f (layer_coordinates E) (stage_rows E)
       (layer_coordinates G) (stage_rows G)
@@ -78,22 +82,38 @@ module _ (G : PGroup) (s : NumberedSubgroup) (S : IsSubgroupOf G.table s) where
       (value-cocycle E own g.degree y.terms I.form.polynomial.over))
       (restricted-cocycle g.degree g.class)
 
-  images-are-restrictions : (own gs : List (Generator (Vector q))) (ys : List Polynomial)
-      → AreRelated (IsImage G s.basis own) gs ys
-      → AreRelated (IsRestriction G s.basis (cocycles_of E own)) (cocycles_of G gs) ys
-  images-are-restrictions own [] [] r = r
-  images-are-restrictions own [] (y ∷ ys) r = absurd r
-  images-are-restrictions own (g ∷ gs) [] r = absurd r
-  images-are-restrictions own (g ∷ gs) (y ∷ ys) r =
-      (image-is own g y r.0, images-are-restrictions own gs ys r.1)
+  -- so the image of a class is the restriction of each cocycle that is cohomologous to its own
+  pub restriction-is : (own : List (Generator (Vector q))) (rs : List Polynomial) (g : Generator (Vector q))
+      (u : GroupCochain G) → AreCohomologous G g.degree (large_cocycle g.degree g.class) u
+      → (y : Polynomial) → IsImage G s.basis own g y
+      → IsRestriction G (record { subgroup = s; generators = own; relations = rs })
+      (record { degree = g.degree; class = u }) y
+  restriction-is own rs g u close y I = record {
+    degree_is = I.degree_is;
+    polynomial = I.form.polynomial;
+    cohomologous = near-trans q (monoid (group E)) g.degree (cochain_of E (cocycles_of E own) y.terms)
+        (λ xs. large_cocycle g.degree g.class (map f xs)) (λ xs. u (map f xs)) (image-is own g y I)
+        (pull-near along-embedding q g.degree (large_cocycle g.degree g.class) u close);
+  }
 
-  pub told-restrictions : (n : ℕ) (gs : List (Generator (Vector q))) (v : SubgroupValue) → IsToldOf G n gs s v
-      → AreRestrictions G n (cocycles_of G gs) s v
+  images-are-restrictions : (own gs : List (Generator (Vector q))) (rs ys : List Polynomial)
+      → AreRelated (IsImage G s.basis own) gs ys
+      → AreRelated (IsRestriction G (record { subgroup = s; generators = own; relations = rs }))
+      (cocycles_of G gs) ys
+  images-are-restrictions own [] rs [] r = r
+  images-are-restrictions own [] rs (y ∷ ys) r = absurd r
+  images-are-restrictions own (g ∷ gs) rs [] r = absurd r
+  images-are-restrictions own (g ∷ gs) rs (y ∷ ys) r = (
+    restriction-is own rs g (large_cocycle g.degree g.class)
+        (near-refl q (monoid (group G)) g.degree (large_cocycle g.degree g.class)) y r.0,
+    images-are-restrictions own gs rs ys r.1,
+  )
+
+  pub told-restrictions : (n : ℕ) (gs : List (Generator (Vector q))) (v : SubgroupValue)
+      (T : IsToldOf G n gs s v)
+      → AreRestrictions G (cocycles_of G gs) (ring_of G n gs s v T) v
   told-restrictions n gs v T = record {
     basis_is = T.basis_is;
-    own = cocycles_of E T.own;
-    relations = T.relations;
-    degrees_are = T.generators_are ∙ degrees-same E T.own;
-    ring = cohomology-ring E n T.own T.relations T.presentation;
-    restrictions = images-are-restrictions T.own gs v.images T.images_are;
+    degrees_are = T.generators_are;
+    restrictions = images-are-restrictions T.own gs T.relations v.images T.images_are;
   }

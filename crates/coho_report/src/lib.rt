@@ -14,9 +14,11 @@ mod restrictors;
 mod rings;
 mod subgroup_lines;
 mod subgroups;
+mod witnesses;
 
 pub use composition::compose;
 pub use fault::ReportFault;
 pub use laws::{cohomology_law, one_refusal, one_report, report_exists};
 pub use lines::{report_lines, summary_lines, write_report};
 pub use report::Report;
+pub use witnesses::{exchanged_variables, image_of_another_degree, zero_parameters};

@@ -1,2 +1,5 @@
 pub mod Classes
+pub mod Degrees
+pub mod Dimensions
+pub mod Labels
 pub mod Rings

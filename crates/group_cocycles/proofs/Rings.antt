@@ -5,6 +5,7 @@ use Rattle.std.specs.List.{AllByRecursion as Each}
 use mathlib.Core.Path.{subst, fun_ext}
 use Rattle.group_modules.specs.Module.{Module}
 use Rattle.group_modules.specs.Field.{Below, Fp, residue, plus, minus}
+use Rattle.group_modules.specs.Resolutions.{rank}
 use Rattle.group_modules.specs.Tables.{monoid}
 use Rattle.p_groups.specs.PGroups.{PGroup, largest_residue, group, order_of}
 use Rattle.p_groups.proofs.Fields.{field}
@@ -15,7 +16,7 @@ use Rattle.graded_polynomials.specs.Monomials.{exponent}
 use Rattle.graded_polynomials.specs.Polynomials.{Term, Polynomial, IsOver, IsInIdeal, product}
 use Rattle.graded_algebra.specs.Algebras.{Generator, degrees, value}
 use Rattle.graded_algebra.specs.Cochains.{cochains}
-use Rattle.graded_algebra.specs.Vectors.{Vector}
+use Rattle.graded_algebra.specs.Vectors.{Vector, units}
 use Rattle.graded_algebra.specs.Claims.{CochainClaims}
 use Rattle.resolution_stages.proofs.FromDefinitions.{resolution-claims}
 use Rattle.bar_comparison.proofs.Classes.{bar-normal, bar-cocycle}
@@ -28,6 +29,7 @@ use Rattle.cohomology_algebra.specs.Claims.{IsPresentation, cohomology, vector_c
 use Rattle.cohomology_algebra.proofs.Cocycles.{compared}
 use Rattle.cohomology_algebra.proofs.Ring.{images-are, ring-claims}
 use Rattle.group_cocycles.specs.Cocycles.{GroupCochain, IsCocycle, IsCoboundary, AreCohomologous, cup}
+use Rattle.group_cocycles.proofs.Degrees.{IsWithin, IsGraded, generators-within, relations-graded}
 use Rattle.group_cocycles.specs.Rings.{Generators, IsIn, cochain_of, cocycles_of, IsCohomologyRing}
 
 module _ (G : PGroup) where
@@ -58,6 +60,25 @@ module _ (G : PGroup) where
     all-cocycles gs,
   )
 
+  cocycles-within : (n : ℕ) (gs : Classes) → Each (λ g. IsWithin n g.degree) gs
+      → Each (λ h. IsWithin n h.degree) (cocycles_of G gs)
+  cocycles-within n [] w = tt
+  cocycles-within n (g ∷ gs) w = (w.0, cocycles-within n gs w.1)
+
+  -- what a list of relations satisfies by classes, by cocycles
+  graded-within : (gs : Classes) (n : ℕ) (rs : List Polynomial)
+      → Each (IsGraded q (cohomology q (group G) (layer_coordinates G) (stage_rows G)) gs n) rs
+      → Each (λ r. IsWithin n r.degree) rs
+  graded-within gs n [] e = tt
+  graded-within gs n (r ∷ rs) e = (e.0.0, graded-within gs n rs e.1)
+
+  graded-cocycles : (gs : Classes) (n : ℕ) (rs : List Polynomial)
+      → Each (IsGraded q (cohomology q (group G) (layer_coordinates G) (stage_rows G)) gs n) rs
+      → Each (λ r. IsIn G (cocycles_of G gs) r.degree r.terms) rs
+  graded-cocycles gs n [] e = tt
+  graded-cocycles gs n (r ∷ rs) e =
+      (subst (λ ds. IsOver q ds r.degree r.terms) (degrees-same gs) e.0.1, graded-cocycles gs n rs e.1)
+
   abbrev K : Module (suc q) (monoid (group G))
   K = Fp q (monoid (group G))
 
@@ -72,7 +93,7 @@ module _ (G : PGroup) where
       fun_ext (λ xs. ap (plus q (u xs)) minus-zero ∙ K.add-zero (u xs))
 
   -- a cochain that differs by a coboundary from 0 is one
-  zero-close : (d : ℕ) (u : GroupCochain G)
+  pub zero-close : (d : ℕ) (u : GroupCochain G)
       → AreCohomologous G d u (λ xs. residue q 0) ↔ IsCoboundary G d u
   zero-close zero u = ((λ h. h), (λ h. h))
   zero-close (suc d) u = (
@@ -161,9 +182,19 @@ module _ (G : PGroup) where
     back : (d : ℕ) (f : List Term) → IsIn G hs d f → IsOver q (degrees gs) d f
     back d f o = subst (λ ds. IsOver q ds d f) (sym (degrees-same gs)) o
 
+    relations-are : Each (IsGraded q (cohomology q (group G) (layer_coordinates G) (stage_rows G)) gs n) rs
+    relations-are =
+        relations-graded q (cohomology q (group G) (layer_coordinates G) (stage_rows G)) gs n rs
+        P.relations_are
+
     pub is-cohomology-ring : IsCohomologyRing G n hs rs
     is-cohomology-ring = record {
       cocycles = all-cocycles gs;
+      within = cocycles-within n gs
+          (generators-within q (cohomology q (group G) (layer_coordinates G) (stage_rows G))
+          (λ d. units q 0 (rank q (group G) (stage_rows G).ranks d)) n gs P.generators_are);
+      relations_within = graded-within gs n rs relations-are;
+      graded = graded-cocycles gs n rs relations-are;
       onto = λ d l u z.
           let found = claims.onto d l u z in
           (found.0, subst (λ ds. IsOver q ds d found.0) (degrees-same gs) found.1, found.2);

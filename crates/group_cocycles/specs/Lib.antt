@@ -1,2 +1,3 @@
 pub mod Cocycles
+pub mod Dimensions
 pub mod Rings

@@ -31,6 +31,10 @@ module _ (G : PGroup) where
   -- is the cohomology ring, and no generator and no relation is superfluous
   pub record IsCohomologyRing (n : ℕ) (hs : Generators) (rs : List Polynomial) : Type 0 where
     pub cocycles : Each (λ h. IsCocycle G h.degree h.class) hs
+    -- generators and relations are of degrees 1 to n, and a relation is a polynomial of its degree
+    pub within : Each (λ h. (1 ≤ h.degree) × (h.degree ≤ n)) hs
+    pub relations_within : Each (λ r. (1 ≤ r.degree) × (r.degree ≤ n)) rs
+    pub graded : Each (λ r. IsIn hs r.degree r.terms) rs
     -- each cocycle differs by a coboundary from a polynomial in the generators
     pub onto : (d : ℕ) → d ≤ n → (u : GroupCochain G) → IsCocycle G d u
         → (f : List Term) × IsIn hs d f × AreCohomologous G d u (cochain_of hs f)

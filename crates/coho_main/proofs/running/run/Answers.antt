@@ -1,3 +1,4 @@
+use Rattle.coho_main.proofs.FileLaws.{without_it}
 use Rattle.std.proofs.Common.{refl, sym, subst, inl, inr, Ok, Err}
 use Rattle.std.specs.List.{concat}
 use Rattle.std.specs.Io.KnownBytes.{Appends}
@@ -10,7 +11,7 @@ use Rattle.coho_main.proofs.Run.{read_told, save_told, stopped, told_meets, usag
 use Rattle.coho_main.proofs.Run.{write_complete, write_unsettled, wrote_front}
 use Rattle.coho_main.proofs.SavedFiles.{stays}
 use Rattle.coho_main.proofs.RingAnswers.{tells_ring, stop_not_answered}
-use Rattle.coho_main.proofs.ClassAnswers.{has_classes}
+use Rattle.coho_main.proofs.ClassAnswers.{answers_over, has_classes}
 use Rattle.coho_main.proofs.running.run.Goals as goal
 
 pub returns-in-Ok-write_lines-clause-outcome : goal.returns-in-Ok-write_lines-clause-outcome
@@ -215,6 +216,27 @@ returns-in-Ok-clause-classes g c =
 
 pub returns-clause-classes : goal.returns-clause-classes
 returns-clause-classes g c =
+    stop_not_answered c.in-Err.stop c.report-in-Err.result (g.E.Sink.written c.args.err.now)
+    (g.E.Sink.written c.report-in-Err.new.err) (g.E.Sink.faults c.args.err.now)
+    (g.E.Sink.faults c.report-in-Err.new.err) c.report-in-Err.ensures.told
+
+pub returns-in-Ok-write_lines-clause-answer : goal.returns-in-Ok-write_lines-clause-answer
+returns-in-Ok-write_lines-clause-answer g c = λ _.
+    answers_over (texts c.args.words.now) (g.F.Files.content c.args.files.now)
+    (g.F.Files.content c.answer.new.files) c.in-Ok.lines (g.O.Sink.written c.args.out.now)
+    (g.O.Sink.written c.write_lines.new.out) (g.E.Sink.written c.args.err.now)
+    (g.E.Sink.faults c.args.err.now) c.in-Ok.ensures.ends
+    (subst (λ ls. Appends (g.O.Sink.written c.args.out.now) (g.O.Sink.written c.write_lines.new.out)
+    (concat (contents ls))) c.deref.ensures.value c.in-Ok-write_lines.ensures.ok)
+
+pub returns-in-Ok-clause-answer : goal.returns-in-Ok-clause-answer
+returns-in-Ok-clause-answer g c =
+    stop_not_answered c.in-Err-write_lines.stop c.report.result (g.E.Sink.written c.args.err.now)
+    (g.E.Sink.written c.report.new.err) (g.E.Sink.faults c.args.err.now)
+    (g.E.Sink.faults c.report.new.err) c.report.ensures.told
+
+pub returns-clause-answer : goal.returns-clause-answer
+returns-clause-answer g c =
     stop_not_answered c.in-Err.stop c.report-in-Err.result (g.E.Sink.written c.args.err.now)
     (g.E.Sink.written c.report-in-Err.new.err) (g.E.Sink.faults c.args.err.now)
     (g.E.Sink.faults c.report-in-Err.new.err) c.report-in-Err.ensures.told
