@@ -3,7 +3,7 @@ use Rattle.std.proofs.Common.{leb, arith, ap, drop-cons}
 use Rattle.std.proofs.lemmas.Bool.Decides.{nat_tests}
 use Rattle.pc_text.specs.Numerals.{read_on, value}
 use Rattle.pc_text.proofs.NumeralLemmas.{read_on-le}
-use Rattle.coho_main.proofs.numbers.read_digits.Goals as goal
+use Rattle.pc_text.proofs.numerals.read_digits.Goals as goal
 
 -- a number that the digits so far are beyond is not that of all
 beyond : (n i high : ℕ) (digits : List ℕ) → i < length digits → read_on n (drop i digits) ≡ value digits
@@ -18,9 +18,9 @@ beyond n i high digits within is above =
 none_above : (v high : ℕ) → high < v → None ≡ cond (leb v high) (Some v) None
 none_above v high above = grind (arith, nat_tests)
 
-pub returns-then-number-gt-GREATEST_NUMBER : goal.returns-then-number-gt-GREATEST_NUMBER
-returns-then-number-gt-GREATEST_NUMBER c =
+pub returns-then-number-gt-high : goal.returns-then-number-gt-high
+returns-then-number-gt-high c =
     let digits = c.args.digits.now in
     let i = c.loop-digit.digit-index in
-    none_above (value digits) 65535 (beyond c.loop-digit.number i 65535 digits (omega arith)
-    c.loop-digit.invariant.1 (omega (arith, c.from.ensures, c.if-number-gt-GREATEST_NUMBER.true)))
+    none_above (value digits) c.args.high (beyond c.loop-digit.number i c.args.high digits (omega arith)
+    c.loop-digit.invariant.1 (omega (arith, c.from.ensures, c.if-number-gt-high.true)))
