@@ -18,9 +18,9 @@ beyond n i high digits within is above =
 none_above : (v high : ℕ) → high < v → None ≡ cond (leb v high) (Some v) None
 none_above v high above = grind (arith, nat_tests)
 
-pub returns-then-number-gt-high : goal.returns-then-number-gt-high
-returns-then-number-gt-high c =
+pub returns-then-number-high : goal.returns-then-number-high
+returns-then-number-high c =
     let digits = c.args.digits.now in
     let i = c.loop-digit.digit-index in
     none_above (value digits) c.args.high (beyond c.loop-digit.number i c.args.high digits (omega arith)
-    c.loop-digit.invariant.1 (omega (arith, c.from.ensures, c.if-number-gt-high.true)))
+    c.loop-digit.invariant.1 (omega (arith, c.from.ensures, c.if-number-high.true)))

@@ -1,0 +1,8 @@
+//! Products of small groups, which the decimal digits of a number name.
+#![tactic(auto)]
+
+mod products;
+mod samples;
+
+pub use products::direct_product;
+pub use samples::sample_presentation;
