@@ -6,7 +6,7 @@ use Rattle.std.specs.List.{concat}
 use Rattle.coho_io.specs.Content.{Content, file}
 use Rattle.power_commutator.specs.Presentations.{Presentation}
 use Rattle.coho_steps.specs.declared.status.Status.{Status}
-use Rattle.coho_steps.specs.Steps.{Refusal, Step, OrRefuse}
+use Rattle.coho_steps.specs.Steps.{◌>>=◌, Refusal, Step, OrRefuse}
 use Rattle.coho_steps.specs.Refusals.{words_refused}
 use Rattle.sample_groups.specs.Samples.{sample}
 use Rattle.coho_words.specs.Words.{Command, Group, Resolve, Ring, Check, Value, Sample, command}
@@ -41,6 +41,7 @@ Given (Check path stages) = Load path
 Given (Value path k es) = Load path
 Given (Sample k) = Accept (sample k)
 
+-- the answer to a command: its presentation is had, and then the command is answered on it
 abbrev pub Reply : Command → Step (List (List ℕ))
 Reply asked = do
   P ← Given asked

@@ -11,7 +11,7 @@ use Rattle.power_commutator.specs.declared.TestName.{TestName}
 use Rattle.power_commutator.specs.Presentations.{Presentation, first_fault}
 use Rattle.pc_text.specs.Faults.{Fault}
 use Rattle.pc_text.specs.Texts.{read}
-use Rattle.coho_steps.specs.Steps.{Step, Gives, Refuses, OrRefuse, RefuseIf}
+use Rattle.coho_steps.specs.Steps.{◌>>=◌, Step, Gives, Refuses, OrRefuse, RefuseIf}
 use Rattle.coho_steps.specs.Refusals.{read_refused, length_refused, text_refused, order_refused, test_refused}
 
 -- a file, to its end or to one byte more than a text may have

@@ -16,6 +16,7 @@ words_refused = record {
   line = codes "coho: the words are not those of a command" ++ 10 ∷ [];
 }
 
+-- the refusal where a file is not read
 abbrev pub read_refused : List ℕ → Refusal
 read_refused path = record {
   status = status.Read;

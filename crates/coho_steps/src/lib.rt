@@ -12,7 +12,6 @@ mod writing;
 
 pub use cause::{Cause, FilePart};
 pub use loading::{accept, load};
-pub use reading::read_front;
 pub use status::Status;
 pub use stop::Stop;
 pub use writing::{report, write_lines};

@@ -4,7 +4,8 @@ ghost use Rattle.coho_steps.specs.Loading.{FitLength, Present, ReadText, FitOrde
 ghost use Rattle.coho_steps.specs.Stops.{Meets, Settles, HasReadCause, OnlyReads};
 ghost use Rattle.coho_steps.specs.Told.{OfFiles};
 
-use crate::{Cause, Stop, read_front};
+use crate::reading::read_front;
+use crate::{Cause, Stop};
 use coho_io::Files;
 use limits::{GREATEST_ORDER, LONGEST_TEXT};
 use pc_group::{Consistent, Presentation, Refused, check};

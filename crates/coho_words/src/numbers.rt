@@ -1,6 +1,7 @@
 //! Numbers among the words; those of `value` are its degree, the number of its class, and its elements.
 
-ghost use Rattle.std.specs.Prelude.{◌≡◌, ◌<◌, IfErr, IfOk, None, Some, length};
+ghost use Rattle.std.specs.Prelude.{◌≡◌, ◌<◌, ◌≤◌, ◌^◌, IfErr, IfOk, IfSome, None, Some, length};
+ghost use Rattle.pc_text.specs.Numerals.{numeral};
 ghost use Rattle.coho_words.specs.Faults.{IsWordsFault};
 ghost use Rattle.coho_words.specs.Words.{IsPlace, elements_of, numbers, place, spelled};
 
@@ -17,6 +18,15 @@ pub const MOST_ELEMENTS: u32 = 8;
 /// The greatest number that names a product.
 pub const GREATEST_SAMPLE: u32 = 999;
 
+/// The number from `low` to `high` that a word is the numeral of.
+pub fn read_number(low: u32, high: u32, word: &str) -> Option<u32>
+    requires { high < 2 ^ 16 }
+    ensures numeral { result ≡ numeral low high word.now }
+    ensures range { IfSome result (λ n. (low ≤ n) × (n ≤ high)) }
+{
+    numeral(low, high, word.as_bytes())
+}
+
 // The numbers that the words are the numerals of.
 fn read_numbers(alloc: Global, words: &[&str]) -> Result<Vec<u16>, WordsFault>
     ensures found { IfOk result (λ ns. numbers (spelled words.now) ≡ Some ns.items) }
@@ -24,7 +34,7 @@ fn read_numbers(alloc: Global, words: &[&str]) -> Result<Vec<u16>, WordsFault>
 {
     let mut found = Vec::new(alloc);
     for word in words {
-        match numeral(0, GREATEST_NUMBER, word.as_bytes()) {
+        match read_number(0, GREATEST_NUMBER, word) {
             Some(number) => found.push(number as u16)?,
             None => return Err(WordsFault::Refused),
         }
@@ -58,8 +68,8 @@ pub fn read_place(
     ensures refused { IfErr result (IsWordsFault (place degree.now class.now (spelled elements.now) ≡ None)) }
 {
     let (Some(degree), Some(class)) = (
-        numeral(1, MOST_ELEMENTS, degree.as_bytes()),
-        numeral(1, GREATEST_NUMBER, class.as_bytes()),
+        read_number(1, MOST_ELEMENTS, degree),
+        read_number(1, GREATEST_NUMBER, class),
     ) else {
         return Err(WordsFault::Refused);
     };

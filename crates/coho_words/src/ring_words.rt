@@ -5,9 +5,10 @@ ghost use Rattle.coho_words.specs.Words.{IsWithin, asked, no_ring_words, path_in
 ghost use Rattle.coho_words.specs.Words.{ring_words_of, saves_over, texts, with_from, with_due, with_operand};
 ghost use Rattle.coho_words.specs.Words.{with_save, with_word, with_words};
 
-use crate::{Command, is_plain};
+use crate::Command;
+use crate::numbers::read_number;
+use crate::operands::is_plain;
 use limits::GREATEST_DEGREE;
-use pc_text::numeral;
 
 /// The stage files that the options of `ring` name.
 #[derive(Clone, Copy)]
@@ -179,7 +180,7 @@ fn ring_of<'a>(words: RingWords<'a>) -> Option<Command<'a>>
     if saves_over(words.files.save, path) {
         return None;
     }
-    match numeral(1, GREATEST_DEGREE, degree.as_bytes()) {
+    match read_number(1, GREATEST_DEGREE, degree) {
         Some(n) => Some(Command::Ring(path, n, words.files)),
         None => None,
     }

@@ -4,12 +4,11 @@ ghost use Rattle.coho_words.specs.Words.{IsPlace, IsWithin, asked, command, file
 ghost use Rattle.coho_words.specs.Words.{is_path, plain_command, sample_number, texts};
 ghost use Rattle.coho_words.specs.Faults.{IsWordsFault};
 
-use crate::{
-    GREATEST_SAMPLE, StageFiles, WordsFault, all_plain, one_operand, place_operands, read_place,
-    ring_command, two_operands,
-};
+use crate::numbers::{read_number, read_place};
+use crate::operands::{all_plain, one_operand, place_operands, two_operands};
+use crate::ring_words::ring_command;
+use crate::{GREATEST_SAMPLE, StageFiles, WordsFault};
 use limits::GREATEST_DEGREE;
-use pc_text::numeral;
 use std::alloc::Global;
 
 /// What a run is asked for.
@@ -39,7 +38,7 @@ fn file_and_degree<'a>(alloc: Global, words: &'a [String]) -> Result<(&'a str, u
     ensures refused { IfErr result (IsWordsFault (file_and_degree (texts words.now) ≡ None)) }
 {
     let (path, degree) = two_operands(alloc, words)?;
-    match numeral(1, GREATEST_DEGREE, degree.as_bytes()) {
+    match read_number(1, GREATEST_DEGREE, degree) {
         Some(degree) => Ok((path, degree)),
         None => Err(WordsFault::Refused),
     }
@@ -70,7 +69,7 @@ fn sample_number<'a>(alloc: Global, words: &'a [String]) -> Result<u32, WordsFau
     ensures refused { IfErr result (IsWordsFault (sample_number (texts words.now) ≡ None)) }
 {
     let word = one_operand(alloc, words)?;
-    match numeral(0, GREATEST_SAMPLE, word.as_bytes()) {
+    match read_number(0, GREATEST_SAMPLE, word) {
         Some(k) => Ok(k),
         None => Err(WordsFault::Refused),
     }

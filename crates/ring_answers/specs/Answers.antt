@@ -4,7 +4,7 @@ use Rattle.std.specs.declared.option.Option.{Option}
 use Rattle.std.specs.declared.option.Option.TheVariants.{None, Some}
 use Rattle.std.specs.List.{find}
 use Rattle.power_commutator.specs.Presentations.{Presentation}
-use Rattle.coho_steps.specs.Steps.{Step, Gives, Refuses, OnGroup}
+use Rattle.coho_steps.specs.Steps.{◌>>=◌, Step, Gives, Refuses, OnGroup}
 use Rattle.coho_steps.specs.Refusals.{element_refused}
 use Rattle.coho_words.specs.Words.{StageFiles}
 use Rattle.stage_answers.specs.StageFiles.{FindStages, FitStages}
@@ -51,6 +51,7 @@ AnswerRing P n files = do
   _ ← FindStages P n files
   TellReport P n
 
+-- the answer to `value`: elements, stages and class fit, and then the cocycle is evaluated
 abbrev pub AnswerValue : Presentation → ℕ → List ℕ → Step (List (List ℕ))
 AnswerValue P k es = do
   _ ← FitElements P es

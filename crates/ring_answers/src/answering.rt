@@ -10,7 +10,8 @@ ghost use Rattle.stage_answers.specs.Resolving.{IsResolutionTo};
 ghost use Rattle.stage_answers.specs.StageFiles.{AreTaken, IsFrontSaved};
 ghost use Rattle.stage_answers.specs.Works.{Works};
 
-use crate::{basis_value, fit_elements, report_of, sample_lines, value_lines};
+use crate::evaluating::{basis_value, fit_elements, value_lines};
+use crate::reporting::{report_of, sample_lines};
 use coho_io::Files;
 use coho_report::report_lines;
 use coho_steps::Stop;

@@ -4,5 +4,4 @@
 mod products;
 mod samples;
 
-pub use products::direct_product;
 pub use samples::sample_presentation;

@@ -3,7 +3,7 @@
 ghost use Rattle.std.specs.Prelude.{◌≡◌, ◌+◌, ◌-◌, ◌≤◌, ◌%◌, IfOk};
 ghost use Rattle.sample_groups.specs.Samples.{IsSmall, factor_of, sample, with_factor};
 
-use crate::direct_product;
+use crate::products::direct_product;
 use coho_words::GREATEST_SAMPLE;
 use group_table::{Memory, Prime};
 use pc_group::{Presentation, Word};

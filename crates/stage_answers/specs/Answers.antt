@@ -5,7 +5,7 @@ use Rattle.std.specs.declared.option.Option.TheVariants.{None, Some}
 use Rattle.limits.specs.declared.TheConstants.{GREATEST_DEGREE}
 use Rattle.coho_io.specs.Content.{file}
 use Rattle.power_commutator.specs.Presentations.{Presentation}
-use Rattle.coho_steps.specs.Steps.{Step, Gives, OnGroup}
+use Rattle.coho_steps.specs.Steps.{◌>>=◌, Step, Gives, OnGroup}
 use Rattle.group_algebra.specs.Coordinates.{sizes}
 use Rattle.stage_answers.specs.Stages.{Summary, AreStagesTo, IsStageRefusal}
 use Rattle.stage_answers.specs.StageFiles.{WalkFile}
@@ -24,6 +24,7 @@ Stages P n = OnGroup P (λ G stages. AreStagesTo G n stages) (λ G refusal. IsSt
 abbrev pub layers_line : List ℕ → List ℕ
 layers_line dimensions = codes "layers" ++ (flat_map after_space dimensions ++ 10 ∷ [])
 
+-- the lines that `group` answers
 abbrev pub group_lines : Presentation → List ℕ → List (List ℕ)
 group_lines P dimensions =
     line (codes "prime ") P.prime
@@ -49,12 +50,13 @@ stage_line s =
 abbrev pub stage_lines : List Summary → List (List ℕ)
 stage_lines stages = map stage_line stages
 
--- the commands, step by step, on their presentation
+-- the answer to `group`, step by step: the radical layers are found, and then the group is described
 abbrev pub AnswerGroup : Presentation → Step (List (List ℕ))
 AnswerGroup P = do
   dimensions ← Layers P
   Gives (group_lines P dimensions)
 
+-- the answer to `resolve`: the stages are found, and then told
 abbrev pub AnswerResolve : Presentation → ℕ → Step (List (List ℕ))
 AnswerResolve P n = do
   stages ← Stages P n

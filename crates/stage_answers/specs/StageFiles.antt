@@ -12,7 +12,7 @@ use Rattle.stage_walk.specs.Saved.{saved}
 use Rattle.coho_steps.specs.Groups.{ForGroupOf}
 use Rattle.stage_answers.specs.Stages.{IsStageRefusal}
 use Rattle.stage_walk.specs.Dimensions.{Fit}
-use Rattle.coho_steps.specs.Steps.{Refusal, Step, Gives, Refuses, OnGroup}
+use Rattle.coho_steps.specs.Steps.{◌>>=◌, Refusal, Step, Gives, Refuses, OnGroup}
 use Rattle.coho_steps.specs.Refusals.{file_refused, read_refused}
 use Rattle.coho_words.specs.Words.{StageFiles}
 

@@ -6,9 +6,10 @@ ghost use Rattle.coho_steps.specs.Stops.{Settles};
 ghost use Rattle.stage_answers.specs.Answers.{AnswerCheck, AnswerGroup, AnswerResolve, TellCount};
 ghost use Rattle.stage_answers.specs.Works.{Works};
 
-use crate::{
-    count_records, group_lines, radical_dimensions, record_lines, resolution_of, stage_lines,
-};
+use crate::answers::{group_lines, record_lines, stage_lines};
+use crate::layers::radical_dimensions;
+use crate::resolution_of;
+use crate::stage_files::count_records;
 use coho_io::Files;
 use coho_steps::Stop;
 use limits::GREATEST_DEGREE;

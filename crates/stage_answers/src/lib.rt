@@ -8,7 +8,5 @@ mod stage_files;
 mod stages;
 
 pub use answering::{answer_check, answer_group, answer_resolve};
-pub use answers::{group_lines, record_lines, stage_lines};
-pub use layers::{algebra_of, radical_dimensions};
-pub use stage_files::{count_records, find_stages};
+pub use stage_files::find_stages;
 pub use stages::resolution_of;

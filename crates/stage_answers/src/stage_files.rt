@@ -8,7 +8,7 @@ ghost use Rattle.stage_answers.specs.StageFiles.{AreTaken, FindStages, IsFrontSa
 ghost use Rattle.stage_answers.specs.Stopping.{HasPath, IsStopAt};
 ghost use Rattle.coho_words.specs.Words.{stage_files};
 
-use crate::algebra_of;
+use crate::layers::algebra_of;
 use coho_io::Files;
 use coho_steps::{Cause, FilePart, Stop};
 use coho_words::StageFiles;

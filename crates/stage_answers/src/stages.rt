@@ -5,7 +5,7 @@ ghost use Rattle.stage_walk.specs.Dimensions.{Fit};
 ghost use Rattle.stage_answers.specs.Resolving.{IsResolutionTo, IsStageFault, stop_of};
 ghost use Rattle.coho_steps.specs.Stops.{IsRefused};
 
-use crate::algebra_of;
+use crate::layers::algebra_of;
 use coho_steps::{Cause, Stop};
 use limits::{GREATEST_DEGREE, GREATEST_DIMENSION};
 use min_res::{ResFault, Resolution};

@@ -1,9 +1,10 @@
 //! The candidates for standard monomials: each quotient of a candidate by a generator is standard.
 
-use crate::{accept, resolution_of, sample_presentation};
+use crate::loads::product_of;
 use limits::GREATEST_DEGREE;
 use min_res::Resolution;
 use ring_present::Ring;
+use stage_answers::resolution_of;
 use std::alloc::Global;
 use std::process::Abort;
 use std::test::Fail;
@@ -24,13 +25,10 @@ fn counts_each_degree(rt: &impl Abort, alloc: Global, resolution: &Resolution) {
 
 #[test]
 fn counts_candidates(rt: HostRuntime) -> Result<(), Fail> {
-    let alloc = rt.alloc();
-    let Ok(consistent) = accept(alloc, sample_presentation(alloc, 11)?) else {
-        panic!(rt; "no group");
-    };
-    let Ok(resolution) = resolution_of(alloc, &consistent, 4) else {
+    let consistent = product_of(&rt, rt.alloc(), 11)?;
+    let Ok(resolution) = resolution_of(rt.alloc(), &consistent, 4) else {
         panic!(rt; "no stages");
     };
-    counts_each_degree(&rt, alloc, &resolution);
+    counts_each_degree(&rt, rt.alloc(), &resolution);
     Ok(())
 }
