@@ -1,5 +1,5 @@
 ghost use Rattle.std.specs.Prelude.{◌≡◌, IfOk, string_bytes};
-ghost use Rattle.coho_steps.specs.Refusals.{fault_words, test_words};
+ghost use Rattle.coho_steps.specs.Refusals.{fault_words, stage_refused, subgroup_refused, test_words};
 ghost use Rattle.coho_steps.specs.Stops.{fault_at, refusal_of};
 
 use crate::Status;
@@ -104,22 +104,12 @@ impl Cause {
                 let part = part_words(alloc, part)?;
                 format!(in alloc; "coho: stage file refused: {part}\n")
             }
-            Cause::Stage { degree, dimension } => {
-                format!(in alloc;
-                    "coho: limit: stage {degree} of the group has dimension {dimension}, \
-                        above {GREATEST_DIMENSION}\n"
-                )
-            }
+            Cause::Stage { degree, dimension } => stage_line(alloc, degree, dimension),
             Cause::SubgroupStage {
                 subgroup,
                 degree,
                 dimension,
-            } => {
-                format!(in alloc;
-                    "coho: limit: stage {degree} of subgroup {subgroup} has dimension {dimension}, \
-                        above {GREATEST_DIMENSION}\n"
-                )
-            }
+            } => subgroup_line(alloc, subgroup, degree, dimension),
             Cause::Element { element, order } => {
                 format!(in alloc; "coho: element {element} is not below {order}\n")
             }
@@ -128,6 +118,31 @@ impl Cause {
             }
         }
     }
+}
+
+// The line of a stage of the group that is too large.
+fn stage_line(alloc: Global, degree: u32, dimension: u64) -> Result<String, AllocError>
+    ensures { IfOk result (λ text. string_bytes text ≡ (stage_refused degree dimension).line) }
+{
+    format!(in alloc;
+        "coho: limit: stage {degree} of the group has dimension {dimension}, above {GREATEST_DIMENSION}\n"
+    )
+}
+
+// The line of a stage of a listed subgroup that is too large.
+fn subgroup_line(
+    alloc: Global,
+    subgroup: u32,
+    degree: u32,
+    dimension: u64,
+) -> Result<String, AllocError>
+    ensures { IfOk result
+        (λ text. string_bytes text ≡ (subgroup_refused subgroup degree dimension).line) }
+{
+    format!(in alloc;
+        "coho: limit: stage {degree} of subgroup {subgroup} has dimension {dimension}, \
+            above {GREATEST_DIMENSION}\n"
+    )
 }
 
 // What of a stage file is refused.
