@@ -2,7 +2,7 @@
 use Rattle.std.specs.Prelude.{◌≡◌, ℕ, List, ◌<◌, length, take}
 use Rattle.std.specs.declared.option.Option.{Option}
 use Rattle.std.specs.declared.option.Option.TheVariants.{Some}
-use Rattle.coho_io.specs.Content.{Content}
+use Rattle.coho_io.specs.Content.{Content, file}
 use Rattle.std.specs.Io.KnownBytes.{Appends}
 use Rattle.coho_io.specs.Causes.{Rose}
 

@@ -1,4 +1,4 @@
-ghost use Rattle.std.specs.Prelude.{◌≡◌, IfOk, string_bytes};
+ghost use Rattle.std.specs.Prelude.{◌≡◌, ◌++◌, ◌∷◌, [], codes, IfOk, string_bytes};
 ghost use Rattle.coho_steps.specs.Refusals.{fault_words, stage_refused, subgroup_refused, test_words};
 ghost use Rattle.coho_steps.specs.Stops.{fault_at, refusal_of};
 

@@ -1,4 +1,4 @@
-ghost use Rattle.std.specs.Prelude.{◌≡◌, IfOk, string_bytes};
+ghost use Rattle.std.specs.Prelude.{◌≡◌, ◌++◌, IfOk, string_bytes};
 ghost use Rattle.coho_steps.specs.declared.stop.Stop.TheVariants.{Memory as WantOfMemory};
 ghost use Rattle.coho_steps.specs.Stops.{told};
 

@@ -1,7 +1,7 @@
 use Rattle.std.proofs.Common.{◌+◌, arith}
 use Rattle.std.proofs.lemmas.Grind.{common_steps}
 use Rattle.coho_io.specs.Content.{file}
-use Rattle.coho_io.proofs.Pieces.{reads_more, told_value}
+use Rattle.coho_io.proofs.Parts.{reads_more, told_value}
 use Rattle.coho_io.proofs.pieces.read_more.Goals as goal
 
 pub returns-in-Ok-extend_from_slice-clause-more : goal.returns-in-Ok-extend_from_slice-clause-more

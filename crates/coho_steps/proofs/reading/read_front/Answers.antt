@@ -1,6 +1,6 @@
 use Rattle.coho_io.specs.Content.{file}
 use Rattle.coho_steps.proofs.Fronts.{part_read}
-use Rattle.coho_io.proofs.Pieces.{front_start}
+use Rattle.coho_io.proofs.Parts.{front_start}
 use Rattle.coho_steps.proofs.reading.read_front.Goals as goal
 
 pub returns-in-Ok-clause-step : goal.returns-in-Ok-clause-step

@@ -3,7 +3,7 @@ use Rattle.coho_io.specs.Content.{file}
 use Rattle.stage_file.specs.declared.headers.HeaderAnswer.TheVariants as answer
 use Rattle.coho_io.specs.Pieces.{IsPart}
 use Rattle.stage_walk.proofs.Headers.{header_of}
-use Rattle.coho_io.proofs.Pieces.{front_start}
+use Rattle.coho_io.proofs.Parts.{front_start}
 use Rattle.stage_walk.proofs.walking.has_header.Goals as goal
 
 pub returns-in-Match-clause-answer : goal.returns-in-Match-clause-answer
