@@ -1,8 +1,8 @@
 //! Digits and numerals.
 
-ghost use Rattle.std.specs.Prelude.{◌≡◌, ◌<◌, ◌≤◌, IfSome, ◌&&◌, nat_le, if◌then◌else◌};
+ghost use Rattle.std.specs.Prelude.{◌≡◌, ◌<◌, ◌≤◌, ◌^◌, IfSome, None, Some, nat_le, true, if◌then◌else◌};
 ghost use Rattle.std.specs.List.{list_all};
-ghost use Rattle.pc_text.specs.Numerals.{is_digit, is_digits, numeral};
+ghost use Rattle.pc_text.specs.Numerals.{is_digit, is_digits, is_numeral, numeral, value};
 
 fn is_digit(b: u8) -> bool
     ensures { result ≡ is_digit b }
@@ -23,37 +23,43 @@ pub fn is_digits(bytes: &[u8]) -> bool
     !bytes.is_empty() && all_digits(bytes)
 }
 
-fn within(low: u32, high: u32, value: u32) -> Option<u32>
-    ensures value { result ≡ (if nat_le low value && nat_le value high then Some value else None) }
-    ensures range { IfSome result (λ n. (low ≤ n) × (n ≤ high)) }
+// The bytes are a numeral.
+fn is_numeral(bytes: &[u8]) -> bool
+    ensures { result ≡ is_numeral bytes.now }
 {
-    if low <= value && value <= high {
-        Some(value)
-    } else {
-        None
+    match bytes {
+        [] => false,
+        [first, rest @ ..] => (rest.is_empty() || *first != b'0') && all_digits(bytes),
     }
 }
 
-/// The number of a numeral, where it is from low to high, which is below 100.
+// The number of digits, where it is at most `high`.
+fn read_digits(high: u32, digits: &[u8]) -> Option<u32>
+    requires small { high < 2 ^ 16 }
+    requires digits { list_all is_digit digits.now ≡ true }
+    ensures { result ≡ (if nat_le (value digits.now) high then Some (value digits.now) else None) }
+{
+    let mut number = 0;
+    for digit in digits {
+        number = 10 * number + u32::from(*digit - b'0');
+        if number > high {
+            return None;
+        }
+    }
+    Some(number)
+}
+
+/// The number of a numeral, where it is from low to high, which is below 2^16.
 pub fn numeral(low: u32, high: u32, bytes: &[u8]) -> Option<u32>
-    requires { high < 100 }
+    requires { high < 2 ^ 16 }
     ensures numeral { result ≡ numeral low high bytes.now }
     ensures range { IfSome result (λ n. (low ≤ n) × (n ≤ high)) }
 {
-    match bytes {
-        [] => None,
-        [b] => {
-            if !is_digit(*b) {
-                return None;
-            }
-            within(low, high, u32::from(*b - b'0'))
-        }
-        [b, c] => {
-            if !is_digit(*b) || *b == b'0' || !is_digit(*c) {
-                return None;
-            }
-            within(low, high, 10 * u32::from(*b - b'0') + u32::from(*c - b'0'))
-        }
-        [_, _, _, ..] => None,
+    if !is_numeral(bytes) {
+        return None;
+    }
+    match read_digits(high, bytes) {
+        Some(number) if low <= number => Some(number),
+        _ => None,
     }
 }

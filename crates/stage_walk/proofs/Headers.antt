@@ -11,7 +11,7 @@ use Rattle.stage_records.proofs.Cuts.{walk-header, walk-presentation, walk-on, w
 use Rattle.stage_file.specs.Headers.{header_answer}
 use Rattle.stage_file.specs.declared.headers.HeaderAnswer.{HeaderAnswer}
 use Rattle.stage_file.specs.declared.headers.HeaderAnswer.TheVariants as answer
-use Rattle.stage_walk.specs.Pieces.{IsFrontFrom, IsPart}
+use Rattle.coho_io.specs.Pieces.{IsFrontFrom, IsPart}
 use Rattle.stage_walk.specs.Turns.{GoesOn, EndsAtHeader, RefusesHeader}
 
 same-agrees : (n : ℕ) (honest all : List ℕ) → n ≤ 40 → agrees n honest (take 40 all) ≡ agrees n honest all
@@ -64,11 +64,6 @@ pub says : (honest all front : List ℕ) (a : HeaderAnswer) → front ≡ take 4
     → a ≡ header_answer honest front → Says honest all a
 says honest all front a e h =
     subst (Says honest all) (sym (h ∙ ap (header_answer honest) e)) (header-says honest all)
-
--- nothing was read yet
-pub front_start : (o : Option (List ℕ)) (bytes : List ℕ) → bytes ≡ [] → IsFrontFrom o 0 bytes
-front_start None bytes e = e
-front_start (Some all) bytes e = rw (e) refl
 
 -- by the part of the file that was read
 pub header_of : (o : Option (List ℕ)) (honest front : List ℕ) (a : HeaderAnswer) → IsPart o 0 40 front

@@ -1,4 +1,3 @@
-pub mod Fronts
 pub mod Headers
 pub mod Turns
 pub mod Growing

@@ -29,7 +29,8 @@ use Rattle.stage_file.specs.Headers.{ranged}
 use Rattle.stage_file.specs.Honest.{records_of, IsShapeAt, IsVerdict}
 use Rattle.stage_file.proofs.Honest.{honest, small-parts}
 use Rattle.stage_walk.specs.Dimensions.{dimension}
-use Rattle.stage_walk.specs.Pieces.{IsPart, IsRecordPart, front_size, range_at}
+use Rattle.coho_io.specs.Pieces.{IsPart}
+use Rattle.stage_walk.specs.Pieces.{IsRecordPart, front_size, range_at}
 use Rattle.stage_walk.specs.Turns.{OfBytes, GoesAt}
 
 -- a length that is in its range

@@ -1,5 +1,5 @@
--- A file that is read in pieces, and what is read of a record.
-use Rattle.std.specs.Prelude.{◌≡◌, ℕ, ◌+◌, ◌≤◌, List, [], length, take, drop, if◌then◌else◌, nat_lt, ⊤}
+-- What is read of a record.
+use Rattle.std.specs.Prelude.{◌≡◌, ℕ, ◌+◌, List, length, take, drop, if◌then◌else◌, nat_lt, ⊤}
 use Rattle.std.specs.declared.option.Option.{Option}
 use Rattle.std.specs.declared.option.Option.TheVariants.{None, Some}
 use Rattle.coho_io.specs.Causes.{Rose}
@@ -7,23 +7,6 @@ use Rattle.stage_records.specs.Walks.{length_at, is_in_range}
 use Rattle.stage_file.specs.Headers.{ranged}
 use Rattle.stage_walk.specs.declared.fault.StagesFault.{StagesFault}
 use Rattle.stage_walk.specs.declared.fault.StagesFault.TheVariants as fault
-
--- the front of a file from a place on that is as long, and nothing where the file is missing
-abbrev pub IsFrontFrom : Option (List ℕ) → ℕ → List ℕ → Type 0
-IsFrontFrom None from bytes = bytes ≡ []
-IsFrontFrom (Some all) from bytes = bytes ≡ take (length bytes) (drop from all)
-
--- k more bytes were read onto the front, and none only at the end
-abbrev pub ReadsMore : Option (List ℕ) → ℕ → List ℕ → List ℕ → ℕ → Type 0
-ReadsMore None from old new k = ⊥
-ReadsMore (Some all) from old new k =
-    (old ≡ take (length old) (drop from all) → new ≡ take (length new) (drop from all))
-    × (k ≡ 0 → length all ≤ from + length old)
-
--- the file is there, and these are its bytes from a place on, len of them or as many as there are
-abbrev pub IsPart : Option (List ℕ) → (from len : ℕ) → List ℕ → Type 0
-IsPart None from len bytes = ⊥
-IsPart (Some all) from len bytes = bytes ≡ take len (drop from all)
 
 -- the length with which bytes begin, where there are four and it is in its range
 abbrev pub range_at : List ℕ → Option ℕ

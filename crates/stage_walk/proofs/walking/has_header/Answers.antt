@@ -1,8 +1,9 @@
 use Rattle.std.proofs.Common.{sym, ◌∙◌, subst}
 use Rattle.coho_io.specs.Content.{file}
 use Rattle.stage_file.specs.declared.headers.HeaderAnswer.TheVariants as answer
-use Rattle.stage_walk.specs.Pieces.{IsPart}
-use Rattle.stage_walk.proofs.Headers.{front_start, header_of}
+use Rattle.coho_io.specs.Pieces.{IsPart}
+use Rattle.stage_walk.proofs.Headers.{header_of}
+use Rattle.coho_io.proofs.Parts.{front_start}
 use Rattle.stage_walk.proofs.walking.has_header.Goals as goal
 
 pub returns-in-Match-clause-answer : goal.returns-in-Match-clause-answer

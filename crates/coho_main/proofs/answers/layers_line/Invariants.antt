@@ -1,7 +1,0 @@
-use Rattle.std.proofs.Common.{◌≡◌, ◌++◌, take, codes, flat_map, string_bytes}
-use Rattle.coho_main.specs.Outcome.{after_space}
-use Rattle.coho_main.proofs.answers.layers_line.Given as goal
-
-abbrev pub invariant-loop-dimension : goal.invariant-loop-dimension
-invariant-loop-dimension l = string_bytes l.text ≡ codes "layers" ++ flat_map after_space
-    (take l.dimension-index l.dimensions)

@@ -1,5 +1,0 @@
-use Rattle.coho_main.proofs.FromWords.{without_from}
-use Rattle.coho_main.proofs.file_laws.words_law.Goals as goal
-
-pub returns : goal.returns
-returns c = without_from

@@ -1,6 +1,0 @@
-use Rattle.coho_main.specs.Products.{direct_product}
-use Rattle.coho_main.proofs.Agreement.{RowAgrees}
-use Rattle.coho_main.proofs.products.set_row.Given as goal
-
-abbrev pub invariant-loop-i : goal.invariant-loop-i
-invariant-loop-i l = RowAgrees (direct_product l.p l.q) l.j l.i l.made

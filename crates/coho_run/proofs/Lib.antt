@@ -1,0 +1,11 @@
+pub mod Asked
+pub mod Answering
+pub mod ClassAnswers
+pub mod FileLaws
+pub mod Outcomes
+pub mod Replies
+pub mod RingAnswers
+pub mod Run
+pub mod SavedFiles
+pub mod Settled
+pub mod Twice

@@ -1,0 +1,10 @@
+pub mod Chain
+pub mod Fronts
+pub mod Lines
+pub mod Loaded
+pub mod Loads
+pub mod OneTable
+pub mod Proper
+pub mod Seen
+pub mod TableExists
+pub mod Written

@@ -1,0 +1,13 @@
+pub mod CountedRecords
+pub mod FaultStops
+pub mod FoundStages
+pub mod OneAnswer
+pub mod OneResolution
+pub mod PutFiles
+pub mod Replies
+pub mod Sizes
+pub mod SomeFiles
+pub mod StageRows
+pub mod StageSteps
+pub mod StagesExist
+pub mod Working

@@ -1,0 +1,6 @@
+pub mod Answers
+pub mod Resolving
+pub mod StageFiles
+pub mod Stages
+pub mod Stopping
+pub mod Works
