@@ -13,6 +13,7 @@ use Rattle.graded_polynomials.specs.Monomials.{is_exterior, IsMonomials}
 use Rattle.graded_polynomials.proofs.Terms.{each-map}
 use Rattle.graded_polynomials.proofs.MonomialLists.{monomials-unique}
 use Rattle.graded_polynomials.specs.AllMonomials.{with_first, all_monomials}
+use Rattle.gc_poly.specs.Counts.{AreSums}
 use Rattle.gc_poly.specs.Generators.{AreOrdered}
 use Rattle.graded_polynomials.proofs.AllMonomials.{leb-of, all-monomials}
 
@@ -119,11 +120,9 @@ capped a b x y M e f = omega (arith, e, f)
 
 pub counts-once : (q : ℕ) (ds old new : List ℕ) (i j g : ℕ) → j ≡ suc i → i < length ds → g ≡ get_or ds i 0
     → 0 < g → is_exterior q (get_or ds i 0) ≡ true → length old ≡ 25 → AreCounts q (drop j ds) old
-    → ((j : ℕ) → j < g → get_or new j 0 ≡ get_or old j 0)
-    → ((j : ℕ) → g ≤ j → j < length old
-    → get_or new j 0 ≡ min (get_or old j 0 + get_or old (j - g) 0) (2 ^ 64 - 1))
+    → AreSums g old old new
     → AreCounts q (drop i ds) new
-counts-once q ds old new i j g s l e p x n h same more k b = rw (drop-at ds i l, ← e) (go (cases_lt k g))
+counts-once q ds old new i j g s l e p x n h S k b = rw (drop-at ds i l, ← e) (go (cases_lt k g))
   where
     rest : List ℕ
     rest = drop (suc i) ds
@@ -132,18 +131,16 @@ counts-once q ds old new i j g s l e p x n h same more k b = rw (drop-at ds i l,
     had = subst (λ j. AreCounts q (drop j ds) old) s h
 
     go : (k < g) ⊎ (g ≤ k) → get_or new k 0 ≡ min (number q (g ∷ rest) k) (2 ^ 64 - 1)
-    go (inl c) = same k c ∙ had k b ∙ ap (λ n. min n (2 ^ 64 - 1)) (sym (number-short q g rest p k c))
+    go (inl c) = S.same k c ∙ had k b ∙ ap (λ n. min n (2 ^ 64 - 1)) (sym (number-short q g rest p k c))
     go (inr c) =
-        more k c (omega (arith, n)) ∙ capped _ _ _ _ _ (had k b) (had (k - g) (omega arith))
+        S.more k c (omega (arith, n)) ∙ capped _ _ _ _ _ (had k b) (had (k - g) (omega arith))
         ∙ ap (λ n. min n (2 ^ 64 - 1)) (sym (number-once q g rest p k (rw e x) c))
 
 pub counts-powers : (q : ℕ) (ds old new : List ℕ) (i j g : ℕ) → j ≡ suc i → i < length ds → g ≡ get_or ds i 0
     → 0 < g → is_exterior q (get_or ds i 0) ≡ false → length old ≡ 25 → AreCounts q (drop j ds) old
-    → ((j : ℕ) → j < g → get_or new j 0 ≡ get_or old j 0)
-    → ((j : ℕ) → g ≤ j → j < length old
-    → get_or new j 0 ≡ min (get_or old j 0 + get_or new (j - g) 0) (2 ^ 64 - 1))
+    → AreSums g old new new
     → AreCounts q (drop i ds) new
-counts-powers q ds old new i j g s l e p x n h same more k b =
+counts-powers q ds old new i j g s l e p x n h S k b =
     rw (drop-at ds i l, ← e) (upto (suc k) k (omega arith) b)
   where
     rest : List ℕ
@@ -158,9 +155,9 @@ counts-powers q ds old new i j g s l e p x n h same more k b =
       where
         go : (k < g) ⊎ (g ≤ k) → (g ≤ k → get_or new (k - g) 0 ≡ min (number q (g ∷ rest) (k - g))
             (2 ^ 64 - 1)) → get_or new k 0 ≡ min (number q (g ∷ rest) k) (2 ^ 64 - 1)
-        go (inl c) r = same k c ∙ had k b ∙ ap (λ n. min n (2 ^ 64 - 1)) (sym (number-short q g rest p k c))
+        go (inl c) r = S.same k c ∙ had k b ∙ ap (λ n. min n (2 ^ 64 - 1)) (sym (number-short q g rest p k c))
         go (inr c) r =
-            more k c (omega (arith, n)) ∙ capped _ _ _ _ _ (had k b) (r c)
+            S.more k c (omega (arith, n)) ∙ capped _ _ _ _ _ (had k b) (r c)
             ∙ ap (λ n. min n (2 ^ 64 - 1)) (sym (number-powers q g rest p k (rw e x) c))
 
 pub positive : (ds : List ℕ) → AreOrdered ds → Each (λ d. 0 < d) ds

@@ -1,3 +1,4 @@
+pub mod Counts
 pub mod Generators
 pub mod Lists
 pub mod Polynomials

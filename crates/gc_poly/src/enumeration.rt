@@ -1,10 +1,10 @@
 //! The monomials of a degree: their number and their list.
 
-ghost use Rattle.std.specs.Prelude.{◌≡◌, ℕ, ◌+◌, ◌-◌, ◌^◌, ◌<◌, ◌≤◌, min, List, ◌++◌, map, drop, length};
-ghost use Rattle.std.specs.Prelude.{slice_index, IfOk, OnOk, if◌then◌else◌, nat_le};
+ghost use Rattle.std.specs.Prelude.{◌≡◌, ℕ, ◌<◌, ◌≤◌, min, List, ◌++◌, map, drop, length, IfOk, OnOk};
 ghost use Rattle.limits.specs.declared.TheConstants.{GREATEST_COUNT};
 ghost use Rattle.graded_polynomials.specs.Monomials.{is_exterior, IsTrimmed, IsMonomials};
 ghost use Rattle.graded_polynomials.specs.AllMonomials.{all_monomials};
+ghost use Rattle.gc_poly.specs.Counts.{AreSums};
 ghost use Rattle.gc_poly.specs.Generators.{greatest, AreOrdered};
 
 use crate::{Gens, Mono, Monos};
@@ -18,10 +18,7 @@ const DEGREES: usize = GREATEST_DEGREE as usize + 1;
 // Counts with a further generator of this degree and all its powers.
 fn count_powers(counts: &mut [u64], degree: usize)
     requires { 0 < degree }
-    ensures same { (j : ℕ) → j < degree → slice_index counts.new j ≡ slice_index counts.old j }
-    ensures more { (j : ℕ) → degree ≤ j → j < length counts.old
-        → slice_index counts.new j ≡ min (slice_index counts.old j + slice_index counts.new (j - degree))
-        (2 ^ 64 - 1) }
+    ensures { AreSums degree counts.old counts.new counts.new }
 {
     for j in degree..counts.len() {
         counts[j] = counts[j].saturating_add(counts[j - degree]);
@@ -31,10 +28,7 @@ fn count_powers(counts: &mut [u64], degree: usize)
 // Counts with a further generator of this degree whose square is 0.
 fn count_once(counts: &mut [u64], degree: usize)
     requires { 0 < degree }
-    ensures same { (j : ℕ) → j < degree → slice_index counts.new j ≡ slice_index counts.old j }
-    ensures more { (j : ℕ) → degree ≤ j → j < length counts.old
-        → slice_index counts.new j ≡ min (slice_index counts.old j + slice_index counts.old (j - degree))
-        (2 ^ 64 - 1) }
+    ensures { AreSums degree counts.old counts.old counts.new }
 {
     for j in (degree..counts.len()).rev() {
         counts[j] = counts[j].saturating_add(counts[j - degree]);
@@ -71,7 +65,7 @@ fn find_monomials(
     found: &mut Vec<Mono>,
 ) -> Result<(), Memory>
     requires within { i ≤ length gens.now.degrees }
-    requires small { rest ≤ GREATEST_DEGREE }
+    requires small { rest ≤ 255 }
     requires trimmed { rest ≡ 0 → IsTrimmed chosen.old.items }
     ensures found { OnOk result (found.new.items
         ≡ found.old.items ++ map (λ m. chosen.old.items ++ m)
@@ -99,9 +93,9 @@ fn find_monomials(
     Ok(())
 }
 
-/// All monomials of degree d ≤ `GREATEST_DEGREE`, in descending order.
+/// All monomials of degree d ≤ 255, in descending order.
 pub fn monomials(alloc: Global, gens: &Gens, d: u32) -> Result<Monos, Memory>
-    requires { d ≤ GREATEST_DEGREE }
+    requires { d ≤ 255 }
     ensures { IfOk result (IsMonomials (greatest gens.now) gens.now.degrees d) }
 {
     let mut found = Vec::new(alloc);

@@ -76,8 +76,8 @@ impl Mono {
         false
     }
 
-    // The monomial with the exponents added.
-    pub(crate) fn joined(&self, alloc: Global, other: &Mono) -> Result<Mono, Memory>
+    /// The monomial with the exponents added.
+    pub fn joined(&self, alloc: Global, other: &Mono) -> Result<Mono, Memory>
         requires { (i : ℕ) → exponent self.now i + exponent other.now i ≤ 255 }
         ensures { IfOk result (λ m. m ≡ joined self.now other.now) }
     {

@@ -41,7 +41,7 @@ basis (suc zero) = units 1 0 1
 basis (suc (suc d)) = []
 
 -- the monomials of positive degree are the powers of x
-powers-of-x : (d : ℕ) → IsMonomials 1 (1 ∷ []) (suc d) ((suc d ∷ []) ∷ [])
+pub powers-of-x : (d : ℕ) → IsMonomials 1 (1 ∷ []) (suc d) ((suc d ∷ []) ∷ [])
 powers-of-x d = record { each = each; all = all; descending = λ i j b l. absurd (omega (arith, b, l)) }
   where
     each : (i : ℕ) → i < 1 → IsMonomial 1 (1 ∷ []) (suc d) (slice_index_or ((suc d ∷ []) ∷ []) i [])

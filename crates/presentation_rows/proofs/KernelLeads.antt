@@ -14,7 +14,7 @@ use Rattle.presentation_rows.specs.RowPolynomials.{polynomial_of, row_of}
 use Rattle.presentation_rows.specs.Values.{AreValues}
 use Rattle.presentation_rows.proofs.RowTerms.{over-row, same-as-row, row-of-is-row}
 use Rattle.presentation_rows.proofs.RowValues.{value-of-kernel, kernel-of-value}
-use Rattle.presentation_rows.proofs.Leads.{pivot-of-leading, leading-of-pivot}
+use Rattle.presentation_rows.proofs.Leads.{pivot-of-member, leading-of-row}
 
 module _ (q d : ℕ) (mul : ℕ → ℕ → Vector q → Vector q
     → Vector q) (gs : List (Generator (Vector q))) (ms values kernel : List (List ℕ))
@@ -42,10 +42,10 @@ module _ (q d : ℕ) (mul : ℕ → ℕ → Vector q → Vector q
       → IsLeading q (vectors q mul) (IsRelation q (vectors q mul) gs d)
       (slice_index_or ms k []) ↔ IsPivot kernel k
   relation-pivots k l = (
-    pivot-of-leading one M (vectors q mul) (IsRelation q (vectors q mul) gs d)
-        (λ f r. r.over) kernel K.echelon relation-row row-relation k l,
-    leading-of-pivot one M (vectors q mul) (IsRelation q (vectors q mul) gs d)
-        (λ f r. r.over) kernel K.echelon relation-row row-relation k l,
+    (λ h. pivot-of-member q ms M.descending one (vectors q mul) (IsRelation q (vectors q mul) gs d) kernel
+        K.echelon h.member (relation-row h.member h.is_member) k l h.here h.above),
+    (λ p. leading-of-row q ms M.descending one (vectors q mul) (IsRelation q (vectors q mul) gs d) kernel
+        K.echelon p.0 k p.1 p.2 l (row-relation p.0 p.1)),
   )
 
   pub standard-pivots : (k : ℕ) → k < length ms

@@ -9,6 +9,7 @@ pub mod NewGenerators
 pub mod RowSums
 pub mod MultipleRows
 pub mod PivotTests
+pub mod KernelRelations
 pub mod NewRelations
 pub mod NormalFormRows
 pub mod MoreMonomials

@@ -34,9 +34,9 @@ within-lower n [] es m h w t l = rw (none-above n es m h w t l) tt
 within-lower n (d ∷ ds) es [] h w t l = tt
 within-lower n (d ∷ ds) es (x ∷ m) h w t l = within-lower n ds es m h w t.1 (omega (arith, l))
 
-monomial-lower : (q d : ℕ) (ds es m : List ℕ) → Each (λ e. d < e) es → IsMonomial q (ds ++ es) d m
-    → IsMonomial q ds d m
-monomial-lower q d ds es m h k = record {
+pub monomial-lower : (q n : ℕ) (ds es : List ℕ) (d : ℕ) (m : List ℕ) → Each (λ e. n < e) es → d ≤ n
+    → IsMonomial q (ds ++ es) d m → IsMonomial q ds d m
+monomial-lower q n ds es d m h l k = record {
   within = w;
   trimmed = k.trimmed;
   fitting = sym (fits-more q ds es m w) ∙ k.fitting;
@@ -44,13 +44,13 @@ monomial-lower q d ds es m h k = record {
 }
   where
     w : IsWithin ds m
-    w = within-lower d ds es m h k.within k.trimmed (omega (arith, k.degree_is))
+    w = within-lower n ds es m h k.within k.trimmed (let z = k.degree_is in omega (arith, z, l))
 
 pub monomials-stay : (q d : ℕ) (ds es : List ℕ) (ms : List (List ℕ)) → Each (λ e. d < e) es
     → IsMonomials q ds d ms → IsMonomials q (ds ++ es) d ms
 monomials-stay q d ds es ms h M = record {
   each = λ i l. monomial-more q ds es d (slice_index_or ms i []) (M.each i l);
-  all = λ m k. M.all m (monomial-lower q d ds es m h k);
+  all = λ m k. M.all m (monomial-lower q d ds es d m h (omega arith) k);
   descending = M.descending;
 }
 
@@ -65,7 +65,7 @@ values-stay q d mul gs new ms values M V = record {
 }
 
 -- the monomial of the generator behind the others
-single-is-power : (ds : List ℕ) → single ds ≡ power (length ds) 1
+pub single-is-power : (ds : List ℕ) → single ds ≡ power (length ds) 1
 single-is-power [] = refl
 single-is-power (d ∷ ds) = ap (λ m. 0 ∷ m) (single-is-power ds)
 
@@ -80,7 +80,7 @@ exponent-other (suc i) zero h = refl
 exponent-other (suc i) (suc j) h = exponent-other i j (λ e. h (ap suc e))
 
 -- a monomial of positive degree in the generators before is greater
-greater-than-last : (ds m : List ℕ) → IsWithin ds m → 0 < degree ds m → IsGreater m (power (length ds) 1)
+pub greater-than-last : (ds m : List ℕ) → IsWithin ds m → 0 < degree ds m → IsGreater m (power (length ds) 1)
 greater-than-last ds [] w l = absurd (omega (arith, l, degree-nil ds))
 greater-than-last [] (x ∷ m) w l = absurd w
 greater-than-last (d ∷ ds) (suc x ∷ m) w l =

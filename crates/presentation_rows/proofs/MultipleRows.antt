@@ -20,7 +20,7 @@ use Rattle.presentation_rows.specs.Multiples.{terms_of, AreMultiples}
 use Rattle.presentation_rows.proofs.RowTerms.{monomials-apart, coefficient-at, over-row, same-at-places}
 use Rattle.presentation_rows.proofs.RowSums.{row-of-same, entry-congruent, row-plus, row-append, row-empty}
 use Rattle.presentation_rows.proofs.RowSums.{row-times}
-use Rattle.presentation_rows.proofs.Leads.{pivot-of-leading, leading-of-pivot}
+use Rattle.presentation_rows.proofs.Leads.{pivot-of-member, leading-of-row}
 
 module _ (q d : ℕ) (V : Type 0) (A : Algebra V) (gs : List (Generator V)) (rs : List Polynomial)
     (ms rows multiples : List (List ℕ))
@@ -126,8 +126,8 @@ module _ (q d : ℕ) (V : Type 0) (A : Algebra V) (gs : List (Generator V)) (rs 
   pub consequence-pivots : 1 < suc q → (k : ℕ) → k < length ms
       → IsLeading q A (IsConsequence q A gs rs d) (slice_index_or ms k []) ↔ IsPivot multiples k
   consequence-pivots one k l = (
-    pivot-of-leading one M A (IsConsequence q A gs rs d)
-        (λ f c. c.over) multiples E.echelon consequence-row pivot-row-consequence k l,
-    leading-of-pivot one M A (IsConsequence q A gs rs d)
-        (λ f c. c.over) multiples E.echelon consequence-row pivot-row-consequence k l,
+    (λ h. pivot-of-member q ms M.descending one A (IsConsequence q A gs rs d) multiples E.echelon h.member
+        (consequence-row h.member h.is_member) k l h.here h.above),
+    (λ p. leading-of-row q ms M.descending one A (IsConsequence q A gs rs d) multiples E.echelon p.0 k p.1
+        p.2 l (pivot-row-consequence p.0 p.1)),
   )

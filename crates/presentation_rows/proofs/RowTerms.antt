@@ -14,6 +14,7 @@ use Rattle.linear_algebra.proofs.Congruences.{congruent_eq, congruent_trans, con
 use Rattle.graded_polynomials.specs.Monomials.{IsMonomial, IsMonomials, IsGreater, same}
 use Rattle.graded_polynomials.specs.Polynomials.{Term, coefficient, IsOver, IsPolynomial, IsSame}
 use Rattle.graded_polynomials.proofs.Order.{greater-self}
+use Rattle.graded_polynomials.proofs.Stored.{among}
 use Rattle.graded_polynomials.proofs.Terms.{cases-same, same-self, occurs}
 use Rattle.presentation_rows.specs.RowPolynomials.{polynomial_of, row_of}
 
@@ -21,8 +22,15 @@ use Rattle.presentation_rows.specs.RowPolynomials.{polynomial_of, row_of}
 abbrev pub AreApart : List (List ℕ) → Type 0
 AreApart ms = (j k : ℕ) → j < k → k < length ms → slice_index_or ms j [] ≢ slice_index_or ms k []
 
+-- each monomial is greater than those behind it
+abbrev pub Descends : List (List ℕ) → Type 0
+Descends ms = (i j : ℕ) → i < j → j < length ms → IsGreater (slice_index_or ms i []) (slice_index_or ms j [])
+
+pub descending-apart : (ms : List (List ℕ)) → Descends ms → AreApart ms
+descending-apart ms D j k b l e = greater-self (slice_index_or ms k []) (rw e at (D j k b l))
+
 pub monomials-apart : {q d : ℕ} {ds : List ℕ} {ms : List (List ℕ)} → IsMonomials q ds d ms → AreApart ms
-monomials-apart {ms = ms} M j k b l e = greater-self (slice_index_or ms k []) (rw e at (M.descending j k b l))
+monomials-apart {ms = ms} M = descending-apart ms M.descending
 
 -- what holds of the terms of the places that are not 0
 pub each-term : (P : Term → Type 0) (ms : List (List ℕ)) (u : List ℕ)
@@ -78,8 +86,7 @@ coefficient-at (n ∷ ms) (suc c ∷ u) a (suc k) l =
     go (inr e) ih = rw e.0 (omega (arith, ih))
 
 -- the terms descend as the monomials do
-descending-terms : (ms : List (List ℕ)) (u : List ℕ)
-    → ((i j : ℕ) → i < j → j < length ms → IsGreater (slice_index_or ms i []) (slice_index_or ms j []))
+descending-terms : (ms : List (List ℕ)) (u : List ℕ) → Descends ms
     → AllPairs (λ (s t : Term). IsGreater s.monomial t.monomial) (polynomial_of ms u)
 descending-terms [] u h = λ i j d b l. absurd (omega (arith, l))
 descending-terms (m ∷ ms) [] h = λ i j d b l. absurd (omega (arith, l))
@@ -92,15 +99,28 @@ descending-terms (m ∷ ms) (suc c ∷ u) h =
     (each-term (λ t. IsGreater m t.monomial) ms u (λ k c l e. h 0 (suc k) (omega arith) (omega arith))))
     (descending-terms ms u (λ i j b l. h (suc i) (suc j) (omega arith) (omega arith)))
 
-module _ {q d : ℕ} {ds : List ℕ} {ms : List (List ℕ)} (M : IsMonomials q ds d ms) where
-  pub polynomial-of-row : (u : List ℕ) → IsRow (suc q) (length ms) u
+module _ (q d : ℕ) (ds : List ℕ) (ms : List (List ℕ))
+    (each : (k : ℕ) → k < length ms → IsMonomial q ds d (slice_index_or ms k [])) where
+  pub over-places : (u : List ℕ) → IsOver q ds d (polynomial_of ms u)
+  over-places u = each-term (λ t. IsMonomial q ds d t.monomial) ms u (λ k c l e. each k l)
+
+  pub polynomial-of-places : Descends ms → (u : List ℕ) → IsRow (suc q) (length ms) u
       → IsPolynomial q ds d (polynomial_of ms u)
-  polynomial-of-row u r = record {
-    over = each-term (λ t. IsMonomial q ds d t.monomial) ms u (λ k c l e. M.each k l);
-    coefficients = each-term (λ t. (0 < t.scalar)
-        × (t.scalar ≤ q)) ms u (λ k c l e. (omega arith, let b = r.below k l in omega (arith, b, e)));
-    descending = descending-terms ms u M.descending;
+  polynomial-of-places D u r = record {
+    over = over-places u;
+    coefficients = each-term (λ t. (0 < t.scalar) × (t.scalar ≤ q)) ms u
+        (λ k c l e. (omega arith, let b = r.below k l in omega (arith, b, e)));
+    descending = descending-terms ms u D;
   }
+
+-- what stands at no place does not occur
+pub placed-or-zero : (ms : List (List ℕ)) (u m : List ℕ) → (coefficient (polynomial_of ms u) m ≡ 0)
+    ⊎ ((i : ℕ) × (i < length ms) × (slice_index_or ms i [] ≡ m))
+placed-or-zero ms u m = among m Placed (polynomial_of ms u)
+    (each-term (λ t. Placed t.monomial) ms u (λ k c l e. (k, l, refl)))
+  where
+    Placed : List ℕ → Type 0
+    Placed n = (i : ℕ) × (i < length ms) × (slice_index_or ms i [] ≡ n)
 
 -- the entries of the row of a polynomial
 pub entry-row-of : (q : ℕ) (ms : List (List ℕ)) (f : List Term) (k : ℕ) → k < length ms
@@ -138,7 +158,11 @@ module _ {q d : ℕ} {ds : List ℕ} {ms : List (List ℕ)} (M : IsMonomials q d
       go m (inr e) (inr z) = congruent_eq (e ∙ sym z)
 
   pub over-row : (u : List ℕ) → IsOver q ds d (polynomial_of ms u)
-  over-row u = each-term (λ t. IsMonomial q ds d t.monomial) ms u (λ k c l e. M.each k l)
+  over-row = over-places q d ds ms M.each
+
+  pub polynomial-of-row : (u : List ℕ) → IsRow (suc q) (length ms) u
+      → IsPolynomial q ds d (polynomial_of ms u)
+  polynomial-of-row = polynomial-of-places q d ds ms M.each M.descending
 
   pub same-as-row : (f : List Term) → IsOver q ds d f → IsSame q f (polynomial_of ms (row_of q ms f))
   same-as-row f o = same-at-places f (polynomial_of ms (row_of q ms f)) o (over-row (row_of q ms f))

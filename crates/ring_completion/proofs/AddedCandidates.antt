@@ -15,7 +15,7 @@ use Rattle.graded_algebra.specs.Presentations.{IsStandard}
 use Rattle.graded_algebra.proofs.Ideals.{degree-nil}
 use Rattle.graded_algebra.proofs.Leading.{not-zero}
 use Rattle.graded_algebra.proofs.MoreGenerators.{last-case, degrees-append, monomial-single, single}
-use Rattle.ring_completion.proofs.AddedGenerators.{greater-than-last, single-is-power}
+use Rattle.presentation_rows.proofs.MoreMonomials.{greater-than-last, single-is-power}
 use Rattle.ring_completion.specs.Candidates.{AreSome, IsListed, IsQuotient, HasLeadingQuotient, AreCandidates}
 use Rattle.ring_completion.proofs.Constants.{constant-zero}
 use Rattle.ring_completion.proofs.Factors.{power-here, power-elsewhere}

@@ -1,6 +1,6 @@
 -- One more generator of the degree: what is left of the monomials stays, and its own monomial is added
 -- behind.
-use Rattle.std.proofs.Common.{◌≡◌, ℕ, zero, suc, ◌+◌, ◌*◌, ◌<◌, ◌≤◌, List, [], ◌∷◌, ◌++◌, length, Bool, cond}
+use Rattle.std.proofs.Common.{◌≡◌, ℕ, suc, ◌+◌, ◌*◌, ◌<◌, ◌≤◌, List, [], ◌∷◌, ◌++◌, length, Bool, cond}
 use Rattle.std.proofs.Common.{◌⊎◌, inl, inr, arith, ap, ap₂, sym, ◌∙◌, refl, length-append}
 use Rattle.std.specs.Prelude.{slice_index_or}
 use Rattle.std.specs.List.{AllByRecursion as Each}
@@ -10,8 +10,8 @@ use Rattle.linear_algebra.specs.Modular.{IsCongruent}
 use Rattle.linear_algebra.specs.Rows.{row}
 use Rattle.linear_algebra.proofs.Congruences.{congruent_eq, congruent_trans, congruent_sym}
 use Rattle.linear_algebra.proofs.Spans.{row_push, row_before_push}
-use Rattle.graded_polynomials.specs.Monomials.{IsMonomial, IsMonomials, IsWithin, IsTrimmed, IsGreater}
-use Rattle.graded_polynomials.specs.Monomials.{degree, exponent, fits, swaps, joined, sign}
+use Rattle.graded_polynomials.specs.Monomials.{IsMonomial, IsMonomials, IsWithin, IsGreater}
+use Rattle.graded_polynomials.specs.Monomials.{fits, swaps, joined, sign}
 use Rattle.graded_polynomials.specs.Polynomials.{Term, Polynomial, Multiple, coefficient, multiple, total}
 use Rattle.graded_polynomials.specs.Polynomials.{IsOver, IsOneOf, IsMultiple, IsInIdeal}
 use Rattle.graded_polynomials.specs.Texts.{power}
@@ -20,39 +20,14 @@ use Rattle.graded_polynomials.proofs.Terms.{each-map, occurs, same-refl}
 use Rattle.graded_algebra.specs.Algebras.{Algebra, Generator, degrees, evaluate}
 use Rattle.graded_algebra.specs.Presentations.{IsLeading, IsConsequence}
 use Rattle.graded_algebra.specs.Vectors.{Vector, vectors, unit}
-use Rattle.graded_algebra.proofs.Ideals.{degree-nil}
 use Rattle.graded_algebra.proofs.Leading.{not-zero}
 use Rattle.graded_algebra.proofs.MoreGenerators.{single, monomial-single, last-case, degrees-append}
 use Rattle.graded_algebra.proofs.MoreGenerators.{from-more}
 use Rattle.graded_polynomials.proofs.MoreGenerators.{monomial-more, fits-more, degree-more}
 use Rattle.presentation_rows.specs.Values.{vector, AreValues}
+use Rattle.presentation_rows.proofs.MoreMonomials.{monomial-lower, single-is-power, greater-than-last}
 use Rattle.presentation_rows.proofs.MoreMonomials.{values-with-last}
 use Rattle.ring_completion.specs.Candidates.{AreSome, IsListed, AreLeft}
-
-none-above : (n : ℕ) (es m : List ℕ) → Each (λ e. n < e) es → IsWithin es m → IsTrimmed m → degree es m ≤ n
-    → m ≡ []
-none-above n es [] h w t l = refl
-none-above n [] (x ∷ m) h w t l = absurd w
-none-above n (e ∷ es) (zero ∷ m) h w t l = absurd (t.0 (none-above n es m h.1 w t.1 (omega (arith, l))) refl)
-none-above n (e ∷ es) (suc x ∷ m) h w t l = absurd (omega (arith, l, h.0))
-
-within-less : (n : ℕ) (ds es m : List ℕ) → Each (λ e. n < e) es → IsWithin (ds ++ es) m → IsTrimmed m
-    → degree (ds ++ es) m ≤ n → IsWithin ds m
-within-less n [] es m h w t l = rw (none-above n es m h w t l) tt
-within-less n (d ∷ ds) es [] h w t l = tt
-within-less n (d ∷ ds) es (x ∷ m) h w t l = within-less n ds es m h w t.1 (omega (arith, l))
-
-pub monomial-less : (q n : ℕ) (ds es : List ℕ) (d : ℕ) (m : List ℕ) → Each (λ e. n < e) es → d ≤ n
-    → IsMonomial q (ds ++ es) d m → IsMonomial q ds d m
-monomial-less q n ds es d m h l k = record {
-  within = w;
-  trimmed = k.trimmed;
-  fitting = sym (fits-more q ds es m w) ∙ k.fitting;
-  degree_is = sym (degree-more ds es m w) ∙ k.degree_is;
-}
-  where
-    w : IsWithin ds m
-    w = within-less n ds es m h k.within k.trimmed (let z = k.degree_is in omega (arith, z, l))
 
 swaps-more : (ds es a b : List ℕ) → IsWithin ds a → IsWithin ds b → swaps (ds ++ es) a b ≡ swaps ds a b
 swaps-more [] [] [] b v w = refl
@@ -105,7 +80,7 @@ module _ (q n : ℕ) (ds es : List ℕ) (above : Each (λ e. n < e) es) (rs : Li
       (λ t h. record {
         given = h.given;
         rest = h.rest;
-        monomial = monomial-less q n ds es h.rest t.by above (let p = positive t.of h.given in let z =
+        monomial = monomial-lower q n ds es h.rest t.by above (let p = positive t.of h.given in let z =
             h.degree_is in omega (arith, p, z)) h.monomial;
         degree_is = h.degree_is;
       }) h
@@ -126,27 +101,9 @@ module _ (q n : ℕ) (ds es : List ℕ) (above : Each (λ e. n < e) es) (rs : Li
         rw (total-more i.multiples (each-down i.multiples i.each)) at i.sum;
   }
 
-pub single-is-power : (ds : List ℕ) → single ds ≡ power (length ds) 1
-single-is-power [] = refl
-single-is-power (d ∷ ds) = ap (λ m. 0 ∷ m) (single-is-power ds)
-
 not-within : (ds : List ℕ) → IsWithin ds (power (length ds) 1) → ⊥
 not-within [] w = w
 not-within (d ∷ ds) w = not-within ds w
-
-pub greater-than-last : (ds m : List ℕ) → IsWithin ds m → 0 < degree ds m → IsGreater m (power (length ds) 1)
-greater-than-last ds [] w l = absurd (omega (arith, l, degree-nil ds))
-greater-than-last [] (x ∷ m) w l = absurd w
-greater-than-last (d ∷ ds) (suc x ∷ m) w l =
-    record { at = 0; more = omega arith; before = λ i b. absurd (omega (arith, b)) }
-greater-than-last (d ∷ ds) (zero ∷ m) w l = deeper (greater-than-last ds m w (omega (arith, l)))
-  where
-    deeper : IsGreater m (power (length ds) 1) → IsGreater (0 ∷ m) (0 ∷ power (length ds) 1)
-    deeper g = record { at = suc g.at; more = g.more; before = before }
-      where
-        before : (i : ℕ) → i < suc g.at → exponent (0 ∷ m) i ≡ exponent (0 ∷ power (length ds) 1) i
-        before zero b = refl
-        before (suc i) b = g.before i (omega (arith, b))
 
 module _ (q n : ℕ) {V : Type 0} (A : Algebra V) (gs : List (Generator V)) (g : Generator V)
     (degree-is : g.degree ≡ suc n) (rs : List Polynomial)

@@ -34,7 +34,8 @@ use Rattle.ring_completion.proofs.Joins.{joined-comm, multiple-assoc}
 use Rattle.ring_completion.proofs.Multiples.{multiple-append, multiple-unfit}
 use Rattle.ring_completion.proofs.Quotients.{generator-multiple, degree-positive}
 use Rattle.ring_completion.proofs.Factors.{swaps-later, swaps-earlier, length-power, square-unfit}
-use Rattle.ring_completion.proofs.ListRows.{listed-apart, listed-or-zero, over-list, leading-of-row}
+use Rattle.ring_completion.proofs.ListRows.{listed-apart, listed-or-zero, over-list}
+use Rattle.presentation_rows.proofs.Leads.{leading-of-row}
 use Rattle.ring_completion.proofs.ListVectors.{coefficients-of-row}
 use Rattle.ring_completion.proofs.LinearForms.{sign-square}
 use Rattle.ring_completion.proofs.Remainders.{residue-same}
@@ -339,7 +340,7 @@ module _ (q : ℕ) (field : IsFieldModulo (suc q)) (mul : ℕ → ℕ → Vector
 
         pub leading-if-pivot : (i k : ℕ) → i < length E → pivot (row E i) ≡ k → k < length ms
             → IsLeading q (vectors q mul) (T q mul gs (suc n) rs ms C) (slice_index_or ms k [])
-        leading-if-pivot i k l p b = leading-of-row C field.above_one (vectors q mul)
+        leading-if-pivot i k l p b = leading-of-row q ms C.descending field.above_one (vectors q mul)
             (T q mul gs (suc n) rs ms C) E e.echelon i k l p b
             (row-consequence q mul gs (suc n) rs ms C (row E i) (echelon-vector i l))
 

@@ -21,6 +21,7 @@ use Rattle.graded_algebra.proofs.Vectors.{times-one, times-times, equal-from}
 use Rattle.graded_algebra.proofs.VectorLemmas.{vector-space}
 use Rattle.presentation_rows.specs.RowPolynomials.{polynomial_of, row_of}
 use Rattle.presentation_rows.specs.Values.{vector}
+use Rattle.presentation_rows.proofs.Leads.{pivot-of-member}
 use Rattle.presentation_rows.proofs.RowTerms.{each-term}
 use Rattle.ring_completion.specs.Candidates.{AreSome, IsListed, IsQuotient, HasLeadingQuotient}
 use Rattle.ring_completion.specs.Candidates.{AreCandidates}
@@ -30,7 +31,7 @@ use Rattle.ring_completion.specs.Completions.{IsReduced, AreProducts, AreConsist
 use Rattle.ring_completion.specs.Eliminations.{AreForms, form_of, exchange, AreCritical}
 use Rattle.ring_completion.proofs.Quotients.{IsFactorOf, factor-of, consequence-by-quotient}
 use Rattle.ring_completion.proofs.Reduction.{Separates, LeadsClean, leads-clean}
-use Rattle.ring_completion.proofs.ListRows.{same-as-list, pivot-of-member}
+use Rattle.ring_completion.proofs.ListRows.{same-as-list}
 use Rattle.ring_completion.proofs.ListVectors.{coefficients, coefficients-same, coefficients-linear}
 use Rattle.ring_completion.proofs.Forms.{forms-extend}
 use Rattle.ring_completion.proofs.LinearForms.{linear-alone, linear-times, sign-twice}
@@ -235,7 +236,7 @@ module _ (q : ℕ) (field : IsFieldModulo (suc q)) (mul : ℕ → ℕ → Vector
     pub pivot-if-leading : (k : ℕ) → k < length ms
         → IsLeading q (vectors q mul) (IsConsequence q (vectors q mul) gs rs (suc n)) (slice_index_or ms k [])
         → IsPivot E k
-    pivot-if-leading k l h = pivot-of-member S field.above_one (vectors q mul)
+    pivot-if-leading k l h = pivot-of-member q ms S.descending field.above_one (vectors q mul)
         (IsConsequence q (vectors q mul) gs rs (suc n)) E e.echelon
         c.member (consequence-row c.member c.is_member c.clean) k l c.here c.above
       where

@@ -15,11 +15,12 @@ use Rattle.graded_algebra.proofs.Values.{linear-same}
 use Rattle.graded_algebra.proofs.VectorLemmas.{vector-space}
 use Rattle.presentation_rows.specs.RowPolynomials.{polynomial_of, row_of}
 use Rattle.presentation_rows.specs.Values.{AreValues}
+use Rattle.presentation_rows.proofs.Leads.{pivot-of-member, leading-of-row}
 use Rattle.presentation_rows.proofs.RowTerms.{row-of-is-row}
 use Rattle.presentation_rows.proofs.RowValues.{value-of-kernel, kernel-of-value}
 use Rattle.ring_completion.specs.Candidates.{AreSome, IsListed}
 use Rattle.ring_completion.proofs.Reduction.{Separates, IsClean, LeadsClean, leads-clean}
-use Rattle.ring_completion.proofs.ListRows.{over-list, same-as-list, pivot-of-member, leading-of-row}
+use Rattle.ring_completion.proofs.ListRows.{over-list, same-as-list}
 
 module _ (q : ℕ) (field : IsFieldModulo (suc q)) (mul : ℕ → ℕ → Vector q → Vector q → Vector q)
     (In : ℕ → Vector q → Type 0)
@@ -56,9 +57,9 @@ module _ (q : ℕ) (field : IsFieldModulo (suc q)) (mul : ℕ → ℕ → Vector
       kernel k
   leads-at-pivots k l = (
     (λ h. let c = clean h in
-        pivot-of-member S field.above_one (vectors q mul) (IsRelation q (vectors q mul) gs d) kernel K.echelon
+        pivot-of-member q ms S.descending field.above_one (vectors q mul) (IsRelation q (vectors q mul) gs d) kernel K.echelon
         c.member (clean-row c.member c.is_member c.clean) k l c.here c.above),
-    (λ p. leading-of-row S field.above_one (vectors q mul) (IsRelation q (vectors q mul) gs d) kernel
+    (λ p. leading-of-row q ms S.descending field.above_one (vectors q mul) (IsRelation q (vectors q mul) gs d) kernel
         K.echelon p.0 k p.1 p.2 l (kernel-relation p.0 p.1)),
   )
     where

@@ -10,7 +10,7 @@ use Rattle.linear_algebra.specs.Rows.{entry, IsRow, IsEchelonOf, IsReduced as Is
 use Rattle.linear_algebra.specs.Kernels.{IsKernelOf}
 use Rattle.linear_algebra.specs.Choices.{IsPreimage, IsGreedy}
 use Rattle.graded_polynomials.specs.Monomials.{IsMonomial, IsMonomials}
-use Rattle.graded_polynomials.specs.Polynomials.{Term, Polynomial, scaled, IsOver}
+use Rattle.graded_polynomials.specs.Polynomials.{Term, Polynomial, scaled}
 use Rattle.graded_algebra.specs.Algebras.{Generator, degrees, evaluate, value, times}
 use Rattle.graded_algebra.specs.Presentations.{IsLeading, IsStandard, IsConsequence, IsRelations}
 use Rattle.graded_algebra.specs.Presentations.{IsNormalForm, IsSpanGenerators, generators_of}
@@ -30,7 +30,7 @@ use Rattle.linear_algebra.proofs.PivotTests.{pivot-if-found}
 use Rattle.presentation_rows.proofs.RowTerms.{each-term}
 use Rattle.presentation_rows.proofs.RowValues.{value-of-combination}
 use Rattle.ring_completion.specs.Candidates.{AreSome, IsListed, AreCandidates, AreLeft}
-use Rattle.ring_completion.specs.Left.{without_pivots, IsCompletion}
+use Rattle.ring_completion.specs.Left.{without_pivots, AreFormsLeft, IsCompletion}
 use Rattle.graded_polynomials.specs.AllMonomials.{all_monomials}
 use Rattle.graded_polynomials.proofs.AllMonomials.{all-monomials}
 use Rattle.ring_completion.proofs.AddedGenerators.{up, left-with-last, list-values-with-last}
@@ -129,12 +129,7 @@ module _ (q n : ℕ) (field : IsFieldModulo (suc q)) (G : GradedAlgebra q) (gs :
                 (ap (is_pivot E) (let z : 0 + i.0 ≡ i.0 = omega arith in z) ∙ f) in inl (s.0, s.1, s.2 ∙ i.2)
 
     -- a form reduced by the critical rows is a form over what is left of the list
-    pub form-of-list : (f : List Term) (r w : List ℕ) → IsOver q (degrees gs) (suc n) f
-        → IsRow (suc q) (length ms) r
-        → IsConsequence q (algebra q G) gs rs (suc n) (f ++ scaled q (polynomial_of ms r))
-        → IsRowReduced (suc q) E r w
-        → IsConsequence q (algebra q G) gs rs (suc n)
-        (f ++ scaled q (polynomial_of (without_pivots E 0 ms) (without_pivots E 0 w)))
+    pub form-of-list : AreFormsLeft q (algebra q G) gs rs (suc n) ms E
     form-of-list f r w o x c D = subst (λ g. IsConsequence q (algebra q G) gs rs (suc n) (f ++ scaled q g))
         (rows-over-left E ms w D.zero_at_pivots)
         (reduced-form q field G.mul (IsOfDegree q G) G.laws gs positive free n rs R ms S
@@ -159,12 +154,7 @@ module _ (q n : ℕ) (field : IsFieldModulo (suc q)) (G : GradedAlgebra q) (gs :
     left-candidates = left-of-list ms products forms rows E C.candidates.some
         (separates-candidates ms C.candidates) quotients-of C.products_are C.forms_are C.critical e
 
-    pub form-over-left : (f : List Term) (r w : List ℕ) → IsOver q (degrees gs) (suc n) f
-        → IsRow (suc q) (length ms) r
-        → IsConsequence q (algebra q G) gs rs (suc n) (f ++ scaled q (polynomial_of ms r))
-        → IsRowReduced (suc q) E r w
-        → IsConsequence q (algebra q G) gs rs (suc n)
-        (f ++ scaled q (polynomial_of (without_pivots E 0 ms) (without_pivots E 0 w)))
+    pub form-over-left : AreFormsLeft q (algebra q G) gs rs (suc n) ms E
     form-over-left = form-of-list ms products forms rows E C.candidates.some
         (separates-candidates ms C.candidates) quotients-of C.products_are C.forms_are C.critical e
 

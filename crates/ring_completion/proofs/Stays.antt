@@ -15,7 +15,8 @@ use Rattle.graded_polynomials.proofs.MoreGenerators.{monomial-more}
 use Rattle.presentation_rows.specs.RowPolynomials.{polynomial_of}
 use Rattle.ring_completion.specs.Completions.{alone, generator_times, degree_of, IsGenerator, IsStandardOf}
 use Rattle.ring_completion.specs.Completions.{IsReduced, AreProducts}
-use Rattle.ring_completion.proofs.AddedGenerators.{monomial-less, multiple-more}
+use Rattle.presentation_rows.proofs.MoreMonomials.{monomial-lower}
+use Rattle.ring_completion.proofs.AddedGenerators.{multiple-more}
 
 -- a row with a 0 behind, over a list with one more monomial, stands for the same polynomial
 pub polynomial-with-last : (ms : List (List ℕ)) (m u : List ℕ) → length u ≡ length ms
@@ -66,7 +67,7 @@ module _ (q : ℕ) {V : Type 0} (A : Algebra V) (gs new : List (Generator V)) wh
     pub monomial-down : (d : ℕ) → d ≤ n → (m : List ℕ) → IsMonomial q (degrees more) d m
         → IsMonomial q (degrees gs) d m
     monomial-down d l m M =
-        monomial-less q n (degrees gs) (degrees new) d m above l (rw (degrees-append gs new) at M)
+        monomial-lower q n (degrees gs) (degrees new) d m above l (rw (degrees-append gs new) at M)
 
     over-down : (d : ℕ) → d ≤ n → (f : List Term) → IsOver q (degrees more) d f → IsOver q (degrees gs) d f
     over-down d l f o = each-map (λ t. IsMonomial q (degrees more) d t.monomial)

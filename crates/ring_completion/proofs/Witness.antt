@@ -8,7 +8,7 @@ use Rattle.linear_algebra.specs.Modular.{IsCongruent}
 use Rattle.linear_algebra.specs.Rows.{entry, row, IsRow, IsEchelon, IsEchelonOf}
 use Rattle.linear_algebra.specs.Kernels.{IsKernelOf, IsInKernel}
 use Rattle.linear_algebra.proofs.Congruences.{congruent_eq, congruent_trans, congruent_sym}
-use Rattle.graded_polynomials.specs.Monomials.{IsMonomial, joined, IsMonomials}
+use Rattle.graded_polynomials.specs.Monomials.{IsMonomial, joined}
 use Rattle.graded_polynomials.specs.Polynomials.{Term, Multiple, IsMultiple, coefficient, total}
 use Rattle.graded_polynomials.specs.Texts.{power}
 use Rattle.graded_polynomials.proofs.Monomials.{only-one}
@@ -17,6 +17,7 @@ use Rattle.graded_algebra.specs.Presentations.{IsStandard, IsRelations}
 use Rattle.graded_algebra.specs.Vectors.{Vector, algebra, unit}
 use Rattle.graded_algebra.proofs.Leading.{not-zero}
 use Rattle.presentation_rows.specs.Values.{vector, AreValues}
+use Rattle.presentation_rows.proofs.Examples.{powers-of-x}
 use Rattle.ring_completion.specs.Borders.{AreReached}
 use Rattle.ring_completion.specs.Candidates.{AreSome, IsListed, IsQuotient, AreCandidates, AreLeft}
 use Rattle.ring_completion.specs.Completions.{alone, generator_times, degree_of, IsGenerator, IsStandardOf}
@@ -38,25 +39,6 @@ gs = record { degree = 1; class = unit 1 0 } ∷ []
 
 positive : Each (λ d. 0 < d) (degrees gs)
 positive = (omega arith, tt)
-
--- the one monomial of each degree
-powers-of-x : (d : ℕ) → IsMonomials 1 (1 ∷ []) (suc d) ((suc d ∷ []) ∷ [])
-powers-of-x d = record { each = each; all = all; descending = λ i j b l. absurd (omega (arith, b, l)) }
-  where
-    each : (i : ℕ) → i < 1 → IsMonomial 1 (1 ∷ []) (suc d) (slice_index_or ((suc d ∷ []) ∷ []) i [])
-    each zero l = record {
-      within = tt;
-      trimmed = ((λ e z. absurd (omega (arith, z))), tt);
-      fitting = refl;
-      degree_is = omega arith;
-    }
-    each (suc i) l = absurd (omega (arith, l))
-
-    all : (m : List ℕ) → IsMonomial 1 (1 ∷ []) (suc d) m
-        → (i : ℕ) × (i < 1) × (slice_index_or ((suc d ∷ []) ∷ []) i [] ≡ m)
-    all [] M = absurd (let e = M.degree_is in omega (arith, e))
-    all (y ∷ []) M = (0, omega arith, ap (λ y. y ∷ []) (let e = M.degree_is in omega (arith, e)))
-    all (y ∷ z ∷ m) M = absurd M.within
 
 some : (d : ℕ) → AreSome 1 (degrees gs) (suc d) ((suc d ∷ []) ∷ [])
 some d = record { each = (powers-of-x d).each; descending = (powers-of-x d).descending }

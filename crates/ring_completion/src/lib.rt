@@ -31,7 +31,7 @@ ghost use Rattle.ring_completion.specs.Completions.{generator_times, degree_of, 
 ghost use Rattle.ring_completion.specs.Completions.{IsClearBefore, AreProducts};
 ghost use Rattle.ring_completion.specs.Borders.{AreReached};
 ghost use Rattle.ring_completion.specs.Eliminations.{AreForms, AreCritical, exchange, form_of};
-ghost use Rattle.ring_completion.specs.Left.{without_pivots, IsCompletion};
+ghost use Rattle.ring_completion.specs.Left.{without_pivots, IsForm, AreFormsLeft, IsCompletion};
 ghost use Rattle.ring_completion.specs.Listings.{AreStandardLists, candidates_of, is_clear_before, is_listed};
 ghost use Rattle.ring_completion.specs.Listings.{standard_of};
 
@@ -88,16 +88,12 @@ pub fn monomials_that_are_left()
         → AreLeft q (algebra q G) gs rs (suc n) (without_pivots reduced 0 ms) }
     ensures forms { (q n : ℕ) (G : GradedAlgebra q) (gs : List (Generator (Vector q))) (rs : List Polynomial)
         (ms : List (List ℕ)) (products : ℕ → List ℕ → List Term) (forms : ℕ → List ℕ → List ℕ)
-        (rows reduced : List (List ℕ)) (f : List Term) (u w : List ℕ)
+        (rows reduced : List (List ℕ))
         → IsFieldModulo (suc q) → Each (λ e. 0 < e) (degrees gs) → IsRelations q (algebra q G) gs n rs
         → AreReached q (algebra q G) gs (suc n) ms → AreProducts q (algebra q G) gs (suc n) products
         → AreForms q G.mul gs rs (suc n) ms forms → AreCritical q G.mul gs (suc n) products forms rows
         → IsEchelonOf (suc q) (length ms) rows reduced
-        → IsOver q (degrees gs) (suc n) f → IsRow (suc q) (length ms) u
-        → IsConsequence q (algebra q G) gs rs (suc n) (f ++ scaled q (polynomial_of ms u))
-        → IsRowReduced (suc q) reduced u w
-        → IsConsequence q (algebra q G) gs rs (suc n)
-        (f ++ scaled q (polynomial_of (without_pivots reduced 0 ms) (without_pivots reduced 0 w))) }
+        → AreFormsLeft q (algebra q G) gs rs (suc n) ms reduced }
 {}
 
 /// The candidates are those monomials with a standard quotient of which each quotient is standard.
@@ -192,14 +188,12 @@ pub fn forms_of_zero_and_of_candidates()
         (ms : List (List ℕ)) (s u : List ℕ) → AreSome q (degrees gs) d ms
         → fits q (degrees gs) (joined (power i 1) s) ≡ false
         → vector q u ≡ (vectors q mul).zero
-        → IsConsequence q (vectors q mul) gs rs d
-        (generator_times q (degrees gs) i s ++ scaled q (polynomial_of ms u)) }
+        → IsForm q (vectors q mul) gs rs d ms (generator_times q (degrees gs) i s) u }
     ensures candidate { (q d i : ℕ) (mul : ℕ → ℕ → Vector q → Vector q → Vector q)
         (gs : List (Generator (Vector q))) (rs : List Polynomial)
         (ms : List (List ℕ)) (s : List ℕ) → AreSome q (degrees gs) d ms → IsListed ms (joined (power i 1) s)
-        → IsConsequence q (vectors q mul) gs rs d
-        (generator_times q (degrees gs) i s
-        ++ scaled q (polynomial_of ms (row_of q ms (generator_times q (degrees gs) i s)))) }
+        → IsForm q (vectors q mul) gs rs d ms (generator_times q (degrees gs) i s)
+        (row_of q ms (generator_times q (degrees gs) i s)) }
 {}
 
 /// The form of x_i x_j r, where x_j r is standard, is by sign the sum of the forms of x_j t over the terms t
@@ -216,15 +210,14 @@ pub fn forms_by_another_factor()
         → degree_of (degrees gs) i + (degree_of (degrees gs) j + e) ≡ suc n
         → IsMonomial q (degrees gs) (degree_of (degrees gs) j + e) (joined (power j 1) r)
         → Each (λ t. IsRow (suc q) (length ms) (forms j t.monomial)
-        × IsConsequence q (algebra q G) gs rs (suc n)
-        (generator_times q (degrees gs) j t.monomial ++ scaled q (polynomial_of ms (forms j t.monomial))))
+        × IsForm q (algebra q G) gs rs (suc n) ms (generator_times q (degrees gs) j t.monomial)
+        (forms j t.monomial))
         (products i r)
         → vector q u ≡ times (algebra q G)
         (sign q (swaps (degrees gs) (power j 1) r)
         * sign q (degree_of (degrees gs) i * degree_of (degrees gs) j))
         (form_of q G.mul gs forms j (products i r))
-        → IsConsequence q (algebra q G) gs rs (suc n)
-        (generator_times q (degrees gs) i (joined (power j 1) r) ++ scaled q (polynomial_of ms u)) }
+        → IsForm q (algebra q G) gs rs (suc n) ms (generator_times q (degrees gs) i (joined (power j 1) r)) u }
 {}
 
 /// The normal form of a multiple of a monomial that is not standard has smaller monomials only, and products
@@ -244,15 +237,11 @@ pub fn normal_forms_are_smaller()
 pub fn forms_over_left_candidates()
     ensures { (q n : ℕ) (G : GradedAlgebra q) (gs : List (Generator (Vector q))) (rs : List Polynomial)
         (ms : List (List ℕ)) (products : ℕ → List ℕ → List Term) (forms : ℕ → List ℕ → List ℕ)
-        (rows reduced : List (List ℕ)) (f : List Term) (u w : List ℕ)
+        (rows reduced : List (List ℕ))
         → IsFieldModulo (suc q) → Each (λ e. 0 < e) (degrees gs) → IsRelations q (algebra q G) gs n rs
         → IsCompletion q G.mul gs rs (suc n) ms products forms rows
         → IsEchelonOf (suc q) (length ms) rows reduced
-        → IsOver q (degrees gs) (suc n) f → IsRow (suc q) (length ms) u
-        → IsConsequence q (algebra q G) gs rs (suc n) (f ++ scaled q (polynomial_of ms u))
-        → IsRowReduced (suc q) reduced u w
-        → IsConsequence q (algebra q G) gs rs (suc n)
-        (f ++ scaled q (polynomial_of (without_pivots reduced 0 ms) (without_pivots reduced 0 w))) }
+        → AreFormsLeft q (algebra q G) gs rs (suc n) ms reduced }
 {}
 
 /// A form over the monomials that lead in no consequence, reduced by the kernel of their values, is the row
@@ -263,7 +252,7 @@ pub fn products_of_forms()
         → IsFieldModulo (suc q) → Each (λ e. 0 < e) (degrees gs) → IsRelations q (algebra q G) gs n rs
         → AreLeft q (algebra q G) gs rs (suc n) ms → AreValues q (algebra q G) gs ms values
         → IsKernelOf (suc q) values kernel
-        → IsConsequence q (algebra q G) gs rs (suc n) (f ++ scaled q (polynomial_of ms u))
+        → IsForm q (algebra q G) gs rs (suc n) ms f u
         → IsRow (suc q) (length ms) w → IsRowReduced (suc q) kernel u w
         → IsNormalForm q (algebra q G) gs (suc n) (value (algebra q G) gs f) (polynomial_of ms w) }
 {}

@@ -15,7 +15,7 @@ ghost use Rattle.presentation_rows.specs.Values.{vector, AreValues};
 ghost use Rattle.ring_completion.specs.Candidates.{AreCandidates, AreLeft};
 ghost use Rattle.ring_completion.specs.Completions.{generator_times, degree_of, IsGenerator, IsStandardOf};
 ghost use Rattle.ring_completion.specs.Completions.{AreProducts};
-ghost use Rattle.ring_completion.specs.Left.{without_pivots};
+ghost use Rattle.ring_completion.specs.Left.{without_pivots, IsForm};
 ghost use Rattle.ring_completion.specs.Listings.{AreStandardLists};
 
 /// One more generator of the degree adds its monomial behind those that lead in no consequence, and its class
@@ -56,11 +56,9 @@ pub fn forms_with_one_more_generator()
         → g.degree ≡ suc n
         → AreLeft q (algebra q G) gs rs (suc n) ms → IsGenerator q (degrees gs) i
         → IsMonomial q (degrees gs) e s → length u ≡ length ms
-        → IsConsequence q (algebra q G) gs rs (suc n)
-        (generator_times q (degrees gs) i s ++ scaled q (polynomial_of ms u))
-        → IsConsequence q (algebra q G) (gs ++ g ∷ []) rs (suc n)
-        (generator_times q (degrees (gs ++ g ∷ [])) i s
-        ++ scaled q (polynomial_of (ms ++ power (length (degrees gs)) 1 ∷ []) (u ++ 0 ∷ []))) }
+        → IsForm q (algebra q G) gs rs (suc n) ms (generator_times q (degrees gs) i s) u
+        → IsForm q (algebra q G) (gs ++ g ∷ []) rs (suc n) (ms ++ power (length (degrees gs)) 1 ∷ [])
+        (generator_times q (degrees (gs ++ g ∷ [])) i s) (u ++ 0 ∷ []) }
 {}
 
 /// Products of degrees to n stay where generators of higher degree are added, and normal forms of those of

@@ -7,6 +7,6 @@ returns-clause-left c q n G gs rs ms products forms rows reduced field p R C P F
     (separates-reached q n field G gs p rs R ms C) C.each P F K e
 
 pub returns-clause-forms : goal.returns-clause-forms
-returns-clause-forms c q n G gs rs ms products forms rows reduced f u w field p R C P F K e =
+returns-clause-forms c q n G gs rs ms products forms rows reduced field p R C P F K e =
     form-of-list q n field G gs p rs R ms products forms rows reduced C.some
-    (separates-reached q n field G gs p rs R ms C) C.each P F K e f u w
+    (separates-reached q n field G gs p rs R ms C) C.each P F K e

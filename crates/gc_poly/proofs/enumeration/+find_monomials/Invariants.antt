@@ -10,7 +10,7 @@ decreases-find_monomials l = length l.gens.now.degrees - l.i
 -- what is found and what remains are all
 abbrev pub invariant-loop-exponent : goal.invariant-loop-exponent
 invariant-loop-exponent l = record {
-  few : l.exponent ≤ 25;
+  few : l.exponent ≤ 256;
   chosen : l.chosen.items ≡ l.initial.chosen.items;
   found : l.found.items ++ behind l.initial.chosen.items
       (remaining (λ r. all_monomials (greatest l.gens)

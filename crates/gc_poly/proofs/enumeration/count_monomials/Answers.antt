@@ -10,7 +10,7 @@ loop-i-preserved c =
     (omega arith)
     c.degree-degree.ensures.value (omega arith)
     (sym c.if-is_exterior.ensures) c.if-is_exterior.array_long c.loop-i.invariant
-    c.count_powers.ensures.same c.count_powers.ensures.more
+    c.count_powers.ensures
 
 pub returns : goal.returns
 returns c =
