@@ -2,6 +2,12 @@
 #![tactic(auto)]
 
 #[cfg(test)]
+mod given;
+#[cfg(test)]
 mod negative_bases;
 #[cfg(test)]
+mod parts;
+#[cfg(test)]
 mod rows;
+#[cfg(test)]
+mod spans;

@@ -1,11 +1,10 @@
-ghost use Rattle.std.specs.Prelude.{◌≡◌, ℕ, ◌<◌, ◌≤◌, ◌^◌, length, IfOk};
+ghost use Rattle.std.specs.Prelude.{◌≡◌, ◌<◌, ◌≤◌, ◌^◌, length, IfOk};
 ghost use Rattle.group_table.specs.Prime.{prime_value};
-ghost use Rattle.linear_algebra.specs.Rows.{entry, row, combination};
-ghost use Rattle.linear_algebra.proofs.LinearMaps.{matrix_is_linear};
 
+use crate::given::{lists, matrix_of, row_of, shows};
 use fp_rows::{Matrix, Row, RowRef, echelon};
 use group_table::{Memory, Prime};
-use neg_basis::*;
+use neg_basis::{NegBasis, Ops, Origin};
 use std::alloc::Global;
 use std::process::Abort;
 use std::test::Fail;
@@ -45,118 +44,156 @@ impl Ops for OneMap {
     }
 }
 
-// A row of two entries.
-fn pair(rt: &impl Abort, alloc: Global, p: Prime, entries: [u8; 2]) -> Result<Row, Memory>
-    ensures prime { IfOk result (λ r. r.p ≡ prime_value p) }
-    ensures count { IfOk result (λ r. length r.entries ≡ 2) }
+// The map that sends (a, b) to (0, a).
+fn shift(rt: &impl Abort, alloc: Global, p: Prime) -> Result<OneMap, Memory>
+    ensures prime { IfOk result (λ o. o.matrix.p ≡ prime_value p) }
+    ensures width { IfOk result (λ o. o.matrix.width ≡ 2) }
 {
-    let [a, b] = entries;
-    assert!(rt; a < p.value());
-    assert!(rt; b < p.value());
-    let mut row = Row::zero(alloc, p, 2)?;
-    row.set(0, a);
-    row.set(1, b);
-    Ok(row)
+    let matrix = matrix_of(rt, alloc, p, 2, &[0, 1, 0, 0])?;
+    assert_eq!(rt; matrix.rows(), 2);
+    Ok(OneMap { matrix })
 }
 
-// Two rows of two entries.
-fn pairs(
-    rt: &impl Abort,
-    alloc: Global,
-    p: Prime,
-    first: [u8; 2],
-    second: [u8; 2],
-) -> Result<Matrix, Memory>
-    ensures prime { IfOk result (λ m. m.p ≡ prime_value p) }
-    ensures width { IfOk result (λ m. m.width ≡ 2) }
-    ensures count { IfOk result (λ m. length m.rows ≡ 2) }
+// The basis of the submodule that the rows, of two numbers each, generate under the shift.
+fn basis_of(rt: &impl Abort, alloc: Global, p: Prime, rows: &[u8]) -> Result<NegBasis, Memory>
+    ensures prime { IfOk result (λ b. b.p ≡ prime_value p) }
+    ensures width { IfOk result (λ b. b.width ≡ 2) }
 {
-    let mut m = Matrix::new(alloc, p, 2);
-    m.push(pair(rt, alloc, p, first)?.view())?;
-    m.push(pair(rt, alloc, p, second)?.view())?;
-    Ok(m)
+    let map = shift(rt, alloc, p)?;
+    let gens = matrix_of(rt, alloc, p, 2, rows)?;
+    assert!(rt; gens.rows() <= 2);
+    NegBasis::from_generators(alloc, &map, &gens)
 }
 
-fn shows(r: RowRef<'_>, a: u8, b: u8) -> bool {
-    r.len() == 2 && r.get(0) == a && r.get(1) == b
+// The basis of the submodule that the images of the rows of the list generate under the shift.
+fn images_of(rt: &impl Abort, alloc: Global, p: Prime, rows: &[u8]) -> Result<NegBasis, Memory> {
+    let map = shift(rt, alloc, p)?;
+    let list = echelon(alloc, &matrix_of(rt, alloc, p, 2, rows)?)?;
+    assert!(rt; list.rows() <= 2);
+    NegBasis::of_images(alloc, &map, &list)
 }
 
-// (a, b) goes to (0, a).
+// A vector of a basis: its numbers, its head and the row of the generators, or the vector, that it comes from.
+#[derive(Clone, Copy)]
+struct Vector {
+    entries: [u8; 2],
+    head: usize,
+    origin: Origin,
+}
+
+fn same_origin(a: Origin, b: Origin) -> bool {
+    match (a, b) {
+        (Origin::Chosen(r), Origin::Chosen(s)) => r == s,
+        (
+            Origin::Step { map, of },
+            Origin::Step {
+                map: other,
+                of: earlier,
+            },
+        ) => { map == other && of == earlier }
+        _ => false,
+    }
+}
+
+// Vector i of the basis is this one.
+fn is_vector(basis: &NegBasis, i: usize, v: Vector) -> bool
+    requires { i < length basis.now.vectors }
+{
+    shows(basis.vector(i), &v.entries)
+        && basis.head(i) == v.head
+        && same_origin(basis.origin(i), v.origin)
+}
+
+// The basis has these vectors.
+fn has_vectors(basis: &NegBasis, vectors: &[Vector]) -> bool {
+    if basis.len() != vectors.len() {
+        return false;
+    }
+    for (i, v) in vectors.iter().enumerate() {
+        if !is_vector(basis, i, *v) {
+            return false;
+        }
+    }
+    true
+}
+
 #[test]
 fn moves_one_generator_on(rt: HostRuntime) -> Result<(), Fail> {
-    let alloc = rt.alloc();
-    let map = OneMap {
-        matrix: pairs(&rt, alloc, Prime::P2, [0, 1], [0, 0])?,
+    let basis = basis_of(&rt, rt.alloc(), Prime::P2, &[1, 0])?;
+    let first = Vector {
+        entries: [1, 0],
+        head: 0,
+        origin: Origin::Chosen(0),
     };
-    let mut gens = Matrix::new(alloc, Prime::P2, 2);
-    gens.push(pair(&rt, alloc, Prime::P2, [1, 0])?.view())?;
-    let basis = NegBasis::from_generators(alloc, &map, &gens)?;
-    assert_eq!(rt; basis.len(), 2);
-    assert!(rt; shows(basis.vector(0), 1, 0));
-    assert!(rt; matches!(basis.origin(0), Origin::Chosen(0)));
-    assert!(rt; shows(basis.vector(1), 0, 1));
-    assert!(rt; matches!(basis.origin(1), Origin::Step { map: 0, of: 0 }));
-    assert_eq!(rt; (basis.head(0), basis.head(1)), (0, 1));
+    let second = Vector {
+        entries: [0, 1],
+        head: 1,
+        origin: Origin::Step { map: 0, of: 0 },
+    };
+    assert!(rt; has_vectors(&basis, &[first, second]));
     Ok(())
 }
 
 #[test]
 fn chooses_two_generators(rt: HostRuntime) -> Result<(), Fail> {
-    let alloc = rt.alloc();
-    let map = OneMap {
-        matrix: pairs(&rt, alloc, Prime::P2, [0, 1], [0, 0])?,
+    let basis = basis_of(&rt, rt.alloc(), Prime::P2, &[0, 1, 1, 0])?;
+    let first = Vector {
+        entries: [0, 1],
+        head: 1,
+        origin: Origin::Chosen(0),
     };
-    let gens = pairs(&rt, alloc, Prime::P2, [0, 1], [1, 0])?;
-    let basis = NegBasis::from_generators(alloc, &map, &gens)?;
-    assert_eq!(rt; basis.len(), 2);
-    assert!(rt; shows(basis.vector(0), 0, 1));
-    assert!(rt; matches!(basis.origin(0), Origin::Chosen(0)));
-    assert!(rt; shows(basis.vector(1), 1, 0));
-    assert!(rt; matches!(basis.origin(1), Origin::Chosen(1)));
-    let rows = basis.generators(alloc)?;
+    let second = Vector {
+        entries: [1, 0],
+        head: 0,
+        origin: Origin::Chosen(1),
+    };
+    assert!(rt; has_vectors(&basis, &[first, second]));
+    let rows = basis.generators(rt.alloc())?;
     assert_eq!(rt; rows.len(), 2);
     assert_eq!(rt; (rows.get(0), rows.get(1)), (0, 1));
+    Ok(())
+}
+
+// The span of (0, 1) over p = 3: (2, 1) is outside and reduces to (2, 0), and (0, 2) is inside.
+fn reduces_by_basis(rt: &impl Abort, alloc: Global, basis: &NegBasis) -> Result<(), Memory>
+    requires prime { basis.now.p ≡ 3 }
+    requires width { basis.now.width ≡ 2 }
+{
+    let mut v = row_of(rt, alloc, Prime::P3, &[2, 1])?;
+    assert!(rt; !basis.contains(v.view()));
+    basis.reduce(&mut v);
+    assert!(rt; shows(v.view(), &[2, 0]));
+    let member = row_of(rt, alloc, Prime::P3, &[0, 2])?;
+    assert!(rt; basis.contains(member.view()));
     Ok(())
 }
 
 // (0, 0) and (0, 2) over p = 3: row 0 is not chosen, and the one vector is (0, 1).
 #[test]
 fn scales_and_reduces(rt: HostRuntime) -> Result<(), Fail> {
-    let alloc = rt.alloc();
-    let map = OneMap {
-        matrix: pairs(&rt, alloc, Prime::P3, [0, 1], [0, 0])?,
+    let basis = basis_of(&rt, rt.alloc(), Prime::P3, &[0, 0, 0, 2])?;
+    let only = Vector {
+        entries: [0, 1],
+        head: 1,
+        origin: Origin::Chosen(1),
     };
-    let gens = pairs(&rt, alloc, Prime::P3, [0, 0], [0, 2])?;
-    let basis = NegBasis::from_generators(alloc, &map, &gens)?;
-    assert_eq!(rt; basis.len(), 1);
-    assert!(rt; shows(basis.vector(0), 0, 1));
-    assert!(rt; matches!(basis.origin(0), Origin::Chosen(1)));
-    let e = basis.echelon(alloc)?;
-    assert_eq!(rt; e.rows(), 1);
-    assert!(rt; shows(e.row(0), 0, 1));
-    let mut v = pair(&rt, alloc, Prime::P3, [2, 1])?;
-    assert!(rt; !basis.contains(v.view()));
-    basis.reduce(&mut v);
-    assert!(rt; shows(v.view(), 2, 0));
-    assert!(rt; basis.contains(pair(&rt, alloc, Prime::P3, [0, 2])?.view()));
+    assert!(rt; has_vectors(&basis, &[only]));
+    let e = basis.echelon(rt.alloc())?;
+    assert!(rt; lists(&e, &[&[0, 1]]));
+    reduces_by_basis(&rt, rt.alloc(), &basis)?;
     Ok(())
 }
 
 // The image of (1, 0) is (0, 1), and the image of that is 0.
 #[test]
 fn takes_the_images_of_a_list(rt: HostRuntime) -> Result<(), Fail> {
-    let alloc = rt.alloc();
-    let map = OneMap {
-        matrix: pairs(&rt, alloc, Prime::P2, [0, 1], [0, 0])?,
+    let basis = images_of(&rt, rt.alloc(), Prime::P2, &[1, 0])?;
+    let only = Vector {
+        entries: [0, 1],
+        head: 1,
+        origin: Origin::Chosen(0),
     };
-    let mut rows = Matrix::new(alloc, Prime::P2, 2);
-    rows.push(pair(&rt, alloc, Prime::P2, [1, 0])?.view())?;
-    let list = echelon(alloc, &rows)?;
-    assert_eq!(rt; list.rows(), 1);
-    let basis = NegBasis::of_images(alloc, &map, &list)?;
-    assert_eq!(rt; basis.len(), 1);
-    assert!(rt; shows(basis.vector(0), 0, 1));
-    assert!(rt; matches!(basis.origin(0), Origin::Chosen(0)));
-    assert_eq!(rt; basis.reduced().rows(), 1);
+    assert!(rt; has_vectors(&basis, &[only]));
+    assert!(rt; lists(basis.reduced(), &[&[0, 1]]));
     Ok(())
 }
