@@ -8,6 +8,7 @@ use Rattle.linear_algebra.specs.Rows.{entry, IsRow}
 use Rattle.linear_algebra.proofs.Congruences.{congruent_eq}
 use Rattle.radical_layers.proofs.LayerForm.{basis-size}
 use Rattle.radical_generators.specs.Claims.{PlaceClaims}
+use Rattle.radical_generators.proofs.FirstLayerSize.{few-in-layer}
 use Rattle.radical_generators.proofs.LayerPlaces.{place-claims}
 use Rattle.radical_generators.proofs.Rows.{layer_map-row}
 use Rattle.p_groups.specs.PGroups.{PGroup, largest_residue, group, order_of, prime_of}
@@ -54,6 +55,9 @@ module _ (G : PGroup) where
           above zero z f = omega arith
           above (suc m) z f = let y : length ((layers G).positions 0) + m < order_of G = f m (omega arith) in
               omega (arith, y)
+
+  pub eight-members : order_of G ≤ 2 ^ 8 → layer_count G ≤ 8
+  eight-members small = few-in-layer q (field G) (group G) (sum_coordinates G) (layers G) (layers_are G) small
 
   -- with fewer than two layers there is none
   pub no-members : (layers G).count < 2 → AreFirst G 0 0

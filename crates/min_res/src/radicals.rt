@@ -11,11 +11,8 @@ use crate::layer_products::LayerProducts;
 use fp_rows::Echelon;
 use group_algebra::Algebra;
 use group_table::Memory;
-use neg_basis::{NegBasis, Ops};
+use neg_basis::NegBasis;
 use std::alloc::Global;
-
-// An origin counts the images in 32 bits.
-const MOST_IMAGES: usize = 1 << 32;
 
 /// A negative standard basis of J K_d, from the list of K_d of rows of `rank` blocks. A greedy choice of rows
 /// of the list modulo its echelon list is that of the next boundary.
@@ -38,12 +35,7 @@ pub(crate) fn radical(
         → positions ≡ (stage_rows algebra.now).positions d) }
 {
     let products = LayerProducts::new(algebra, rank);
-    let rows = list.rows();
-    let count = products.count();
-    let images = rows * count;
-    if images > MOST_IMAGES {
-        return Err(Memory);
-    }
+    prove!(list.rows() <= list.width());
     let basis = NegBasis::of_images(alloc, &products, list)?;
     Ok(basis)
 }

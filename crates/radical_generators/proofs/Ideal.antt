@@ -22,7 +22,7 @@ use Rattle.radical_layers.proofs.Basis.{basis}
 use Rattle.radical_generators.specs.FirstLayer.{layer_size, layer_member}
 use Rattle.radical_generators.specs.Claims.{IdealClaims}
 
-module _ {n : ℕ} (q : ℕ) (F : IsFieldModulo (suc q)) (Γ : Group n) (P : IsPrimePower q n)
+module _ {n : ℕ} (q : ℕ) (F : IsFieldModulo (suc q)) (Γ : Group n)
     (K : RowForm n (Table q Γ 1)) (Y : Layers) (A : AreLayers q Γ K Y) where
   abbrev T : Module (suc q) (monoid Γ)
   T = Table q Γ 1
@@ -66,12 +66,16 @@ module _ {n : ℕ} (q : ℕ) (F : IsFieldModulo (suc q)) (Γ : Group n) (P : IsP
   greedy = greedy-same-span (suc q) E1 E2 (moves Γ T K E1) moves-in in-moves (length E1) (Y.positions 1)
       (A.positions_are 1)
 
-  layer-basis : IsBasisModuloMoved T J (layer_size q Γ K Y) (λ k. layer_member q Γ K Y k.0)
+  pub layer-basis : IsBasisModuloMoved T J (layer_size q Γ K Y) (λ k. layer_member q Γ K Y k.0)
   layer-basis = basis q F Γ n T K J E1 matrix members spans (Y.positions 1) greedy (layer_size q Γ K Y) refl
 
-  pub ideal-claims : IdealClaims q Γ K Y
-  ideal-claims = record {
-    members = λ k l. layer-basis.members (k, l);
-    generate = generators.generate q Γ T J (layer_size q Γ K Y) (λ k. layer_member q Γ K Y k.0) layer-basis
-        P.exponent P.prime P.power (finite-table q Γ 1);
-  }
+pub ideal-claims : {n : ℕ} (q : ℕ) (F : IsFieldModulo (suc q)) (Γ : Group n) (P : IsPrimePower q n)
+    (K : RowForm n (Table q Γ 1)) (Y : Layers) → AreLayers q Γ K Y → IdealClaims q Γ K Y
+ideal-claims q F Γ P K Y A =
+    let B : IsBasisModuloMoved (Table q Γ 1) (λ v. Radical (Table q Γ 1) 1 v) (layer_size q Γ K Y)
+    (λ k. layer_member q Γ K Y k.0) = layer-basis q F Γ K Y A in
+    record {
+      members = λ k l. B.members (k, l);
+      generate = generators.generate q Γ (Table q Γ 1) (λ v. Radical (Table q Γ 1) 1 v) (layer_size q Γ K Y)
+          (λ k. layer_member q Γ K Y k.0) B P.exponent P.prime P.power (finite-table q Γ 1);
+    }

@@ -1,4 +1,5 @@
 pub mod Ideal
+pub mod FirstLayerSize
 pub mod ClosedSets
 pub mod Rows
 pub mod ClosedSpans

@@ -4,6 +4,14 @@ use Rattle.linear_algebra.specs.Choices.{IsGreedy}
 use Rattle.neg_basis.proofs.ImageLemmas.{echelon-count}
 use Rattle.min_res.proofs.next.next_positions.Goals as goal
 
+pub prove-unreachable-requires : goal.prove-unreachable-requires
+prove-unreachable-requires c = omega (
+  arith,
+  c.rows.ensures.count,
+  c.width.ensures,
+  echelon-count c.args.list.now.rows c.rows.ensures.matrix c.rows.ensures.echelon,
+)
+
 pub greedy-requires-clause-few : goal.greedy-requires-clause-few
 greedy-requires-clause-few c = omega (
   arith,

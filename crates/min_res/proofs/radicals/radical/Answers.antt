@@ -10,7 +10,7 @@ use Rattle.neg_basis.proofs.ImageLemmas.{echelon-count}
 use Rattle.min_res.specs.LayerProducts.{layer_count}
 use Rattle.min_res.specs.Radicals.{IsRadicalBasis}
 use Rattle.min_res.specs.Stages.{stage_rows, rank_of}
-use Rattle.min_res.proofs.ProductMaps.{few-members}
+use Rattle.min_res.proofs.ProductMaps.{eight-members, few-members}
 use Rattle.min_res.proofs.RadicalBases.{IsBasisOfImages, radical-found, positions-by-basis}
 use Rattle.min_res.proofs.radicals.radical.Goals as goal
 
@@ -41,21 +41,13 @@ module _ (G H : PGroup) (rank b : ℕ) (list : MatrixValue) (B : BasisValue) (e 
   chosen rows positions h g = positions-by-basis H d b list.rows rank_at list_at list.p list.width B prime_at
       width_at basis_prime basis_width basis rows positions h g ∙ ap (λ G. (stage_rows G).positions d) e
 
-pub overflow_mul-images : goal.overflow_mul-images
-overflow_mul-images c = let few_rows : c.rows-rows.result ≤ 2 ^ 28 = omega (
+pub prove-unreachable-requires : goal.prove-unreachable-requires
+prove-unreachable-requires c = omega (
   arith,
-  c.rows-rows.ensures.count,
-  echelon-count c.args.list.now.rows c.rows-rows.ensures.matrix c.rows-rows.ensures.echelon,
-  c.requires.small,
-) in
-    let few_maps : c.count-count.result ≤ 2 ^ 8 =
-    omega (
-      arith,
-      c.count-count.ensures,
-      few-members c.new-products.result.algebra.now,
-      c.new-products.result.small,
-    ) in
-    omega (arith, mul-le c.rows-rows.result c.count-count.result (2 ^ 28) (2 ^ 8) few_rows few_maps)
+  c.rows.ensures.count,
+  c.width.ensures,
+  echelon-count c.args.list.now.rows c.rows.ensures.matrix c.rows.ensures.echelon,
+)
 
 pub of_images-requires-clause-same_field : goal.of_images-requires-clause-same_field
 of_images-requires-clause-same_field c = c.requires.list_prime
@@ -74,10 +66,19 @@ of_images-requires-clause-maps_fit c = omega (
 )
 
 pub of_images-requires-clause-images_fit : goal.of_images-requires-clause-images_fit
-of_images-requires-clause-images_fit c = let e : c.rows-rows.result * c.count-count.result
-    ≡ length c.args.list.now.rows * layer_count c.new-products.result.algebra.now =
-    ap₂ (λ (a b : ℕ). a * b) c.rows-rows.ensures.count c.count-count.ensures in
-    omega (arith, e)
+of_images-requires-clause-images_fit c =
+    let few_rows : length c.args.list.now.rows ≤ 2 ^ 28 = omega (
+      arith,
+      echelon-count c.args.list.now.rows c.rows.ensures.matrix c.rows.ensures.echelon,
+      c.requires.small,
+    ) in
+    let few_maps : layer_count c.new-products.result.algebra.now ≤ 2 ^ 3 =
+    eight-members c.new-products.result.algebra.now c.new-products.result.small in
+    omega (
+      arith,
+      mul-le (length c.args.list.now.rows) (layer_count c.new-products.result.algebra.now) (2 ^ 28) (2 ^ 3)
+          few_rows few_maps,
+    )
 
 pub returns-clause-radical : goal.returns-clause-radical
 returns-clause-radical c = is-radical c.args.algebra.now c.new-products.result.algebra.now c.args.rank

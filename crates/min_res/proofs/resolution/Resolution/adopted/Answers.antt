@@ -18,13 +18,16 @@ adopted_stage-requires g c =
     sym (ap (λ (s : StageValue). s.degree) c.deref.ensures ∙ c.stage_at-last.ensures.stage.degree_is
     ∙ c.last.ensures) in
     record {
-      last = subst (λ (G : PGroup). IsStageAt G c.deref.result.now.degree c.deref.result.now) G
-          (own-degree c.args.self.now.group _ _ _ c.deref.ensures c.stage_at-last.ensures.stage);
+      parts = record {
+        last = subst (λ (G : PGroup). IsStageAt G c.deref.result.now.degree c.deref.result.now) G
+            (own-degree c.args.self.now.group _ _ _ c.deref.ensures c.stage_at-last.ensures.stage);
+        prime = subst (λ (G : PGroup). g.S.StageParts.modulus c.args.given.now ≡ prime_of G) G
+            c.requires.prime;
+        follows = subst (λ (G : PGroup). MayFollow G c.deref.result.now.degree Q) G
+            (subst (λ (k : ℕ). MayFollow c.args.self.now.group k Q) d c.requires.follows);
+        small = subst (λ (G : PGroup). order_of G * length Q.positions ≤ 2 ^ 28) G c.requires.small;
+      };
       degree = omega (arith, d, c.requires.few);
-      prime = subst (λ (G : PGroup). g.S.StageParts.modulus c.args.given.now ≡ prime_of G) G c.requires.prime;
-      follows = subst (λ (G : PGroup). MayFollow G c.deref.result.now.degree Q) G
-          (subst (λ (k : ℕ). MayFollow c.args.self.now.group k Q) d c.requires.follows);
-      small = subst (λ (G : PGroup). order_of G * length Q.positions ≤ 2 ^ 28) G c.requires.small;
     }
 
 pub returns-in-Ok-clause-next : goal.returns-in-Ok-clause-next
