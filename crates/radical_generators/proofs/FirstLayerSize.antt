@@ -132,9 +132,11 @@ module _ {n : ℕ} (q : ℕ) (Γ : Group n) where
       let r = near a h in let s = near b k in
       (Γ.mul r.0 s.0, add-near a b r.0 s.0 r.1 s.1)
   near x (moved g w k) =
-      let r = times-near (total-of w) g in
-      (r.0, close-trans T J (sub T (T.act g w) w) (times T.add T.zero (total-of w) (D g)) (D r.0)
-          (move-near g w) r.1)
+      let r = times-near (total-of w) g in (
+        r.0,
+        close-trans T J (sub T (T.act g w) w) (times T.add T.zero (total-of w) (D g)) (D r.0)
+            (move-near g w) r.1,
+      )
 
   -- a basis of J modulo J^2 has p^m combinations, and no two belong to one g
   module _ (m : ℕ) (row : Below m → T.of) (B : IsBasisModuloMoved T J m row) where
