@@ -2,7 +2,7 @@ use Rattle.std.proofs.Common.{◌≡◌, suc, arith, ap, sym, ◌∙◌, refl}
 use mathlib.Core.Path.{subst}
 use Rattle.std.proofs.lemmas.Result.{err_from_is_err_and}
 use Rattle.min_res.specs.Values.{ResolutionValue}
-use Rattle.min_res.specs.Refusals.{AreWithin, IsRefusal}
+use Rattle.min_res.specs.Refusals.{IsRefusal}
 use Rattle.min_res.proofs.Refusals.{within-none, within-more, refused-at}
 use Rattle.min_res.proofs.resolution.Resolution.extend_to.Goals as goal
 
