@@ -42,7 +42,10 @@ fn describes_a_group(rt: HostRuntime) -> Result<(), Fail> {
     files.put("t", b"pgroup 1\nprime 3\ngens 2\n")?;
     let ended = run_words(rt.alloc(), &mut files, &["group", "t"])?;
     assert_eq!(rt; ended.status, Status::Answered);
-    assert_eq!(rt; ended.out.bytes(), b"prime 3\ngens 2\norder 9\nlayers 1 2 3 2 1\n".as_slice());
+    assert_eq!(rt;
+        ended.out.bytes(),
+        b"prime 3\ngens 2\norder 9\nlayers 1 2 3 2 1\n".as_slice()
+    );
     assert_eq!(rt; ended.err.bytes(), b"".as_slice());
     Ok(())
 }

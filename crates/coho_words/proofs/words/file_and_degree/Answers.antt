@@ -20,6 +20,6 @@ returns-in-Some-clause-found c = degree_found
 
 pub returns-in-None-clause-refused : goal.returns-in-None-clause-refused
 returns-in-None-clause-refused c =
-  degree_none
-      (texts c.args.words.now) c.in_ok-path.path.now c.in_ok-path.degree.now c.in_ok-path.ensures.found
-      (sym c.in-None.ensures.numeral)
+    degree_none
+    (texts c.args.words.now) c.in_ok-path.path.now c.in_ok-path.degree.now c.in_ok-path.ensures.found
+    (sym c.in-None.ensures.numeral)

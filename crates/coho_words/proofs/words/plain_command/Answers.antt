@@ -159,22 +159,22 @@ returns-in_default-clause-refused c =
     elim c.in_default.branch [
       | in_default-via-then-words-lt1 w ↦ no_words given (search rules)
       | in_default-via-in-len1-up-5+else-eq-5 w ↦
-        unnamed words _ _ _ _ _
-            (named given w.name-item.result w.in-len1-up.len_at_least w.name-item.is)
-            (named given w.name-item-2.result w.in-len1-up.len_at_least w.name-item-2.is)
-            (named given w.name-item-3.result w.in-len1-up.len_at_least w.name-item-3.is)
-            (named given w.name-item-4.result w.in-len1-up.len_at_least w.name-item-4.is)
-            (named given w.name-item-5.result w.in-len1-up.len_at_least w.name-item-5.is)
-            (ap (λ t. bytes_eq t (codes "group")) (sym w.as_str.ensures.value) ∙ sym w.eq.ensures
-            ∙ w.if-eq.false)
-            (ap (λ t. bytes_eq t (codes "resolve")) (sym w.as_str-2.ensures.value) ∙ sym w.eq-2.ensures
-            ∙ w.if-eq-2.false)
-            (ap (λ t. bytes_eq t (codes "check")) (sym w.as_str-3.ensures.value) ∙ sym w.eq-3.ensures
-            ∙ w.if-eq-3.false)
-            (ap (λ t. bytes_eq t (codes "value")) (sym w.as_str-4.ensures.value) ∙ sym w.eq-4.ensures
-            ∙ w.if-eq-4.false)
-            (ap (λ t. bytes_eq t (codes "sample")) (sym w.as_str-5.ensures.value) ∙ sym w.eq-5.ensures
-            ∙ w.if-eq-5.false)
+          unnamed words _ _ _ _ _
+          (named given w.name-item.result w.in-len1-up.len_at_least w.name-item.is)
+          (named given w.name-item-2.result w.in-len1-up.len_at_least w.name-item-2.is)
+          (named given w.name-item-3.result w.in-len1-up.len_at_least w.name-item-3.is)
+          (named given w.name-item-4.result w.in-len1-up.len_at_least w.name-item-4.is)
+          (named given w.name-item-5.result w.in-len1-up.len_at_least w.name-item-5.is)
+          (ap (λ t. bytes_eq t (codes "group")) (sym w.as_str.ensures.value) ∙ sym w.eq.ensures
+          ∙ w.if-eq.false)
+          (ap (λ t. bytes_eq t (codes "resolve")) (sym w.as_str-2.ensures.value) ∙ sym w.eq-2.ensures
+          ∙ w.if-eq-2.false)
+          (ap (λ t. bytes_eq t (codes "check")) (sym w.as_str-3.ensures.value) ∙ sym w.eq-3.ensures
+          ∙ w.if-eq-3.false)
+          (ap (λ t. bytes_eq t (codes "value")) (sym w.as_str-4.ensures.value) ∙ sym w.eq-4.ensures
+          ∙ w.if-eq-4.false)
+          (ap (λ t. bytes_eq t (codes "sample")) (sym w.as_str-5.ensures.value) ∙ sym w.eq-5.ensures
+          ∙ w.if-eq-5.false)
     ]
 
 pub returns-then-not-all_plain-clause-refused : goal.returns-then-not-all_plain-clause-refused

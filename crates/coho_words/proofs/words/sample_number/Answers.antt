@@ -20,6 +20,6 @@ returns-in-Some-clause-found c = number_found
 
 pub returns-in-None-clause-refused : goal.returns-in-None-clause-refused
 returns-in-None-clause-refused c =
-  number_none
-      (texts c.args.words.now) c.in_ok-word.word.now c.in_ok-word.ensures.found
-      (sym c.in-None.ensures.numeral)
+    number_none
+    (texts c.args.words.now) c.in_ok-word.word.now c.in_ok-word.ensures.found
+    (sym c.in-None.ensures.numeral)
