@@ -1,5 +1,5 @@
 -- The ranks of a resolution are the dimensions of the cohomology.
-use Rattle.std.proofs.Common.{◌≡◌, ◌∙◌, ℕ, zero, suc, ◌+◌, List, [], ◌∷◌, ◌++◌, refl, sym, ap, subst, arith}
+use Rattle.std.proofs.Common.{◌≡◌, ◌∙◌, ℕ, zero, suc, ◌+◌, [], ◌∷◌, ◌++◌, sym, ap, subst, arith}
 use Rattle.std.specs.List.{range_with_len}
 use Rattle.p_groups.specs.PGroups.{PGroup}
 use Rattle.min_res.specs.Stages.{rank_of}

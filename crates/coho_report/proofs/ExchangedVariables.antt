@@ -14,7 +14,7 @@ use Rattle.graded_algebra.specs.Algebras.{Generator, degrees}
 use Rattle.graded_algebra.specs.Vectors.{Vector}
 use Rattle.graded_algebra.proofs.SpansUnique.{span-generators-unique}
 use Rattle.group_cocycles.specs.Cocycles.{GroupCochain, AreCohomologous}
-use Rattle.group_cocycles.specs.Rings.{Generators, cochain_of, cocycles_of, IsCohomologyRing, IsIn}
+use Rattle.group_cocycles.specs.Rings.{Generators, cochain_of, cocycles_of, IsCohomologyRing}
 use Rattle.group_cocycles.proofs.Rings.{degrees-same}
 use Rattle.chain_lift.specs.Embeddings.{elementary, embedding}
 use Rattle.ring_present.specs.Rings.{cohomology, dual_basis, IsPresentation}

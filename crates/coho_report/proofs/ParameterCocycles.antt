@@ -1,6 +1,6 @@
 -- By cocycles, the parameters of a report restrict to polynomials that leave a finite ring on each subgroup.
 use Rattle.std.proofs.Common.{◌≡◌, ◌∙◌, ℕ, zero, suc, ◌<◌, ◌≤◌, List, [], ◌∷◌, ◌++◌, length}
-use Rattle.std.proofs.Common.{map, Option, Some, None, Bool, true, false, cond, refl, sym, ap, arith}
+use Rattle.std.proofs.Common.{map, Option, Some, None, Bool, true, false, cond, sym, ap, arith}
 use Rattle.std.specs.Prelude.{IfSome, slice_get, slice_index_or}
 use Rattle.std.specs.List.{AllByRecursion as Each}
 use Rattle.std.proofs.lemmas.List.{length-map}

@@ -1,9 +1,9 @@
 -- A generator alone as a polynomial.
-use Rattle.std.proofs.Common.{◌≡◌, ◌≢◌, ◌∙◌, ℕ, zero, suc, ◌+◌, ◌*◌, ◌<◌, List, [], ◌∷◌, ◌++◌, length, refl}
-use Rattle.std.proofs.Common.{sym, ap, arith, take, drop}
+use Rattle.std.proofs.Common.{◌≡◌, ◌≢◌, ◌∙◌, ℕ, zero, suc, ◌+◌, ◌*◌, List, [], ◌∷◌, ◌++◌, length, refl}
+use Rattle.std.proofs.Common.{sym, ap, arith, drop}
 use mathlib.Core.Path.{fun_ext}
 use Rattle.linear_algebra.specs.Residues.{Below, residue, plus}
-use Rattle.linear_algebra.proofs.Residues.{plus-comm, plus-zero, residue-self, times-one, times-residue}
+use Rattle.linear_algebra.proofs.Residues.{plus-zero, residue-self, times-one, times-residue}
 use Rattle.p_groups.specs.PGroups.{PGroup, largest_residue, order_of}
 use Rattle.graded_polynomials.specs.Monomials.{IsWithin, degree, exponent}
 use Rattle.graded_polynomials.specs.Polynomials.{Term}

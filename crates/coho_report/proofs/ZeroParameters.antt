@@ -1,18 +1,18 @@
 -- Polynomials that are 0 leave no finite ring on a subgroup whose ring has no relations.
-use Rattle.std.proofs.Common.{◌≡◌, ◌≢◌, ◌∙◌, ◌⊎◌, inl, inr, ℕ, zero, suc, ◌+◌, ◌*◌, ◌<◌, ◌≤◌, ◌%◌, List, [], ◌∷◌}
-use Rattle.std.proofs.Common.{map, Bool, true, false, cond, length, refl, sym, ap, subst, arith}
+use Rattle.std.proofs.Common.{◌≡◌, ◌∙◌, ◌⊎◌, inl, inr, ℕ, suc, ◌+◌, ◌*◌, ◌<◌, ◌≤◌, ◌%◌, List, [], ◌∷◌}
+use Rattle.std.proofs.Common.{map, true, false, cond, refl, sym, ap, subst, arith}
 use Rattle.std.specs.Prelude.{All, eqb}
 use Rattle.std.specs.List.{AllByRecursion as Each}
 use Rattle.std.proofs.lemmas.Bool.{cases_Bool}
 use Rattle.std.proofs.Math.Nat.{mod-eq_of_lt}
 use Rattle.group_modules.specs.Field.{residue}
-use Rattle.linear_algebra.specs.Modular.{IsCongruent, IsSmallPrime}
+use Rattle.linear_algebra.specs.Modular.{IsSmallPrime}
 use Rattle.p_groups.specs.PGroups.{PGroup, largest_residue, prime_of}
 use Rattle.graded_polynomials.specs.Monomials.{IsWithin, degree, fits, is_exterior}
 use Rattle.graded_polynomials.specs.Polynomials.{Term, Polynomial, Multiple, IsMultiple, IsOneOf, IsPolynomial}
 use Rattle.graded_polynomials.specs.Polynomials.{IsInIdeal, IsSame, coefficient, total}
 use Rattle.graded_polynomials.proofs.Stored.{polynomial-unique}
-use Rattle.graded_polynomials.proofs.Terms.{eqb-true, same-self}
+use Rattle.graded_polynomials.proofs.Terms.{same-self}
 use Rattle.graded_algebra.specs.Algebras.{degrees}
 use Rattle.group_cocycles.specs.Cocycles.{AreCohomologous}
 use Rattle.group_cocycles.specs.Rings.{Generators, cochain_of}
@@ -21,7 +21,7 @@ use Rattle.gc_poly.specs.Generators as named
 use Rattle.gc_poly.specs.Generators.{greatest}
 use Rattle.gc_poly.specs.Polynomials.{IsMonomialOf}
 use Rattle.param_test.specs.Finiteness.{unit_degree}
-use Rattle.param_test.specs.Variables.{all_kept, kept, kept_terms, variable_degree, variables}
+use Rattle.param_test.specs.Variables.{all_kept, kept_terms, variable_degree, variables}
 use Rattle.param_test.proofs.Filtering.{filter-same}
 use Rattle.chain_lift.specs.Embeddings.{embedding}
 use Rattle.coho_report.specs.Cohomology.{AreFiniteOn, IsNamedRing, IsRestriction, SubgroupRing, own_cocycles}
