@@ -122,44 +122,56 @@ fn add_degree(
     Ok(())
 }
 
-// The first coefficient of generator i times a standard monomial.
-fn product(rt: &impl Abort, table: &Table, i: usize, k: usize) -> u8 {
+// The tables of degrees 0 to 3.
+fn four_degrees(alloc: Global, gens: &Gens) -> Result<Vec<Table>, Memory>
+    requires { gens.now ≡ record { prime = 2; degrees = 1 ∷ 1 ∷ [] } }
+    ensures count { IfOk result (λ ts. length ts.items ≡ 4) }
+    ensures tables { IfOk result (λ ts. AreTables gens.now ts.items) }
+{
+    let mut tables = low_degrees(alloc, gens)?;
+    add_degree(alloc, gens, &mut tables, 0)?;
+    add_degree(alloc, gens, &mut tables, 1)?;
+    Ok(tables)
+}
+
+// Generators, standard monomials of degree 2, and what the one standard monomial of degree 3 is taken in
+// their products.
+const PRODUCTS: [(usize, usize, u8); 4] = [(0, 0, 1), (0, 1, 1), (1, 0, 1), (1, 1, 0)];
+
+// The first coefficient of generator i times a standard monomial is this.
+fn multiplies(
+    rt: &impl Abort,
+    table: &Table,
+    i: usize,
+    k: usize,
+    coefficient: u8,
+) -> Result<(), Fail> {
     assert!(rt; i < table.products.len());
     let rows = &table.products[i];
     assert!(rt; k < rows.rows());
     let row = rows.row(k);
     assert!(rt; row.len() > 0);
-    row.get(0)
+    assert_eq!(rt; row.get(0), coefficient);
+    Ok(())
 }
 
 #[test]
 fn quaternion(rt: HostRuntime) -> Result<(), Fail> {
     let gens = generators(rt.alloc())?;
-    let mut tables = low_degrees(rt.alloc(), &gens)?;
-    add_degree(rt.alloc(), &gens, &mut tables, 0)?;
-    add_degree(rt.alloc(), &gens, &mut tables, 1)?;
-    assert_eq!(rt;
-        (
-            tables[1].standard.len(),
-            tables[2].standard.len(),
-            tables[3].standard.len()
-        ),
-        (2, 2, 1)
-    );
-    assert_eq!(rt;
-        (
-            product(&rt, &tables[3], 0, 0),
-            product(&rt, &tables[3], 0, 1)
-        ),
-        (1, 1)
-    );
-    assert_eq!(rt;
-        (
-            product(&rt, &tables[3], 1, 0),
-            product(&rt, &tables[3], 1, 1)
-        ),
-        (1, 0)
-    );
+    let tables = four_degrees(rt.alloc(), &gens)?;
+    assert_eq!(rt; tables[1].standard.len(), 2);
+    assert_eq!(rt; tables[2].standard.len(), 2);
+    assert_eq!(rt; tables[3].standard.len(), 1);
+    for (i, k, coefficient) in PRODUCTS {
+        multiplies(&rt, &tables[3], i, k, coefficient)?;
+    }
+    Ok(())
+}
+
+#[test]
+fn nothing_is_left_in_degree_four(rt: HostRuntime) -> Result<(), Fail> {
+    let gens = generators(rt.alloc())?;
+    let tables = four_degrees(rt.alloc(), &gens)?;
     let x = next_degree(rt.alloc(), &gens, tables.as_slice())?;
     assert_eq!(rt;
         (x.candidates.len(), x.left.len(), x.forms.len()),

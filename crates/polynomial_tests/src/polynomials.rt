@@ -1,6 +1,6 @@
 //! Values worked out by hand.
 
-ghost use Rattle.std.specs.Prelude.{◌≡◌, ◌≤◌, [], ◌∷◌, IfOk};
+ghost use Rattle.std.specs.Prelude.{◌≡◌, ◌≤◌, [], ◌∷◌, length, IfOk};
 ghost use Rattle.limits.specs.declared.TheConstants.{GREATEST_DEGREE};
 ghost use Rattle.group_table.specs.Prime.{prime_value};
 ghost use Rattle.gc_poly.specs.Polynomials.{IsOverGenerators};
@@ -11,6 +11,7 @@ use gc_poly::{
 };
 use group_table::{Memory, Prime};
 use std::alloc::Global;
+use std::process::Abort;
 use std::test::Fail;
 
 // Generators of degrees 1, 1 and 2.
@@ -47,67 +48,114 @@ fn text_of(alloc: Global, gens: &Gens, f: &Poly) -> Result<String, Fail>
     Ok(String::from_utf8(text)?)
 }
 
+// The text of a polynomial is this one.
+fn shows(rt: &impl Abort, alloc: Global, gens: &Gens, f: &Poly, text: &str) -> Result<(), Fail>
+    requires { IsOverGenerators gens.now f.now }
+{
+    let shown = text_of(alloc, gens, f)?;
+    assert_eq!(rt; shown.as_str(), text);
+    Ok(())
+}
+
+// The monomials of degree 2 in generators of degrees 1, 1 and 2, by their places, and 0 past the last.
+const MONOMIALS: [(Prime, usize, &str); 8] = [
+    (Prime::P2, 0, "x_1_1^2"),
+    (Prime::P2, 1, "x_1_1*x_1_2"),
+    (Prime::P2, 2, "x_1_2^2"),
+    (Prime::P2, 3, "x_2_1"),
+    (Prime::P3, 0, "x_1_1*x_1_2"),
+    (Prime::P3, 1, "x_2_1"),
+    (Prime::P3, 2, "0"),
+    (Prime::P3, 3, "0"),
+];
+
+fn stands(rt: &impl Abort, alloc: Global, case: &(Prime, usize, &str)) -> Result<(), Fail> {
+    let gens = small_gens(alloc, case.0)?;
+    let f = monomial(alloc, &gens, 2, case.1)?;
+    shows(rt, alloc, &gens, &f, case.2)
+}
+
 #[test]
 fn monomials_of_degree_two(rt: HostRuntime) -> Result<(), Fail> {
-    let cases = [
-        (Prime::P2, ["x_1_1^2", "x_1_1*x_1_2", "x_1_2^2", "x_2_1"]),
-        (Prime::P3, ["x_1_1*x_1_2", "x_2_1", "0", "0"]),
-    ];
-    for (p, texts) in cases {
-        let gens = small_gens(rt.alloc(), p)?;
-        for (i, text) in texts.iter().enumerate() {
-            let f = monomial(rt.alloc(), &gens, 2, i)?;
-            assert_eq!(rt; text_of(rt.alloc(), &gens, &f)?.as_str(), *text);
-        }
+    for case in &MONOMIALS {
+        stands(&rt, rt.alloc(), case)?;
     }
     Ok(())
+}
+
+// Two generators of degree 1 over three elements: their product, sum and difference.
+const PRODUCTS_AND_SUMS: [(usize, usize, &str, &str, &str); 3] = [
+    (1, 0, "2*x_1_1*x_1_2", "x_1_1+x_1_2", "2*x_1_1+x_1_2"),
+    (0, 1, "x_1_1*x_1_2", "x_1_1+x_1_2", "x_1_1+2*x_1_2"),
+    (0, 0, "0", "2*x_1_1", "0"),
+];
+
+fn computes(
+    rt: &impl Abort,
+    alloc: Global,
+    gens: &Gens,
+    case: &(usize, usize, &str, &str, &str),
+) -> Result<(), Fail> {
+    let a = monomial(alloc, gens, 1, case.0)?;
+    let b = monomial(alloc, gens, 1, case.1)?;
+    shows(rt, alloc, gens, &mul(alloc, gens, &a, &b)?, case.2)?;
+    shows(rt, alloc, gens, &add(alloc, gens, &a, &b)?, case.3)?;
+    shows(rt, alloc, gens, &sub(alloc, gens, &a, &b)?, case.4)
 }
 
 #[test]
 fn products_and_sums(rt: HostRuntime) -> Result<(), Fail> {
     let gens = small_gens(rt.alloc(), Prime::P3)?;
-    let x = monomial(rt.alloc(), &gens, 1, 0)?;
-    let y = monomial(rt.alloc(), &gens, 1, 1)?;
-    let yx = mul(rt.alloc(), &gens, &y, &x)?;
-    assert_eq!(rt; text_of(rt.alloc(), &gens, &yx)?.as_str(), "2*x_1_1*x_1_2");
-    let xx = mul(rt.alloc(), &gens, &x, &x)?;
-    assert_eq!(rt; text_of(rt.alloc(), &gens, &xx)?.as_str(), "0");
-    let sum = add(rt.alloc(), &gens, &x, &y)?;
-    assert_eq!(rt; text_of(rt.alloc(), &gens, &sum)?.as_str(), "x_1_1+x_1_2");
-    let difference = sub(rt.alloc(), &gens, &x, &y)?;
-    assert_eq!(rt;
-        text_of(rt.alloc(), &gens, &difference)?.as_str(),
-        "x_1_1+2*x_1_2"
-    );
+    for case in &PRODUCTS_AND_SUMS {
+        computes(&rt, rt.alloc(), &gens, case)?;
+    }
     Ok(())
+}
+
+// Four generators of degree 1 and two of degree 4, over two elements.
+fn six_gens(alloc: Global) -> Result<Gens, Memory>
+    ensures { IfOk result (λ gens. length gens.degrees ≡ 6) }
+{
+    let mut gens = Gens::new(alloc, Prime::P2);
+    gens.push(1)?;
+    gens.push(1)?;
+    gens.push(1)?;
+    gens.push(1)?;
+    gens.push(4)?;
+    gens.push(4)?;
+    Ok(gens)
 }
 
 #[test]
 fn numbers_of_monomials(rt: HostRuntime) -> Result<(), Fail> {
-    let mut gens = Gens::new(rt.alloc(), Prime::P2);
-    gens.push(1)?;
-    gens.push(1)?;
-    gens.push(1)?;
-    gens.push(1)?;
-    gens.push(4)?;
-    gens.push(4)?;
+    let gens = six_gens(rt.alloc())?;
     assert_eq!(rt; count_monomials(&gens, 19), 4844);
-    assert_eq!(rt; gens.number(3), 4);
-    assert_eq!(rt; gens.number(5), 2);
+    assert_eq!(rt; (gens.number(3), gens.number(5)), (4, 2));
     Ok(())
 }
 
 #[test]
-fn lists_of_monomials(rt: HostRuntime) -> Result<(), Fail> {
+fn places_of_monomials(rt: HostRuntime) -> Result<(), Fail> {
     let gens = small_gens(rt.alloc(), Prime::P2)?;
     let list = monomials(rt.alloc(), &gens, 2)?;
     assert_eq!(rt; list.len(), 4);
     let square = Mono::of(rt.alloc(), &[0, 2, 0])?;
     assert_eq!(rt; list.position(&square), Some(2));
-    assert_eq!(rt; square.exponent(1), 2);
-    assert_eq!(rt; square.exponent(7), 0);
     let absent = Mono::of(rt.alloc(), &[1])?;
     assert_eq!(rt; list.position(&absent), None);
+    Ok(())
+}
+
+#[test]
+fn exponents_of_monomials(rt: HostRuntime) -> Result<(), Fail> {
+    let square = Mono::of(rt.alloc(), &[0, 2, 0])?;
+    assert_eq!(rt;
+        (square.len(), square.exponent(1), square.exponent(7)),
+        (2, 2, 0)
+    );
+    let x = Mono::of(rt.alloc(), &[1])?;
+    let product = x.joined(rt.alloc(), &x)?;
+    assert_eq!(rt; (product.len(), product.exponent(0)), (1, 2));
     Ok(())
 }
 
@@ -129,22 +177,25 @@ fn only(alloc: Global, f: Poly) -> Result<Polys, Memory>
     Ok(list)
 }
 
+// The sum of the generators of degree 1.
+fn sum_of_two(alloc: Global, gens: &Gens) -> Result<Poly, Memory>
+    ensures over { IfOk result (IsOverGenerators gens.now) }
+    ensures degree { IfOk result (λ f. f.degree ≡ 1) }
+{
+    let x = monomial(alloc, gens, 1, 0)?;
+    let y = monomial(alloc, gens, 1, 1)?;
+    add(alloc, gens, &x, &y)
+}
+
 #[test]
 fn substitutions(rt: HostRuntime) -> Result<(), Fail> {
     let from = one_gen(rt.alloc(), Prime::P2)?;
     let to = small_gens(rt.alloc(), Prime::P2)?;
     let square = monomial(rt.alloc(), &from, 2, 0)?;
-    let x = monomial(rt.alloc(), &to, 1, 0)?;
-    let y = monomial(rt.alloc(), &to, 1, 1)?;
-    let sum = add(rt.alloc(), &to, &x, &y)?;
-    let images = only(rt.alloc(), sum)?;
+    let images = only(rt.alloc(), sum_of_two(rt.alloc(), &to)?)?;
     assert_eq!(rt; images.len(), 1);
     let image = subst(rt.alloc(), &from, &to, &square, &images)?;
-    assert_eq!(rt;
-        text_of(rt.alloc(), &to, &image)?.as_str(),
-        "x_1_1^2+x_1_2^2"
-    );
-    Ok(())
+    shows(&rt, rt.alloc(), &to, &image, "x_1_1^2+x_1_2^2")
 }
 
 #[test]
@@ -155,26 +206,36 @@ fn generators_and_constants(rt: HostRuntime) -> Result<(), Fail> {
     let name = power_bytes(rt.alloc(), &gens, 1, 2)?;
     assert_eq!(rt; name.as_slice(), b"x_1_2^2".as_slice());
     let two = Poly::constant(rt.alloc(), &gens, 2)?;
-    assert_eq!(rt; text_of(rt.alloc(), &gens, &two)?.as_str(), "2");
-    Ok(())
+    shows(&rt, rt.alloc(), &gens, &two, "2")
+}
+
+// The second monomial of degree 2 over three elements less the first.
+fn two_terms(alloc: Global, gens: &Gens) -> Result<Poly, Memory> {
+    let first = monomial(alloc, gens, 2, 0)?;
+    let second = monomial(alloc, gens, 2, 1)?;
+    sub(alloc, gens, &second, &first)
 }
 
 #[test]
 fn terms_of_a_polynomial(rt: HostRuntime) -> Result<(), Fail> {
     let gens = small_gens(rt.alloc(), Prime::P3)?;
-    let first = monomial(rt.alloc(), &gens, 2, 0)?;
-    let second = monomial(rt.alloc(), &gens, 2, 1)?;
-    let f = sub(rt.alloc(), &gens, &second, &first)?;
+    let f = two_terms(rt.alloc(), &gens)?;
     assert_eq!(rt; f.terms(), 2);
     assert_eq!(rt; f.coefficient(0), 2);
     let product = Mono::of(rt.alloc(), &[1, 1])?;
-    let copy = f.mono(0).try_clone(rt.alloc())?;
-    assert!(rt; copy == product);
     assert!(rt; product.is_greater(f.mono(1)));
     assert!(rt; !f.mono(1).is_greater(&product));
     match f.leading() {
         Some(m) => assert!(rt; *m == product),
         None => assert!(rt; false, "0"),
     }
+    Ok(())
+}
+
+#[test]
+fn copies_of_monomials(rt: HostRuntime) -> Result<(), Fail> {
+    let product = Mono::of(rt.alloc(), &[1, 1])?;
+    let copy = product.try_clone(rt.alloc())?;
+    assert!(rt; copy == product);
     Ok(())
 }

@@ -7,6 +7,7 @@ use group_table::Prime;
 use limits::LONGEST_TEXT;
 use polynomial_reader::read_poly;
 use std::alloc::Global;
+use std::process::Abort;
 use std::test::Fail;
 
 // Generators of degrees 1, 1 and 2.
@@ -32,35 +33,43 @@ fn answer_of(alloc: Global, gens: &Gens, text: &str) -> Result<String, Fail>
     }
 }
 
+// Texts, and what they are read as.
+const TEXTS: [(Prime, &str, &str); 21] = [
+    (Prime::P2, "x_1_1+y", "UnknownName(7)"),
+    (Prime::P2, "x_1_1+x_2_1", "Mixed(1, 2)"),
+    (Prime::P2, "x_1_1+", "Syntax(7)"),
+    (Prime::P2, "x_2_1^20", "TooHigh(40)"),
+    (Prime::P2, "x_2_1^25", "Syntax(8)"),
+    (Prime::P2, "x_2_1+x_1_2*x_1_1", "x_1_1*x_1_2+x_2_1"),
+    (Prime::P2, "1*x_1_1+x_1_1", "0"),
+    (Prime::P2, "2*x_1_1", "Syntax(1)"),
+    (Prime::P3, "x_1_2*x_1_1", "2*x_1_1*x_1_2"),
+    (Prime::P3, "2*x_1_2*x_1_1^1+x_2_1", "x_1_1*x_1_2+x_2_1"),
+    (Prime::P3, "2*x_1_1*x_1_2+x_2_1", "2*x_1_1*x_1_2+x_2_1"),
+    (Prime::P3, "x_1_1^2", "0"),
+    (Prime::P3, "3*x_1_1", "Syntax(1)"),
+    (Prime::P3, "2*x_1_1^02", "Syntax(9)"),
+    (Prime::P3, "0", "0"),
+    (Prime::P3, "1", "1"),
+    (Prime::P3, "", "Syntax(1)"),
+    (Prime::P3, "0*x_1_1", "Syntax(2)"),
+    (Prime::P3, "1+x_1_1", "Syntax(2)"),
+    (Prime::P3, "x_1_1+x_2_1+y", "UnknownName(13)"),
+    (Prime::P3, "x_1_1+x_2_1^12*x_1_1", "TooHigh(25)"),
+];
+
+fn reads(rt: &impl Abort, alloc: Global, case: &(Prime, &str, &str)) -> Result<(), Fail> {
+    let gens = small_gens(alloc, case.0)?;
+    assert!(rt; case.1.len() <= LONGEST_TEXT);
+    let answer = answer_of(alloc, &gens, case.1)?;
+    assert_eq!(rt; answer.as_str(), case.2);
+    Ok(())
+}
+
 #[test]
 fn texts_read(rt: HostRuntime) -> Result<(), Fail> {
-    let cases = [
-        (Prime::P2, "x_1_1+y", "UnknownName(7)"),
-        (Prime::P2, "x_1_1+x_2_1", "Mixed(1, 2)"),
-        (Prime::P2, "x_1_1+", "Syntax(7)"),
-        (Prime::P2, "x_2_1^20", "TooHigh(40)"),
-        (Prime::P2, "x_2_1^25", "Syntax(8)"),
-        (Prime::P2, "x_2_1+x_1_2*x_1_1", "x_1_1*x_1_2+x_2_1"),
-        (Prime::P2, "1*x_1_1+x_1_1", "0"),
-        (Prime::P2, "2*x_1_1", "Syntax(1)"),
-        (Prime::P3, "x_1_2*x_1_1", "2*x_1_1*x_1_2"),
-        (Prime::P3, "2*x_1_2*x_1_1^1+x_2_1", "x_1_1*x_1_2+x_2_1"),
-        (Prime::P3, "2*x_1_1*x_1_2+x_2_1", "2*x_1_1*x_1_2+x_2_1"),
-        (Prime::P3, "x_1_1^2", "0"),
-        (Prime::P3, "3*x_1_1", "Syntax(1)"),
-        (Prime::P3, "2*x_1_1^02", "Syntax(9)"),
-        (Prime::P3, "0", "0"),
-        (Prime::P3, "1", "1"),
-        (Prime::P3, "", "Syntax(1)"),
-        (Prime::P3, "0*x_1_1", "Syntax(2)"),
-        (Prime::P3, "1+x_1_1", "Syntax(2)"),
-        (Prime::P3, "x_1_1+x_2_1+y", "UnknownName(13)"),
-        (Prime::P3, "x_1_1+x_2_1^12*x_1_1", "TooHigh(25)"),
-    ];
-    for (p, text, wanted) in cases {
-        let gens = small_gens(rt.alloc(), p)?;
-        assert!(rt; text.len() <= LONGEST_TEXT);
-        assert_eq!(rt; answer_of(rt.alloc(), &gens, text)?.as_str(), wanted);
+    for case in &TEXTS {
+        reads(&rt, rt.alloc(), case)?;
     }
     Ok(())
 }

@@ -33,6 +33,7 @@ use Rattle.ring_degree.specs.Critical.{form_of_product, exchange_row, IsCritical
 use Rattle.ring_degree.specs.Steps.{IsRingBelow}
 use Rattle.ring_degree.specs.Tables.{at_generator, standard_at, rows_at, product_rows, product_in, place_of}
 use Rattle.ring_degree.specs.declared.table.Table.{Table}
+use Rattle.ring_degree.proofs.CriticalLists.{row-of-one, row-of-two}
 use Rattle.ring_degree.proofs.Degrees.{listed}
 use Rattle.ring_degree.proofs.FormVectors.{vector-sum, vector-combination, length-combination}
 
@@ -201,19 +202,24 @@ module _ (q n : ℕ) (G : GradedAlgebra q) (gs : List (Generator (Vector q))) (r
       kind : (v : List ℕ) → IsCriticalRow q (degrees gs) tables (length ms) F v
           → IsExchange q G.mul gs (suc n) (product_in (degrees gs) tables) form (vector q v)
           ⊎ IsSquare q G.mul gs (suc n) (product_in (degrees gs) tables) form (vector q v)
-      kind v (i, il, inl x) = inr record {
+      kind v (i, il, (j, jl, (inr o, x))) = inr record {
         generator = i;
         low = x.low;
         monomial = slice_index_or (standard_at tables x.low) x.place [];
         generator_is = generator-at q (degrees gs) i il;
-        exterior = subst (λ a. is_exterior q a ≡ true) (sym (degree-power (degrees gs) i il)) x.exterior;
-        standard = standard-at x.low x.place (left-low (d i) i x.low il (total x.degree_is)) x.within;
+        exterior = subst (λ a. is_exterior q a ≡ true) (sym (degree-power (degrees gs) i il)) o.1;
+        standard = standard-at x.low x.place (left-low (d i) i x.low il (total sum)) x.within;
         clear = x.clear;
-        degree_is = sums i i x.low il il (total x.degree_is);
-        vector_is = ap (vector q) x.row_is
-            ∙ form-vector i i x.low x.place il il (total x.degree_is) x.within;
+        degree_is = sums i i x.low il il (total sum);
+        vector_is = ap (vector q) (x.row_is
+            ∙ row-of-one q (degrees gs) tables (length ms) F x.low i j x.place o.0
+            ∙ ap (λ k. form_of_product q (degrees gs) tables (length ms) F x.low i k x.place) (sym o.0))
+            ∙ form-vector i i x.low x.place il il (total sum) x.within;
       }
-      kind v (i, il, inr (j, l, jl, x)) = inl record {
+        where
+          sum : d i + (d i + x.low) ≡ length tables
+          sum = subst (λ k. d i + (d k + x.low) ≡ length tables) (sym o.0) x.degree_is
+      kind v (i, il, (j, jl, (inl l, x))) = inl record {
         first = i;
         second = j;
         low = x.low;
@@ -224,7 +230,8 @@ module _ (q n : ℕ) (G : GradedAlgebra q) (gs : List (Generator (Vector q))) (r
         standard = standard-at x.low x.place (left-low (d j) i x.low il (total x.degree_is)) x.within;
         clear = x.clear;
         degree_is = sums i j x.low il jl (total x.degree_is);
-        vector_is = ap (vector q) x.row_is
+        vector_is = ap (vector q) (x.row_is
+            ∙ row-of-two q (degrees gs) tables (length ms) F x.low i j x.place (λ e. omega (arith, l, e)))
             ∙ exchange-vector i j x.low x.place il jl (total x.degree_is) x.within;
       }
 
@@ -253,18 +260,21 @@ module _ (q n : ℕ) (G : GradedAlgebra q) (gs : List (Generator (Vector q))) (r
           (exchange_row q (degrees gs) tables (length ms) F X.low X.first X.second s.0) (
             X.first,
             il,
-            inr (
+            (
               X.second,
-              X.ordered,
               jl,
-              record {
-                low = X.low;
-                place = s.0;
-                within = s.1;
-                degree_is = x ∙ sym B.tables_are.count;
-                clear = subst (λ (m : List ℕ). (k : ℕ) → k < X.first → exponent m k ≡ 0) (sym s.2) X.clear;
-                row_is = refl;
-              },
+              (
+                inl X.ordered,
+                record {
+                  low = X.low;
+                  place = s.0;
+                  within = s.1;
+                  degree_is = x ∙ sym B.tables_are.count;
+                  clear = subst (λ (m : List ℕ). (k : ℕ) → k < X.first → exponent m k ≡ 0) (sym s.2) X.clear;
+                  row_is = sym (row-of-two q (degrees gs) tables (length ms) F X.low X.first X.second s.0
+                      (λ e. let l = X.ordered in omega (arith, l, e)));
+                },
+              ),
             ),
           )
           (X.vector_is
@@ -291,16 +301,25 @@ module _ (q n : ℕ) (G : GradedAlgebra q) (gs : List (Generator (Vector q))) (r
           (form_of_product q (degrees gs) tables (length ms) F X.low X.generator X.generator s.0) (
             X.generator,
             il,
-            inl record {
-              low = X.low;
-              place = s.0;
-              exterior = subst (λ a. is_exterior q a ≡ true) (degree-power (degrees gs) X.generator il)
-                  X.exterior;
-              within = s.1;
-              degree_is = x ∙ sym B.tables_are.count;
-              clear = subst (λ (m : List ℕ). (k : ℕ) → k < X.generator → exponent m k ≡ 0) (sym s.2) X.clear;
-              row_is = refl;
-            },
+            (
+              X.generator,
+              il,
+              (
+                inr (
+                  refl,
+                  subst (λ a. is_exterior q a ≡ true) (degree-power (degrees gs) X.generator il) X.exterior,
+                ),
+                record {
+                  low = X.low;
+                  place = s.0;
+                  within = s.1;
+                  degree_is = x ∙ sym B.tables_are.count;
+                  clear = subst (λ (m : List ℕ). (k : ℕ) → k < X.generator → exponent m k ≡ 0) (sym s.2) X.clear;
+                  row_is = sym (row-of-one q (degrees gs) tables (length ms) F X.low X.generator X.generator s.0
+                      refl);
+                },
+              ),
+            ),
           )
           (X.vector_is
           ∙ ap (λ m. form_of q G.mul gs form X.generator (product_in (degrees gs) tables X.generator m))

@@ -1,12 +1,11 @@
 -- Rows that are pushed at some of the places of a loop.
-use Rattle.std.proofs.Common.{◌≡◌, ℕ, ◌+◌, ◌<◌, ◌↔◌, true, List, [], ◌⊎◌, inl, inr, length, arith, sym, subst}
+use Rattle.std.proofs.Common.{◌≡◌, ℕ, ◌+◌, ◌<◌, ◌↔◌, List, [], ◌⊎◌, inl, inr, length, arith, sym, subst}
 use Rattle.std.proofs.Common.{◌∙◌}
 use Rattle.std.specs.Prelude.{slice_index_or}
 use Rattle.std.proofs.lemmas.Bool.{cases_eq}
-use Rattle.graded_polynomials.specs.Monomials.{is_exterior}
 use Rattle.fp_rows.specs.Values.{MatrixValue}
 use Rattle.ring_completion.specs.Completions.{IsClearBefore}
-use Rattle.ring_degree.specs.Critical.{form_of_product, exchange_row, IsExchangeRow, IsSquareRow}
+use Rattle.ring_degree.specs.Critical.{pair_row, IsPairRow}
 use Rattle.ring_degree.specs.Tables.{at_generator, standard_at}
 use Rattle.ring_degree.specs.declared.table.Table.{Table}
 
@@ -51,22 +50,22 @@ abbrev pub IsClearAt : List Table → ℕ → ℕ → ℕ → Type 0
 IsClearAt tables e i k = IsClearBefore i (slice_index_or (standard_at tables e) k [])
 
 module _ (q : ℕ) (ds : List ℕ) (tables : List Table) (width : ℕ) (forms : List MatrixValue) where
-  pub exchanges-are : (e i j k : ℕ) → at_generator ds i + (at_generator ds j + e) ≡ length tables
+  pub pairs-are : (e i j k : ℕ) → at_generator ds i + (at_generator ds j + e) ≡ length tables
       → k ≡ length (standard_at tables e) → (v : List ℕ)
-      → IsExchangeRow q ds tables width forms i j v
-      ↔ IsAmong (IsClearAt tables e i) (exchange_row q ds tables width forms e i j) k v
-  exchanges-are e i j k s l v = (to, from)
+      → IsPairRow q ds tables width forms i j v
+      ↔ IsAmong (IsClearAt tables e i) (pair_row q ds tables width forms e i j) k v
+  pairs-are e i j k s l v = (to, from)
     where
-      to : IsExchangeRow q ds tables width forms i j v
-          → IsAmong (IsClearAt tables e i) (exchange_row q ds tables width forms e i j) k v
-      to x = subst (λ a. IsAmong (IsClearAt tables a i) (exchange_row q ds tables width forms a i j) k v) same
+      to : IsPairRow q ds tables width forms i j v
+          → IsAmong (IsClearAt tables e i) (pair_row q ds tables width forms e i j) k v
+      to x = subst (λ a. IsAmong (IsClearAt tables a i) (pair_row q ds tables width forms a i j) k v) same
           (x.place, (let w = x.within in let z = same in rw (l, sym z) w), x.clear, x.row_is)
         where
           same : x.low ≡ e
           same = let d = x.degree_is in omega (arith, d, s)
 
-      from : IsAmong (IsClearAt tables e i) (exchange_row q ds tables width forms e i j) k v
-          → IsExchangeRow q ds tables width forms i j v
+      from : IsAmong (IsClearAt tables e i) (pair_row q ds tables width forms e i j) k v
+          → IsPairRow q ds tables width forms i j v
       from (p, b, c, z) = record {
         low = e;
         place = p;
@@ -76,33 +75,6 @@ module _ (q : ℕ) (ds : List ℕ) (tables : List Table) (width : ℕ) (forms : 
         row_is = z;
       }
 
-  pub no-exchanges : (i j : ℕ) → length tables < at_generator ds i + at_generator ds j → (v : List ℕ)
-      → IsExchangeRow q ds tables width forms i j v → ⊥
-  no-exchanges i j l v x = let d = x.degree_is in omega (arith, d, l)
-
-  pub squares-are : (e i k : ℕ) → at_generator ds i + (at_generator ds i + e) ≡ length tables
-      → is_exterior q (at_generator ds i) ≡ true → k ≡ length (standard_at tables e) → (v : List ℕ)
-      → IsSquareRow q ds tables width forms i v
-      ↔ IsAmong (IsClearAt tables e i) (form_of_product q ds tables width forms e i i) k v
-  squares-are e i k s o l v = (to, from)
-    where
-      to : IsSquareRow q ds tables width forms i v
-          → IsAmong (IsClearAt tables e i) (form_of_product q ds tables width forms e i i) k v
-      to x = subst (λ a. IsAmong (IsClearAt tables a i) (form_of_product q ds tables width forms a i i)
-          k v) same
-          (x.place, (let w = x.within in let z = same in rw (l, sym z) w), x.clear, x.row_is)
-        where
-          same : x.low ≡ e
-          same = let d = x.degree_is in omega (arith, d, s)
-
-      from : IsAmong (IsClearAt tables e i) (form_of_product q ds tables width forms e i i) k v
-          → IsSquareRow q ds tables width forms i v
-      from (p, b, c, z) = record {
-        low = e;
-        place = p;
-        exterior = o;
-        within = omega (arith, b, l);
-        degree_is = s;
-        clear = c;
-        row_is = z;
-      }
+  pub no-pairs : (i j : ℕ) → length tables < at_generator ds i + at_generator ds j → (v : List ℕ)
+      → IsPairRow q ds tables width forms i j v → ⊥
+  no-pairs i j l v x = let d = x.degree_is in omega (arith, d, l)

@@ -1,13 +1,13 @@
 //! The rows of exchanges and squares.
 
-ghost use Rattle.std.specs.Prelude.{◌≡◌, ℕ, suc, ◌*◌, ◌%◌, ◌<◌, ◌↔◌, [], ◌∷◌, ◌++◌, List, length, IfOk, OnOk};
-ghost use Rattle.std.specs.Prelude.{slice_index_or};
+ghost use Rattle.std.specs.Prelude.{◌≡◌, ℕ, suc, ◌*◌, ◌%◌, ◌<◌, ◌≤◌, ◌↔◌, [], ◌∷◌, ◌++◌, List, length, IfOk};
+ghost use Rattle.std.specs.Prelude.{OnOk, IsTrue, slice_index_or};
 ghost use Rattle.fp_rows.specs.Values.{MatrixValue};
 ghost use Rattle.graded_polynomials.specs.Monomials.{sign};
 ghost use Rattle.gc_poly.specs.Generators.{greatest};
 ghost use Rattle.ring_completion.specs.Candidates.{IsListed};
 ghost use Rattle.ring_degree.specs.Critical.{ArePairs, IsPair, form_of_product, exchange_row};
-ghost use Rattle.ring_degree.specs.Critical.{IsExchangeRow, IsSquareRow, IsCriticalWith, IsCriticalRow};
+ghost use Rattle.ring_degree.specs.Critical.{pair_row, IsPairRow, IsFirst, IsCriticalWith, IsCriticalRow};
 ghost use Rattle.ring_degree.specs.Products.{Gains};
 ghost use Rattle.ring_degree.specs.Tables.{at_generator};
 
@@ -54,7 +54,6 @@ impl<'a> Pairs<'a> {
               self.now.width self.now.forms.now e i j k;
         }) }
     {
-        let _low = self.gens.degree(i);
         let degree = self.gens.degree(j) as usize + e;
         let product = matrix_of(&self.tables[degree], j).row(k);
         let mut form = Row::zero(alloc, self.gens.prime(), self.width)?;
@@ -95,8 +94,24 @@ impl<'a> Pairs<'a> {
         Ok(row)
     }
 
-    // Adds the exchange of generators i and j at monomial k of degree e.
-    fn push_exchange(
+    // The row of generators i and j at monomial k of degree e.
+    fn pair_row(&self, alloc: Global, e: usize, i: usize, j: usize, k: usize) -> Result<Row, Memory>
+        requires pairs { ArePairs self.now.gens.now self.now.tables.now self.now.width self.now.forms.now }
+        requires pair { IsPair self.now.gens.now.degrees self.now.tables.now e i j k }
+        ensures { IfOk result (λ r. r ≡ record {
+          p = self.now.gens.now.prime;
+          entries = pair_row (greatest self.now.gens.now) self.now.gens.now.degrees self.now.tables.now
+              self.now.width self.now.forms.now e i j k;
+        }) }
+    {
+        if i == j {
+            return self.form_of_product(alloc, e, i, j, k);
+        }
+        self.exchange(alloc, e, i, j, k)
+    }
+
+    // Adds the row of generators i and j at monomial k of degree e.
+    fn push_row(
         &self,
         alloc: Global,
         e: usize,
@@ -110,23 +125,17 @@ impl<'a> Pairs<'a> {
         requires prime { rows.old.p ≡ self.now.gens.now.prime }
         requires width { rows.old.width ≡ self.now.width }
         ensures { OnOk result (rows.new ≡ record rows.old {
-          rows = rows.old.rows ++ exchange_row (greatest self.now.gens.now) self.now.gens.now.degrees
+          rows = rows.old.rows ++ pair_row (greatest self.now.gens.now) self.now.gens.now.degrees
               self.now.tables.now self.now.width self.now.forms.now e i j k ∷ [];
         }) }
     {
-        let row = self.exchange(alloc, e, i, j, k)?;
+        let row = self.pair_row(alloc, e, i, j, k)?;
         rows.push(row.view())?;
         Ok(())
     }
 
-    // Adds the exchanges of generators i and j.
-    fn push_exchanges(
-        &self,
-        alloc: Global,
-        i: usize,
-        j: usize,
-        rows: &mut Matrix,
-    ) -> Result<(), Memory>
+    // Adds the rows of generators i and j.
+    fn push_rows(&self, alloc: Global, i: usize, j: usize, rows: &mut Matrix) -> Result<(), Memory>
         requires pairs { ArePairs self.now.gens.now self.now.tables.now self.now.width self.now.forms.now }
         requires first { i < length self.now.gens.now.degrees }
         requires second { j < length self.now.gens.now.degrees }
@@ -134,8 +143,7 @@ impl<'a> Pairs<'a> {
         requires width { rows.old.width ≡ self.now.width }
         ensures prime { OnOk result (rows.new.p ≡ rows.old.p) }
         ensures width { OnOk result (rows.new.width ≡ rows.old.width) }
-        ensures rows { OnOk result
-            (Gains (IsExchangeRow (greatest self.now.gens.now) self.now.gens.now.degrees
+        ensures rows { OnOk result (Gains (IsPairRow (greatest self.now.gens.now) self.now.gens.now.degrees
             self.now.tables.now self.now.width self.now.forms.now i j) rows.old.rows rows.new.rows) }
     {
         let both = (self.gens.degree(i) + self.gens.degree(j)) as usize;
@@ -143,57 +151,21 @@ impl<'a> Pairs<'a> {
             let e = self.tables.len() - both;
             for k in 0..self.tables[e].standard.len() {
                 if is_clear_before(self.tables[e].standard.get(k), i) {
-                    self.push_exchange(alloc, e, i, j, k, rows)?;
+                    self.push_row(alloc, e, i, j, k, rows)?;
                 }
             }
         }
         Ok(())
     }
 
-    // Adds the square of generator i at monomial k of degree e.
-    fn push_square(
-        &self,
-        alloc: Global,
-        e: usize,
-        i: usize,
-        k: usize,
-        rows: &mut Matrix,
-    ) -> Result<(), Memory>
-        requires pairs { ArePairs self.now.gens.now self.now.tables.now self.now.width self.now.forms.now }
-        requires pair { IsPair self.now.gens.now.degrees self.now.tables.now e i i k }
-        requires prime { rows.old.p ≡ self.now.gens.now.prime }
-        requires width { rows.old.width ≡ self.now.width }
-        ensures { OnOk result (rows.new ≡ record rows.old {
-          rows = rows.old.rows ++ form_of_product (greatest self.now.gens.now) self.now.gens.now.degrees
-              self.now.tables.now self.now.width self.now.forms.now e i i k ∷ [];
-        }) }
-    {
-        let row = self.form_of_product(alloc, e, i, i, k)?;
-        rows.push(row.view())?;
-        Ok(())
-    }
-
-    // Adds the squares of generator i, where they are 0.
-    fn push_squares(&self, alloc: Global, i: usize, rows: &mut Matrix) -> Result<(), Memory>
-        requires pairs { ArePairs self.now.gens.now self.now.tables.now self.now.width self.now.forms.now }
+    // Whether generator i comes before generator j, or is j and its square is 0.
+    fn is_first(&self, i: usize, j: usize) -> bool
         requires within { i < length self.now.gens.now.degrees }
-        requires prime { rows.old.p ≡ self.now.gens.now.prime }
-        requires width { rows.old.width ≡ self.now.width }
-        ensures prime { OnOk result (rows.new.p ≡ rows.old.p) }
-        ensures width { OnOk result (rows.new.width ≡ rows.old.width) }
-        ensures rows { OnOk result (Gains (IsSquareRow (greatest self.now.gens.now) self.now.gens.now.degrees
-            self.now.tables.now self.now.width self.now.forms.now i) rows.old.rows rows.new.rows) }
+        requires order { i ≤ j }
+        ensures { IsTrue result
+            ↔ IsFirst (greatest self.now.gens.now) self.now.gens.now.degrees i j }
     {
-        let both = 2 * self.gens.degree(i) as usize;
-        if self.gens.is_exterior(i) && both <= self.tables.len() {
-            let e = self.tables.len() - both;
-            for k in 0..self.tables[e].standard.len() {
-                if is_clear_before(self.tables[e].standard.get(k), i) {
-                    self.push_square(alloc, e, i, k, rows)?;
-                }
-            }
-        }
-        Ok(())
+        i < j || self.gens.is_exterior(i)
     }
 
     // Adds the critical rows in which generator i comes first.
@@ -208,9 +180,10 @@ impl<'a> Pairs<'a> {
             (Gains (IsCriticalWith (greatest self.now.gens.now) self.now.gens.now.degrees
             self.now.tables.now self.now.width self.now.forms.now i) rows.old.rows rows.new.rows) }
     {
-        self.push_squares(alloc, i, rows)?;
-        for j in i + 1..self.gens.len() {
-            self.push_exchanges(alloc, i, j, rows)?;
+        for j in i..self.gens.len() {
+            if self.is_first(i, j) {
+                self.push_rows(alloc, i, j, rows)?;
+            }
         }
         Ok(())
     }

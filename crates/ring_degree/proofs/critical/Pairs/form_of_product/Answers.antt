@@ -6,25 +6,26 @@ use Rattle.ring_degree.specs.Tables.{at_generator}
 use Rattle.ring_degree.proofs.Lookups.{product-inside, product-matrix, product-row, product-length}
 use Rattle.ring_degree.proofs.Lookups.{form-count, form-prime, form-width, form-there, rows-are, combined}
 use Rattle.ring_degree.proofs.Lookups.{prime-is}
+use Rattle.ring_degree.proofs.ProductForms.{positive-generators}
 use Rattle.ring_degree.proofs.critical.Pairs.form_of_product.Goals as goal
 
 pub matrix_of-requires : goal.matrix_of-requires
 matrix_of-requires c = product-inside c.args.self.now.gens.now c.args.self.now.tables.now
     c.args.self.now.width
     c.args.self.now.forms.now c.requires.pairs c.args.e c.args.i c.args.j c.args.k c.requires.pair
-    (omega (arith, c.degree-low.ensures.low, c.degree-low.ensures.value)) (c.degree.result + c.args.e)
+    (positive-generators c.args.self.now.gens.now.degrees c.degree.ensures.valid c.args.i c.requires.pair.first) (c.degree.result + c.args.e)
     c.index-self-degree.result (ap (λ d. d + c.args.e) c.degree.ensures.value)
 
 pub row-product-requires : goal.row-product-requires
 row-product-requires c =
     let m = product-matrix c.args.self.now.gens.now c.args.self.now.tables.now c.args.self.now.width
     c.args.self.now.forms.now c.requires.pairs c.args.e c.args.i c.args.j c.args.k c.requires.pair
-    (omega (arith, c.degree-low.ensures.low, c.degree-low.ensures.value)) (c.degree.result + c.args.e)
+    (positive-generators c.args.self.now.gens.now.degrees c.degree.ensures.valid c.args.i c.requires.pair.first) (c.degree.result + c.args.e)
     c.index-self-degree.result c.matrix_of.result.now (ap (λ d. d + c.args.e) c.degree.ensures.value)
     (c.matrix_of.ensures c.matrix_of.result.now) in
     rw m.0 (product-row c.args.self.now.gens.now c.args.self.now.tables.now c.args.self.now.width
     c.args.self.now.forms.now c.requires.pairs c.args.e c.args.i c.args.j c.args.k c.requires.pair
-    (omega (arith, c.degree-low.ensures.low, c.degree-low.ensures.value)))
+    (positive-generators c.args.self.now.gens.now.degrees c.degree.ensures.valid c.args.i c.requires.pair.first))
 
 pub combine-requires-clause-coefficients : goal.combine-requires-clause-coefficients
 combine-requires-clause-coefficients c =
@@ -32,7 +33,7 @@ combine-requires-clause-coefficients c =
     let tables = c.args.self.now.tables.now in
     let forms = c.args.self.now.forms.now in
     let positive : 0 < at_generator g.degrees c.args.i =
-    omega (arith, c.degree-low.ensures.low, c.degree-low.ensures.value) in
+    positive-generators g.degrees c.degree.ensures.valid c.args.i c.requires.pair.first in
     let m = product-matrix g tables c.args.self.now.width forms c.requires.pairs c.args.e c.args.i c.args.j
     c.args.k c.requires.pair positive (c.degree.result + c.args.e) c.index-self-degree.result
     c.matrix_of.result.now (ap (λ d. d + c.args.e) c.degree.ensures.value)
@@ -53,7 +54,7 @@ combine-requires-clause-primes c =
     let tables = c.args.self.now.tables.now in
     let forms = c.args.self.now.forms.now in
     let positive : 0 < at_generator g.degrees c.args.i =
-    omega (arith, c.degree-low.ensures.low, c.degree-low.ensures.value) in
+    positive-generators g.degrees c.degree.ensures.valid c.args.i c.requires.pair.first in
     let m = product-matrix g tables c.args.self.now.width forms c.requires.pairs c.args.e c.args.i c.args.j
     c.args.k c.requires.pair positive (c.degree.result + c.args.e) c.index-self-degree.result
     c.matrix_of.result.now (ap (λ d. d + c.args.e) c.degree.ensures.value)
@@ -71,7 +72,7 @@ returns c =
     let tables = c.args.self.now.tables.now in
     let forms = c.args.self.now.forms.now in
     let positive : 0 < at_generator g.degrees c.args.i =
-    omega (arith, c.degree-low.ensures.low, c.degree-low.ensures.value) in
+    positive-generators g.degrees c.degree.ensures.valid c.args.i c.requires.pair.first in
     let m = product-matrix g tables c.args.self.now.width forms c.requires.pairs c.args.e c.args.i c.args.j
     c.args.k c.requires.pair positive (c.degree.result + c.args.e) c.index-self-degree.result
     c.matrix_of.result.now (ap (λ d. d + c.args.e) c.degree.ensures.value)
