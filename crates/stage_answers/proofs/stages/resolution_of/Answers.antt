@@ -6,7 +6,7 @@ returns-in-Ok-clause-found c = resolution_to c.args.consistent.now c.args.n c.in
     c.in_ok-resolution.resolution c.in_ok-algebra.ensures c.in_ok-resolution.ensures
     c.extend_to.new.resolution c.extend_to.ensures.group c.in-Ok.ensures.last c.in-Ok.ensures.fit
 
-pub returns-in-Err-clause-refused : goal.returns-in-Err-clause-refused
-returns-in-Err-clause-refused c = rw c.stop_of.ensures (stage_stop c.args.consistent.now c.args.n
+pub returns-clause-refused : goal.returns-clause-refused
+returns-clause-refused c = rw c.stop_of.ensures (stage_stop c.args.consistent.now c.args.n
     c.in_ok-algebra.algebra c.in_ok-resolution.resolution c.in_ok-algebra.ensures c.in_ok-resolution.ensures
     c.in-Err.fault c.in-Err.ensures.refused)
