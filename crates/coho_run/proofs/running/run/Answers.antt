@@ -1,4 +1,3 @@
-use Rattle.coho_run.proofs.FileLaws.{without_it}
 use Rattle.std.proofs.Common.{refl, sym, subst, inl, inr, Ok, Err}
 use Rattle.std.specs.List.{concat}
 use Rattle.std.specs.Io.KnownBytes.{Appends}
