@@ -1,5 +1,5 @@
--- Layer 1 has few members: modulo J^2 each member of J is g - 1 for some g of the group, so p to the number
--- of members of layer 1 is at most the order.
+-- Layer 1 has few members: modulo J^2 each member of J is g - 1 for some g of the group, so p to the number of
+-- members of layer 1 is at most the order.
 use Rattle.std.proofs.Common.{◌≡◌, ℕ, zero, suc, ◌*◌, ◌^◌, ◌<◌, ◌≤◌, ◌⊎◌, List, [], ◌∷◌, inl, inr, arith, ap}
 use Rattle.std.proofs.Common.{ap₂, sym, ◌∙◌}
 use Rattle.std.proofs.Math.Nat.{pow-suc, pow-zero, le_refl}

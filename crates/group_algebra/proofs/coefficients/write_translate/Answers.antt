@@ -9,13 +9,7 @@ returns-clause-translate c =
     let d = L.inverse c.args.g c.requires.element in
     let I : IsInverse c.args.group.now c.args.g d.0 = record { below = d.1; right = d.2; left = d.3 } in
     let all : order c.args.group.now ≡ c.loop-k.k =
-    omega (
-      arith,
-      c.loop-k-test.false,
-      c.order-order.ensures.value,
-      c.requires.length,
-      c.loop-k.invariant.within,
-    ) in
+    omega (arith, c.loop-k-test.false, c.order-order.ensures.value, c.requires.length, c.loop-k.invariant.within) in
     record {
       inverse = d.0;
       is_inverse = I;

@@ -15,8 +15,7 @@ pub push-requires-clause-same_width : goal.push-requires-clause-same_width
 push-requires-clause-same_width c =
     ap length (c.view-in-loop-g-2.ensures.entries ∙ ap (λ (r : RowValue). r.entries) c.combine.ensures)
     ∙ length-combination_row c.args.units.now.p c.args.units.now.width
-    (entry (entries_of c.view-in-loop-g.result)) c.args.units.now.rows ∙ c.requires.units.width
-    ∙ sym c.loop-g.invariant.1.width
+    (entry (entries_of c.view-in-loop-g.result)) c.args.units.now.rows ∙ c.requires.units.width ∙ sym c.loop-g.invariant.1.width
 
 pub loop-g-preserved : goal.loop-g-preserved
 loop-g-preserved c =

@@ -12,8 +12,8 @@ use Rattle.group_algebra.proofs.tables.translate_rows.Goals as goal
 pub push-requires-clause-same_width : goal.push-requires-clause-same_width
 push-requires-clause-same_width c =
     ap length (c.view-in-loop-i.ensures.entries ∙ ap (λ (r : RowValue). r.entries) c.combine.ensures)
-    ∙ length-combination_row c.args.elements.now.p c.args.elements.now.width
-    (entry (entries_of c.view.result)) c.args.elements.now.rows ∙ c.requires.elements.width ∙ sym c.loop-i.invariant.1.width
+    ∙ length-combination_row c.args.elements.now.p c.args.elements.now.width (entry (entries_of c.view.result))
+    c.args.elements.now.rows ∙ c.requires.elements.width ∙ sym c.loop-i.invariant.1.width
 
 pub loop-i-preserved : goal.loop-i-preserved
 loop-i-preserved c =

@@ -15,8 +15,7 @@ loop-i-init c = record { added = images-none c.args.sum.now _ }
 
 pub add-requires-clause-factor : goal.add-requires-clause-factor
 add-requires-clause-factor c = subst (λ p. c.add_product-y.result < p)
-    (c.prime.ensures ∙ c.requires.images.prime ∙ sym c.loop-i.invariant.added.prime)
-    c.add_product-y.ensures.below
+    (c.prime.ensures ∙ c.requires.images.prime ∙ sym c.loop-i.invariant.added.prime) c.add_product-y.ensures.below
 
 pub add-requires-clause-same_prime : goal.add-requires-clause-same_prime
 add-requires-clause-same_prime c = c.row.ensures.modulus ∙ c.requires.images.prime
