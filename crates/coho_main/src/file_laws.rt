@@ -8,8 +8,8 @@ ghost use Rattle.coho_main.specs.Outcome.{Ending, Outcome};
 ghost use Rattle.coho_main.specs.HonestFiles.{AreWordsWithout, IsAccepted, IsAcceptedFile, IsHonestFile};
 ghost use Rattle.coho_main.specs.Words.{Command, Ring, command};
 
-/// Words of `ring` with `--from` and a word after it, which ask for something, ask for a ring with stages from
-/// that file; and the words without these two ask for the same ring without it.
+/// Words of `ring` with `--from` and a word after it, which ask for something, ask for a ring with stages
+/// from that file; and the words without these two ask for the same ring without it.
 pub fn words_law()
     ensures { (before after : List (List ℕ)) (from : List ℕ) (c : Command)
         → command (codes "ring" ∷ (before ++ codes "--from" ∷ from ∷ after)) ≡ Some c
