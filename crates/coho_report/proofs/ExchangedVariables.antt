@@ -24,7 +24,8 @@ use Rattle.coho_report.specs.Values.{ReportValue, SubgroupValue}
 use Rattle.coho_report.proofs.ImageDegrees.{same_some}
 use Rattle.coho_report.proofs.OneReport.{same_generators}
 use Rattle.coho_report.proofs.Related.{each-get, get-map, related-from}
-use Rattle.coho_report.proofs.Variables.{IsAt, at-place, other-exponent, power-degree, variable, variable-class}
+use Rattle.coho_report.proofs.Variables.{IsAt, at-place, other-exponent, power-degree, variable}
+use Rattle.coho_report.proofs.Variables.{variable-class}
 
 -- two generators of a cohomology ring are not cohomologous
 two-variables : (E : PGroup) (n : ℕ) (hs : Generators E) (rs : List Polynomial) (d k l : ℕ)
@@ -119,7 +120,7 @@ module _ (G : PGroup) where
       let cocycles : h ≡ h' = same_some h h'
       (sym image.1 ∙ ap (λ gs. slice_get (cocycles_of G gs) j) gens ∙ image'.1) in
       let moved : IsRestriction G (bare t.subgroup t.generators) h' (line_of d k) =
-      subst (λ (g : Generator (GroupCochain G)). IsRestriction G (bare t.subgroup t.generators) g (line_of d k))
-      cocycles (subst (λ (u : SubgroupRing G). IsRestriction G u h (line_of d k))
+      subst (λ (g : Generator (GroupCochain G)). IsRestriction G (bare t.subgroup t.generators) g
+      (line_of d k)) cocycles (subst (λ (u : SubgroupRing G). IsRestriction G u h (line_of d k))
       (λ i. bare (sub i) (same i)) (unnamed s h (line_of d k) image.2)) in
       two-lines n t own' h' d e k l other moved (unnamed t h' (line_of e l) image'.2)

@@ -23,8 +23,8 @@ degree-at (g ∷ hs) (suc j) h e = degree-at hs j h e
 pub same_some : {X : Type 0} (x y : X) → Some x ≡ Some y → x ≡ y
 same_some x y e = cc
 
-pub image-degree : (G : PGroup) (n : ℕ) (r : ReportValue) (i j : ℕ) (v : SubgroupValue) (d : ℕ) (f : Polynomial)
-    (first : List Term) (t : Term) (last : List Term) → slice_get r.subgroups i ≡ Some v
+pub image-degree : (G : PGroup) (n : ℕ) (r : ReportValue) (i j : ℕ) (v : SubgroupValue) (d : ℕ)
+    (f : Polynomial) (first : List Term) (t : Term) (last : List Term) → slice_get r.subgroups i ≡ Some v
     → slice_get r.generators j ≡ Some d → slice_get v.images j ≡ Some f → f.terms ≡ first ++ t ∷ last
     → IsCohomologyReport G n r → degree v.generators t.monomial ≡ d
 image-degree G n r i j v d f first t last at named line is R =

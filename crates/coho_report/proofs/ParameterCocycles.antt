@@ -151,7 +151,8 @@ module _ (G : PGroup) (n : ℕ) (gs : List (Generator (Vector (largest_residue G
   each-within [] h = tt
   each-within (f ∷ fs) h = ((h.0.0, h.0.1), each-within fs h.1)
 
-  each-over : (fs : List Polynomial) → Each (Over n) fs → Each (λ f. IsOver q (degrees hs) f.degree f.terms) fs
+  each-over : (fs : List Polynomial) → Each (Over n) fs
+      → Each (λ f. IsOver q (degrees hs) f.degree f.terms) fs
   each-over [] h = tt
   each-over (f ∷ fs) h =
       (subst (λ ds. IsOver q ds f.degree f.terms) (degrees-same G gs) h.0.2, each-over fs h.1)

@@ -68,8 +68,8 @@ module _ {A B : Type 0} (R : A → B → Type 0) where
   related-place (x ∷ xs) (y ∷ ys) r zero d e l = r.0
   related-place (x ∷ xs) (y ∷ ys) r (suc k) d e l = related-place xs ys r.1 k d e (omega (arith, l))
 
-pub related-get : {A B : Type 0} (R : A → B → Type 0) (xs : List A) (ys : List B) → AreRelated R xs ys → (j : ℕ)
-    (x : A) (d : B) → slice_get xs j ≡ Some x → R x (slice_index_or ys j d)
+pub related-get : {A B : Type 0} (R : A → B → Type 0) (xs : List A) (ys : List B) → AreRelated R xs ys
+    → (j : ℕ) (x : A) (d : B) → slice_get xs j ≡ Some x → R x (slice_index_or ys j d)
 related-get R [] ys r j x d e = absurd (cc)
 related-get R (z ∷ xs) [] r j x d e = absurd r
 related-get R (z ∷ xs) (y ∷ ys) r zero x d e = let same : z ≡ x = cc in subst (λ x. R x y) same r.0
@@ -82,8 +82,8 @@ get-map f (y ∷ xs) zero x e = let same : y ≡ x = cc in ap (λ z. Some (f z))
 get-map f (y ∷ xs) (suc j) x e = get-map f xs j x e
 
 -- what is related to the member at a place
-pub related-from : {A B : Type 0} (R : A → B → Type 0) (xs : List A) (ys : List B) → AreRelated R xs ys → (j : ℕ)
-    (y : B) → slice_get ys j ≡ Some y → (x : A) × (slice_get xs j ≡ Some x) × R x y
+pub related-from : {A B : Type 0} (R : A → B → Type 0) (xs : List A) (ys : List B) → AreRelated R xs ys
+    → (j : ℕ) (y : B) → slice_get ys j ≡ Some y → (x : A) × (slice_get xs j ≡ Some x) × R x y
 related-from R [] [] r j y e = absurd (cc)
 related-from R (x ∷ xs) [] r j y e = absurd r
 related-from R [] (z ∷ ys) r j y e = absurd r

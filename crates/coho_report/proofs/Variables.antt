@@ -73,7 +73,8 @@ module _ (G : PGroup) where
   no-factors j a (g ∷ gs) = refl
 
   -- the factors before are 1
-  one-factor : (j : ℕ) → j ≡ 0 → (before : Generators G) (g : Generator (GroupCochain G)) (after : Generators G)
+  one-factor : (j : ℕ) → j ≡ 0 → (before : Generators G) (g : Generator (GroupCochain G))
+      (after : Generators G)
       → evaluate_from (cochains (Below (order_of G)) q) j (λ t. residue q 1) (before ++ g ∷ after)
       (power (length before) 1) ≡ g.class
   one-factor j e [] g after =

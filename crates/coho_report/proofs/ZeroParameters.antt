@@ -9,8 +9,8 @@ use Rattle.group_modules.specs.Field.{residue}
 use Rattle.linear_algebra.specs.Modular.{IsSmallPrime}
 use Rattle.p_groups.specs.PGroups.{PGroup, largest_residue, prime_of}
 use Rattle.graded_polynomials.specs.Monomials.{IsWithin, degree, fits, is_exterior}
-use Rattle.graded_polynomials.specs.Polynomials.{Term, Polynomial, Multiple, IsMultiple, IsOneOf, IsPolynomial}
-use Rattle.graded_polynomials.specs.Polynomials.{IsInIdeal, IsSame, coefficient, total}
+use Rattle.graded_polynomials.specs.Polynomials.{Term, Polynomial, Multiple, IsMultiple, IsOneOf}
+use Rattle.graded_polynomials.specs.Polynomials.{IsPolynomial, IsInIdeal, IsSame, coefficient, total}
 use Rattle.graded_polynomials.proofs.Stored.{polynomial-unique}
 use Rattle.graded_polynomials.proofs.Terms.{same-self}
 use Rattle.graded_algebra.specs.Algebras.{degrees}

@@ -23,9 +23,9 @@ pub fn image_of_another_degree()
         → degree v.generators t.monomial ≢ d → IsCohomologyReport G n r → ⊥ }
 {}
 
-/// Where a line of a report says that a generator restricts to variable k of a subgroup, no report on the same
-/// group through the same degree has variable l in its place. So the lines of a subgroup under an automorphism
-/// that exchanges two variables are in no report.
+/// Where a line of a report says that a generator restricts to variable k of a subgroup, no report on the
+/// same group through the same degree has variable l in its place. So the lines of a subgroup under an
+/// automorphism that exchanges two variables are in no report.
 pub fn exchanged_variables()
     ensures { (G : PGroup) (n : ℕ) (r o : ReportValue) (i j k l d e : ℕ) (v w : SubgroupValue)
         → slice_get r.subgroups i ≡ Some v
@@ -37,8 +37,8 @@ pub fn exchanged_variables()
         → k ≢ l → IsCohomologyReport G n r → IsCohomologyReport G n o → ⊥ }
 {}
 
-/// Parameters that are all 0, of whatever degrees they are said to be, leave no finite ring on a subgroup that
-/// has a variable and no relation.
+/// Parameters that are all 0, of whatever degrees they are said to be, leave no finite ring on a subgroup
+/// that has a variable and no relation.
 pub fn zero_parameters()
     ensures { (G : PGroup) (n : ℕ) (s : SubgroupRing G) (hs : Generators G) (fs : List Polynomial) (d : ℕ)
         (ds : List ℕ) → IsNamedRing (own_group G s) n s.generators []

@@ -9,8 +9,8 @@ ghost use Rattle.coho_run.specs.HonestFiles.{AreWordsWithout, IsAccepted, IsAcce
 ghost use Rattle.std.specs.Prelude.{◌∷◌, ◌++◌, Option, None, Some, codes};
 ghost use Rattle.coho_words.specs.Words.{Command, Ring, command};
 
-/// Words of `ring` with `--from` and a word after it, which ask for something, ask for a ring with stages from
-/// that file; and the words without these two ask for the same ring without it.
+/// Words of `ring` with `--from` and a word after it, which ask for something, ask for a ring with stages
+/// from that file; and the words without these two ask for the same ring without it.
 pub fn words_law()
     ensures { (before after : List (List ℕ)) (from : List ℕ) (c : Command)
         → command (codes "ring" ∷ (before ++ codes "--from" ∷ from ∷ after)) ≡ Some c

@@ -219,8 +219,8 @@ pub fn run<F: Files, O: Sink, E: Sink>(
     }
 }
 
-/// The answer that words and files come to, where the words ask for a ring, is the text of a report that is of
-/// the cohomology ring of the group of the presentation in the file.
+/// The answer that words and files come to, where the words ask for a ring, is the text of a report that is
+/// of the cohomology ring of the group of the presentation in the file.
 pub fn ring_outcome()
     ensures { (words : List (List ℕ)) (files left : Content) (lines : List (List ℕ))
         → Comes words files (Ok lines) left → IsRingTextOf words files (concat lines) }
