@@ -16,8 +16,8 @@ use Rattle.chain_lift.specs.Values.{LiftValue}
 use Rattle.ring_completion.specs.Candidates.{AreSome}
 use Rattle.cohomology_degree.specs.Rings.{cohomology, IsPresentation}
 use Rattle.cohomology_degree.specs.Standard.{AreStandard}
-use Rattle.cohomology_degree.specs.Degrees.{classes, degrees_of, lifted, kept, IsLiftBelow, AreValued, IsDegree}
-use Rattle.cohomology_degree.specs.Degrees.{IsLower}
+use Rattle.cohomology_degree.specs.Degrees.{classes, degrees_of, lifted, kept, IsLiftBelow}
+use Rattle.cohomology_degree.specs.Degrees.{AreValued, IsDegree, IsLower}
 use Rattle.cohomology_degree.specs.Nexts.{IsNext, IsLiftOf}
 use Rattle.ring_present.specs.Stores.{IsRingOf, IsRingStore}
 use Rattle.cohomology_degree.specs.declared.degree.Valued.{Valued}

@@ -20,7 +20,8 @@ use Rattle.cohomology_degree.specs.Nexts.{IsLiftOf}
 use Rattle.cohomology_degree.specs.declared.degree.Valued.{Valued}
 use Rattle.cohomology_degree.proofs.Factors.{positive-degrees}
 use Rattle.cohomology_degree.proofs.Growing.{degrees-bounded, degrees-of-append}
-use Rattle.cohomology_degree.proofs.Nexts.{some-of-gens, old-relations, next-relations, next-degree-is, all-below}
+use Rattle.cohomology_degree.proofs.Nexts.{some-of-gens, old-relations, next-relations}
+use Rattle.cohomology_degree.proofs.Nexts.{next-degree-is, all-below}
 use Rattle.cohomology_degree.proofs.Steps.{ring-below, step-of, tables-grow, has-tables-next, forms-below}
 use Rattle.cohomology_degree.proofs.Steps.{new-are-listed}
 use Rattle.cohomology_degree.proofs.values.Lower.next.Goals as goal

@@ -8,7 +8,8 @@ use Rattle.chain_lift.specs.Values.{LiftValue}
 use Rattle.chain_lift.specs.Products.{product_row}
 use Rattle.cohomology_degree.specs.Degrees.{classes, IsLiftBelow}
 use Rattle.cohomology_degree.proofs.Products.{length-product}
-use Rattle.cohomology_degree.proofs.Factors.{all-at, not-one, last-inside, quotient-monomial, value-of-product}
+use Rattle.cohomology_degree.proofs.Factors.{all-at, not-one, last-inside, quotient-monomial}
+use Rattle.cohomology_degree.proofs.Factors.{value-of-product}
 use Rattle.cohomology_degree.proofs.LeftMonomials.{last-quotient}
 use Rattle.cohomology_degree.proofs.values.Lower.write_value.Goals as goal
 
