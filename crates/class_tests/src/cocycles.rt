@@ -5,7 +5,7 @@ ghost use Rattle.p_groups.specs.PGroups.{order_of};
 
 use crate::resolutions::{basis, resolved};
 use bar_eval::value;
-use group_table::Memory;
+use group_table::{Group, Memory};
 use min_res::Resolution;
 use small_groups::SmallGroup;
 use std::alloc::Global;
@@ -39,9 +39,9 @@ fn are_below(order: u16, tuple: &[u16]) -> bool
 }
 
 // The value of the cocycle of basis class 0 of the degree that is the length of the tuple.
-fn value_in(rt: &impl Abort, alloc: Global, kind: SmallGroup, tuple: &[u16]) -> Result<u8, Memory> {
+fn value_in(rt: &impl Abort, alloc: Global, group: &Group, tuple: &[u16]) -> Result<u8, Memory> {
     assert!(rt; tuple.len() <= 8);
-    let resolution = resolved(rt, alloc, &kind.group(alloc)?, tuple.len() as u32)?;
+    let resolution = resolved(rt, alloc, group, tuple.len() as u32)?;
     assert!(rt; are_below(resolution.algebra().group().order(), tuple));
     basis_value(rt, alloc, &resolution, 0, tuple)
 }
@@ -60,7 +60,8 @@ const VALUES: [(SmallGroup, &[u16], u8); 7] = [
 #[test]
 fn has_its_values_in_cyclic_groups(rt: HostRuntime) -> Result<(), Fail> {
     for (kind, tuple, expected) in VALUES {
-        let found = value_in(&rt, rt.alloc(), kind, tuple)?;
+        let group = kind.group(rt.alloc())?;
+        let found = value_in(&rt, rt.alloc(), &group, tuple)?;
         assert_eq!(rt; found, expected, "in {kind:?}");
     }
     Ok(())
@@ -154,8 +155,8 @@ fn closes(
 }
 
 // The same in a group.
-fn closes_in(rt: &impl Abort, alloc: Global, kind: SmallGroup, i: usize) -> Result<bool, Memory> {
-    let resolution = resolved(rt, alloc, &kind.group(alloc)?, 2)?;
+fn closes_in(rt: &impl Abort, alloc: Global, group: &Group, i: usize) -> Result<bool, Memory> {
+    let resolution = resolved(rt, alloc, group, 2)?;
     closes(rt, alloc, &resolution, i)
 }
 
@@ -167,7 +168,8 @@ fn is_a_cocycle_in_small_groups(rt: HostRuntime) -> Result<(), Fail> {
         (SmallGroup::Klein, 1),
         (SmallGroup::Quaternion, 1),
     ] {
-        let found = closes_in(&rt, rt.alloc(), kind, i)?;
+        let group = kind.group(rt.alloc())?;
+        let found = closes_in(&rt, rt.alloc(), &group, i)?;
         assert!(rt; found, "in {kind:?}");
     }
     Ok(())

@@ -109,8 +109,8 @@ fn holds_at(
 
 // A group, the place of a subgroup in the list, a basis class by its degree and its number, and what it
 // restricts to. Class 2 of degree 2 of the dihedral group is no product; on both four-groups, in which xx, xy
-// and yy are the basis classes of degree 2, it is xy + yy. In the cyclic group of order 4 the class of degree 2
-// is the square of that of degree 1 on the subgroup of order 2, on which the class of degree 1 is 0.
+// and yy are the basis classes of degree 2, it is xy + yy. In the cyclic group of order 4 the class of
+// degree 2 is the square of that of degree 1 on the subgroup of order 2, on which the class of degree 1 is 0.
 const RESTRICTIONS: [(SmallGroup, usize, u32, usize, &[u8]); 13] = [
     (SmallGroup::Dihedral, 0, 1, 0, &[1, 0]),
     (SmallGroup::Dihedral, 0, 1, 1, &[0, 0]),

@@ -66,9 +66,9 @@ fn is_product_in(
     is_product(rt, alloc, &resolution, i, k, expected)
 }
 
-// A group, two basis classes of degree 1 by their numbers, and their product. The square of x is 0 in a cyclic
-// group of order 4 and not in one of order 2; xy is 0 in the dihedral group and xx + xy + yy in the quaternion
-// group; for an odd prime xx is 0, and yx is -xy.
+// A group, two basis classes of degree 1 by their numbers, and their product. The square of x is 0 in a
+// cyclic group of order 4 and not in one of order 2; xy is 0 in the dihedral group, and xx + xy + yy is 0 in
+// the quaternion group; for an odd prime xx is 0, and yx is -xy.
 const PRODUCTS: [(SmallGroup, usize, usize, &[u8]); 14] = [
     (SmallGroup::Two, 0, 0, &[1]),
     (SmallGroup::Four, 0, 0, &[0]),

@@ -5,7 +5,7 @@ ghost use Rattle.limits.specs.declared.TheConstants.{GREATEST_DEGREE};
 
 use coho_report::{Report, ReportFault, compose, write_report};
 use group_algebra::Algebra;
-use group_table::Memory;
+use group_table::{Group, Memory};
 use limits::{GREATEST_DEGREE, GREATEST_DIMENSION};
 use min_res::Resolution;
 use small_groups::SmallGroup;
@@ -26,13 +26,12 @@ const FOUR: &str = "coho ring 1\nprime 2\norder 4\ndegree 1\nranks 1 1\ngenerato
 fn resolved(
     rt: &impl Abort,
     alloc: Global,
-    kind: SmallGroup,
+    group: &Group,
     degree: u32,
 ) -> Result<Resolution, Memory>
     ensures { IfOk result (λ r. r.last ≡ degree) }
 {
-    let group = kind.group(alloc)?;
-    let mut resolution = Resolution::start(alloc, Algebra::build(alloc, &group)?)?;
+    let mut resolution = Resolution::start(alloc, Algebra::build(alloc, group)?)?;
     for _d in 0..degree {
         assert!(rt; resolution.last() < GREATEST_DEGREE);
         assert!(rt; resolution.extend(GREATEST_DIMENSION).is_ok());
@@ -44,13 +43,13 @@ fn resolved(
 fn reported(
     rt: &impl Abort,
     alloc: Global,
-    kind: SmallGroup,
+    group: &Group,
     degree: u32,
 ) -> Result<Report, ReportFault>
     requires from { 1 ≤ degree }
     requires high { degree ≤ GREATEST_DEGREE }
 {
-    let resolution = resolved(rt, alloc, kind, degree)?;
+    let resolution = resolved(rt, alloc, group, degree)?;
     compose(alloc, &resolution, degree, GREATEST_DIMENSION)
 }
 
@@ -62,7 +61,8 @@ fn is_written(alloc: Global, report: &Report, text: &str) -> Result<bool, Memory
 
 #[test]
 fn reports_on_the_klein_group(rt: HostRuntime) -> Result<(), Fail> {
-    let report = reported(&rt, rt.alloc(), SmallGroup::Klein, 2)?;
+    let group = SmallGroup::Klein.group(rt.alloc())?;
+    let report = reported(&rt, rt.alloc(), &group, 2)?;
     assert_eq!(rt; report.generators(), 2);
     assert_eq!(rt; report.relations(), 0);
     assert_eq!(rt; report.subgroups(), 1);
@@ -75,7 +75,8 @@ fn reports_on_the_klein_group(rt: HostRuntime) -> Result<(), Fail> {
 // In degree 1 the cyclic group of order 4 has no parameters.
 #[test]
 fn tells_that_a_ring_is_not_complete(rt: HostRuntime) -> Result<(), Fail> {
-    let report = reported(&rt, rt.alloc(), SmallGroup::Four, 1)?;
+    let group = SmallGroup::Four.group(rt.alloc())?;
+    let report = reported(&rt, rt.alloc(), &group, 1)?;
     assert!(rt; !report.complete());
     let written = is_written(rt.alloc(), &report, FOUR)?;
     assert!(rt; written);
@@ -107,7 +108,8 @@ fn is_refused(
 // Over the subgroup, which is the group, the stages have dimensions 4, 8 and 12.
 #[test]
 fn names_the_first_refusal(rt: HostRuntime) -> Result<(), Fail> {
-    let resolution = resolved(&rt, rt.alloc(), SmallGroup::Klein, 3)?;
+    let group = SmallGroup::Klein.group(rt.alloc())?;
+    let resolution = resolved(&rt, rt.alloc(), &group, 3)?;
     assert!(rt; is_refused(rt.alloc(), &resolution, 1, 7, 1, 8));
     assert!(rt; is_refused(rt.alloc(), &resolution, 3, 8, 2, 12));
     Ok(())

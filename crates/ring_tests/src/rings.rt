@@ -158,12 +158,12 @@ fn is_ring(rt: &impl Abort, alloc: Global, ring: &Ring, case: Case<'_>) -> Resul
 fn is_ring_of(
     rt: &impl Abort,
     alloc: Global,
-    kind: SmallGroup,
+    group: &Group,
     case: Case<'_>,
 ) -> Result<bool, Memory> {
     assert!(rt; case.standard.len() <= 24);
     let degree = case.standard.len() as u32;
-    let resolution = resolved(rt, alloc, &kind.group(alloc)?, degree)?;
+    let resolution = resolved(rt, alloc, group, degree)?;
     let ring = presented(rt, alloc, &resolution, degree);
     is_ring(rt, alloc, &ring, case)
 }
@@ -178,7 +178,8 @@ fn presents_the_ring_of_the_quaternion_group(rt: HostRuntime) -> Result<(), Fail
         standard: &[2, 2, 1, 1],
         candidates: 1,
     };
-    let found = is_ring_of(&rt, rt.alloc(), SmallGroup::Quaternion, case)?;
+    let group = SmallGroup::Quaternion.group(rt.alloc())?;
+    let found = is_ring_of(&rt, rt.alloc(), &group, case)?;
     assert!(rt; found);
     Ok(())
 }
@@ -192,7 +193,8 @@ fn presents_the_ring_of_the_group_of_order_three(rt: HostRuntime) -> Result<(), 
         standard: &[1, 1],
         candidates: 1,
     };
-    let found = is_ring_of(&rt, rt.alloc(), SmallGroup::Three, case)?;
+    let group = SmallGroup::Three.group(rt.alloc())?;
+    let found = is_ring_of(&rt, rt.alloc(), &group, case)?;
     assert!(rt; found);
     Ok(())
 }
