@@ -5,6 +5,6 @@ pub returns-in-Ok-clause-found : goal.returns-in-Ok-clause-found
 returns-in-Ok-clause-found c = λ P R.
     report_of P c.args.n c.args.resolution.now R c.in-Ok.report c.in-Ok.ensures.small c.in-Ok.ensures.report
 
-pub returns-clause-refused : goal.returns-clause-refused
-returns-clause-refused c = λ P R.
+pub returns-in-Err-clause-refused : goal.returns-in-Err-clause-refused
+returns-in-Err-clause-refused c = λ P R.
     rw c.stop_of.ensures (report_stop P c.args.n c.args.resolution.now R c.in-Err.fault c.in-Err.ensures.refused)
