@@ -5,7 +5,7 @@ pub mod FileLaws
 pub mod Outcomes
 pub mod Replies
 pub mod RingAnswers
-pub mod Run
+pub mod Runs
 pub mod SavedFiles
 pub mod Settled
 pub mod Twice

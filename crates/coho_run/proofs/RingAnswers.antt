@@ -23,7 +23,7 @@ use Rattle.coho_steps.specs.Steps.{Refusal, OrRefuse}
 use Rattle.coho_steps.specs.Stops.{Meets, refusal_of, told}
 use Rattle.coho_words.specs.Words.{Ring, StageFiles, command}
 use Rattle.coho_steps.proofs.Lines.{Lines, lines_of}
-use Rattle.coho_run.proofs.Run.{Reported}
+use Rattle.coho_run.proofs.Runs.{Reported}
 use Rattle.coho_steps.specs.declared.status.Status.TheVariants as status
 use Rattle.coho_steps.specs.declared.cause.Cause.TheVariants as cause
 use Rattle.coho_steps.specs.declared.stop.Stop.TheVariants as stop

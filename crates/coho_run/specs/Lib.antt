@@ -5,3 +5,4 @@ pub mod Outcome
 pub mod RingAnswers
 pub mod Run
 pub mod Saving
+pub mod Stopping

@@ -13,6 +13,7 @@ ghost use Rattle.coho_steps.specs.Stops.{HasReadCause, Meets, OnlyReads, Settles
 ghost use Rattle.coho_steps.specs.Told.{OfFiles, Tells, OfTold};
 ghost use Rattle.coho_run.specs.Run.{IsSettled, MayWrite, EndsAs, WantsMemory, FailsOnOut, FailsOnSave};
 ghost use Rattle.coho_run.specs.Run.{IsReadFault, IsSaveFault, NoReadFault, NoSaveFault, Stays};
+ghost use Rattle.coho_run.specs.Stopping.{stop_of};
 ghost use Rattle.coho_run.specs.Saving.{Answered, ComesToSave, CommandLeaves, WordsLeave, reads_twice};
 ghost use Rattle.stage_answers.specs.Works.{Works};
 ghost use Rattle.std.specs.Prelude.{Ok};
@@ -28,6 +29,16 @@ use sample_groups::sample_presentation;
 use stage_answers::{answer_check, answer_group, answer_resolve};
 use std::alloc::Global;
 
+// The program's stop at a fault.
+fn stop_of<'a>(fault: WordsFault) -> Stop<'a>
+    ensures { result ≡ stop_of fault }
+{
+    match fault {
+        WordsFault::Refused => Stop::Refused(Cause::Words),
+        WordsFault::Memory => Stop::Memory,
+    }
+}
+
 // The command of the words.
 fn ask<'a>(alloc: Global, words: &'a [String]) -> Result<Command<'a>, Stop<'a>>
     ensures step { Settles asked (Ask (texts words.now)) result }
@@ -36,8 +47,7 @@ fn ask<'a>(alloc: Global, words: &'a [String]) -> Result<Command<'a>, Stop<'a>>
 {
     match read_words(alloc, words) {
         Ok(command) => Ok(command),
-        Err(WordsFault::Refused) => Err(Stop::Refused(Cause::Words)),
-        Err(WordsFault::Memory) => Err(Stop::Memory),
+        Err(fault) => Err(stop_of(fault)),
     }
 }
 

@@ -5,9 +5,9 @@ use Rattle.coho_io.specs.Bytes.{AppendsFront}
 use Rattle.coho_io.specs.Causes.{Rose}
 use Rattle.coho_steps.specs.Lines.{contents}
 use Rattle.coho_words.specs.Words.{texts}
-use Rattle.coho_run.proofs.Run.{answers, complete_stop, fails_on_out, memory_of_stop, memory_of_write}
-use Rattle.coho_run.proofs.Run.{read_kept, read_told, save_told, stopped, told_meets, usage_stop, words_stop}
-use Rattle.coho_run.proofs.Run.{wrote_all, write_complete, write_unsettled, wrote_front}
+use Rattle.coho_run.proofs.Runs.{answers, complete_stop, fails_on_out, memory_of_stop, memory_of_write}
+use Rattle.coho_run.proofs.Runs.{read_kept, read_told, save_told, stopped, told_meets, usage_stop, words_stop}
+use Rattle.coho_run.proofs.Runs.{wrote_all, write_complete, write_unsettled, wrote_front}
 use Rattle.coho_run.proofs.SavedFiles.{stays}
 use Rattle.coho_run.proofs.RingAnswers.{tells_ring, stop_not_answered}
 use Rattle.coho_run.proofs.ClassAnswers.{has_classes}
