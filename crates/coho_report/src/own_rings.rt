@@ -48,9 +48,7 @@ fn own_resolution(
     let group = res.algebra().group().as_group();
     let own = e.group(alloc, group)?;
     let mut resolution = Resolution::start(alloc, Algebra::build(alloc, &own)?)?;
-    for _d in 0..n {
-        resolution.extend(limit)?;
-    }
+    resolution.extend_to(n, limit)?;
     Ok(resolution)
 }
 

@@ -1,5 +1,5 @@
 -- The tables and the candidates that a ring keeps.
-use Rattle.std.specs.Prelude.{◌≡◌, ◌⊎◌, ◌<◌, List, [], ◌∷◌, length, Option, MatchOption}
+use Rattle.std.specs.Prelude.{◌≡◌, ◌⊎◌, ◌<◌, ℕ, List, [], ◌∷◌, length, Option, MatchOption}
 use Rattle.p_groups.specs.PGroups.{PGroup}
 use Rattle.chain_lift.specs.Values.{LiftValue}
 use Rattle.ring_degree.specs.declared.table.Table.{Table}

@@ -33,7 +33,6 @@ use Rattle.stage_answers.proofs.SomeFiles.{taking}
 use Rattle.stage_answers.proofs.Working.{Counts}
 use Rattle.stage_records.specs.Walks as walks
 use Rattle.stage_walk.specs.declared.fault.StagesFault.TheVariants as fault
-use Rattle.coho_steps.specs.declared.cause.Cause.TheVariants as cause
 use Rattle.coho_steps.specs.declared.stop.Stop.TheVariants as stop
 
 module _ (P : Presentation) (G : PGroup) (is : IsTableOf P G) (path : Bor (List ℕ))

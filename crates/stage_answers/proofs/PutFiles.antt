@@ -7,7 +7,6 @@ use Rattle.std.specs.Cmp.Lexicographic.{nat_list_cmp_total}
 use Rattle.std.proofs.lemmas.Map.Text.{is_eq-slice_cmp}
 use Rattle.std.proofs.lemmas.Slice.Eq.{bytes_eq-Decides}
 use Rattle.coho_io.specs.Content.{Content, file, or_outside, with_file}
-use Rattle.stage_walk.specs.Saved.{saved}
 
 -- what was saved leaves every path that the words do not save to
 pub other_file : (c : Content) (save path bytes : List ℕ) → (save ≡ path → ⊥)

@@ -1,5 +1,5 @@
 -- What is told of a stage, from its value.
-use Rattle.std.proofs.Common.{◌≡◌, ◌⊎◌, inl, inr, refl, ℕ, zero, suc, ◌+◌, ◌*◌, ◌<◌, ◌≤◌, List, [], ◌∷◌, ◌++◌}
+use Rattle.std.proofs.Common.{◌≡◌, refl, ℕ, zero, suc, ◌+◌, ◌<◌, List, [], ◌∷◌, ◌++◌}
 use Rattle.std.proofs.Common.{length, take, codes, String, Vec, Global, string_bytes, flat_map, append_assoc}
 use Rattle.std.proofs.Common.{sym, ◌∙◌, ap, subst, arith}
 use Rattle.std.specs.Prelude.{slice_index, MatchOption, unwrap_or, IfOk}
@@ -10,19 +10,17 @@ use Rattle.std.specs.declared.result.Result.TheVariants.{Ok, Err}
 use Rattle.std.specs.Option.{option_map}
 use Rattle.std.proofs.lemmas.List.{take_more, append-nil}
 use Rattle.std.proofs.lemmas.Grind.{flat_map-append}
-use Rattle.limits.specs.declared.TheConstants.{GREATEST_DIMENSION}
-use Rattle.p_groups.specs.PGroups.{PGroup, order_of}
+use Rattle.p_groups.specs.PGroups.{PGroup}
 use Rattle.min_res.specs.declared.fault.ResFault.{ResFault}
 use Rattle.min_res.specs.Values.{BoundaryValue, StageValue, ResolutionValue, boundary_of, no_rows}
 use Rattle.min_res.specs.Values.{first_alone}
 use Rattle.min_res.specs.Defined.{IsStageAt}
 use Rattle.min_res.specs.Stages.{rank_of, stage_rows}
-use Rattle.min_res.specs.Refusals.{IsRefusal}
 use Rattle.coho_steps.specs.Lines.{after_space, contents}
 use Rattle.stage_answers.specs.Answers.{stage_line, stage_lines}
 use Rattle.stage_answers.specs.Stages.{Summary, summary, HasRows, rows_at, stage_at, stages_below}
 use Rattle.stage_answers.specs.Stages.{AreStagesTo, IsStageRefusal}
-use Rattle.stage_walk.specs.Dimensions.{dimension, Fit, IsFirstAbove}
+use Rattle.stage_walk.specs.Dimensions.{Fit, IsFirstAbove}
 use Rattle.power_commutator.specs.Presentations.{Presentation}
 use Rattle.coho_steps.specs.Stops.{IsRefused}
 use Rattle.coho_steps.specs.Groups.{ForGroupOf, IsTableOf}
@@ -122,34 +120,6 @@ module _ (G : PGroup) where
         rows = rows;
       }) (same_rows d s L)
 
-  split : (d i : ℕ) → d ≤ suc i → (d ≤ i) ⊎ (d ≡ suc i)
-  split zero i l = inl (omega arith)
-  split (suc d) zero l = inr (omega arith)
-  split (suc d) (suc i) l = elim (split d i (omega arith)) [
-    | inl k ↦ inl (omega arith)
-    | inr k ↦ inr (omega arith)
-  ]
-
-  -- one stage more fits
-  fit_more : (i : ℕ) → Fit G i → dimension G (suc i) ≤ GREATEST_DIMENSION → Fit G (i + 1)
-  fit_more i fit top d from to = elim (split d i (omega arith)) [
-    | inl k ↦ fit d from k
-    | inr k ↦ subst (λ d. dimension G d ≤ GREATEST_DIMENSION) (sym k) top
-  ]
-
-  first_fault : (i n : ℕ) (e : ResFault) → i < n → Fit G i → IsRefusal G (suc i) GREATEST_DIMENSION e
-      → IsStageFault G n e
-  first_fault i n (fault.TooLarge d X) lt fit r =
-      let is = r.0 in
-      record {
-        from = omega arith;
-        to = omega arith;
-        is = r.1 ∙ ap (dimension G) (sym is);
-        above = r.2;
-        first = λ c from less. fit c from (omega arith);
-      }
-  first_fault i n fault.Memory lt fit r = tt
-
 pub line_of : {E : Type 0} (G : PGroup) (d : ℕ) (s : StageValue) → IsStageAt G d s
     → (r : Result (String Global) E) → IfOk r (λ text. string_bytes text ≡ stage_line (summary s))
     → IfOk r (λ text. TellsStage G d (string_bytes text))
@@ -182,22 +152,6 @@ lines_next G lines more line text d old is same push =
           ∙ ap (λ ls. ls ++ text ∷ []) old.2 ∙ ap (λ l. stage_lines old.0 ++ l ∷ []) is.2
           ∙ sym (lines_push old.0 is.0),
     )
-
--- a resolution that grows from its start
-
-module _ (G H : PGroup) (i last : ℕ) (same : H ≡ G) (at : last ≡ i) where
-  pub fit_next : Fit G i → order_of H * rank_of H (suc last) ≤ GREATEST_DIMENSION → Fit G (i + 1)
-  fit_next fit within =
-      fit_more G i fit
-      (subst (λ K. order_of K * rank_of K (suc i) ≤ GREATEST_DIMENSION) same
-      (subst (λ k. order_of H * rank_of H (suc k) ≤ GREATEST_DIMENSION) at within))
-
-  pub fault_first : (n : ℕ) (e : ResFault) → i < n → Fit G i → IsRefusal H (suc last) GREATEST_DIMENSION e
-      → IsStageFault G n e
-  fault_first n e lt fit within =
-      first_fault G i n e lt fit
-      (subst (λ K. IsRefusal K (suc i) GREATEST_DIMENSION e) same
-      (subst (λ k. IsRefusal H (suc k) GREATEST_DIMENSION e) at within))
 
 -- the resolution of a presentation
 

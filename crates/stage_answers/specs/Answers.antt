@@ -3,7 +3,6 @@ use Rattle.std.specs.Prelude.{◌≡◌, ℕ, ◌+◌, List, [], ◌∷◌, ◌+
 use Rattle.std.specs.declared.option.Option.{Option}
 use Rattle.std.specs.declared.option.Option.TheVariants.{None, Some}
 use Rattle.limits.specs.declared.TheConstants.{GREATEST_DEGREE}
-use Rattle.coho_io.specs.Content.{file}
 use Rattle.power_commutator.specs.Presentations.{Presentation}
 use Rattle.coho_steps.specs.Steps.{◌>>=◌, Step, Gives, OnGroup}
 use Rattle.group_algebra.specs.Coordinates.{sizes}

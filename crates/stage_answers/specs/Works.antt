@@ -4,7 +4,7 @@ use Rattle.std.specs.declared.option.Option.{Option}
 use Rattle.std.specs.declared.option.Option.TheVariants.{Some}
 use Rattle.std.specs.declared.result.Result.{Result}
 use Rattle.std.specs.Result.{IfErr}
-use Rattle.coho_io.specs.Content.{Content, file}
+use Rattle.coho_io.specs.Content.{Content}
 use Rattle.coho_steps.specs.declared.stop.Stop.{Stop}
 use Rattle.coho_steps.specs.Told.{WhereTold, OfTold, FromAny}
 use Rattle.coho_steps.specs.Steps.{Step}

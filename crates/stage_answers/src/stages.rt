@@ -21,10 +21,7 @@ fn extend_to(resolution: &mut Resolution, n: u32) -> Result<(), ResFault>
     ensures fit { OnOk result (Fit resolution.old.group n) }
     ensures refused { IfErr result (IsStageFault resolution.old.group n) }
 {
-    for _i in 0..n {
-        resolution.extend(GREATEST_DIMENSION)?;
-    }
-    Ok(())
+    resolution.extend_to(n, GREATEST_DIMENSION)
 }
 
 // The program's stop at a fault.
