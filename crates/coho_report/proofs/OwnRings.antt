@@ -25,32 +25,19 @@ pub some_group : (G : PGroup) (g : Option PGroup) (R : RingValue) → R.group �
 some_group G None R e same known low = absurd (let none = known.degree_is in omega (arith, none, low))
 some_group G (Some H) R e same known low = e ∙ ap Some same
 
--- the stages of one degree more
-pub small_next : (E H : PGroup) (n last limit : ℕ) → H ≡ E → last ≡ n → HasSmallStages E n limit
-    → dimension H (suc last) ≤ limit → HasSmallStages E (n + 1) limit
-small_next E H n last limit group degree small here d from to = go (cases_lt d (n + 1))
-  where
-    go : (d < n + 1) ⊎ (n + 1 ≤ d) → dimension E d ≤ limit
-    go (inl low) = small d from (omega (arith, low))
-    go (inr high) =
-        let top : suc last ≡ d = omega (arith, high, to, degree) in
-        subst (λ d. dimension E d ≤ limit) top (subst (λ E. dimension E (suc last) ≤ limit) group here)
-
--- a fault at the next degree is that of the first that is too large
-pub large_first : (E H : PGroup) (k last n limit : ℕ) (e : ResFault) → H ≡ E → last ≡ k → k < n
-    → HasSmallStages E k limit → stages.IsRefusal H (suc last) limit e → IsStageRefusal E n limit e
-large_first E H k last n limit (fault.TooLarge d X) group degree less small r =
+-- a fault at the degree after the last one that is small is that of the first that is too large
+pub large_first : (E : PGroup) (last n limit : ℕ) (e : ResFault) → last < n → HasSmallStages E last limit
+    → stages.IsRefusal E (suc last) limit e → IsStageRefusal E n limit e
+large_first E last n limit (fault.TooLarge d X) less small r =
     let at = r.0 in
-    let is = r.1 in
-    let top : suc last ≡ d = sym at in
     record {
       from = omega (arith, at);
-      to = omega (arith, at, degree, less);
-      is = is ∙ ap (λ E. dimension E (suc last)) group ∙ ap (dimension E) top;
+      to = omega (arith, at, less);
+      is = r.1 ∙ ap (dimension E) (sym at);
       above = r.2;
-      first = λ c from before. small c from (omega (arith, before, at, degree));
+      first = λ c from before. small c from (omega (arith, before, at));
     }
-large_first E H k last n limit fault.Memory group degree less small r = tt
+large_first E last n limit fault.Memory less small r = tt
 
 -- the degrees of generators through degree n are from 1 to n
 module _ (q : ℕ) {V : Type 0} (A : Algebra V) (basis : ℕ → List V) where
