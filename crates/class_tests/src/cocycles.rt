@@ -30,12 +30,7 @@ fn basis_value(
 fn are_below(order: u16, tuple: &[u16]) -> bool
     ensures { IsTrue result → All (λ x. x < order) tuple.now }
 {
-    for x in tuple {
-        if *x >= order {
-            return false;
-        }
-    }
-    true
+    tuple.iter().all(|x| *x < order)
 }
 
 // The value of the cocycle of basis class 0 of the degree that is the length of the tuple.
