@@ -24,7 +24,7 @@ use Rattle.coho_steps.proofs.Lines.{Lines, lines_of}
 use Rattle.coho_run.proofs.RingAnswers.{some_is}
 use Rattle.coho_run.specs.RingAnswers.{AnswersOver}
 use Rattle.coho_run.proofs.RingAnswers as ring
-use Rattle.coho_run.proofs.Run.{Appends_nothing}
+use Rattle.coho_run.proofs.Runs.{Appends_nothing}
 use Rattle.coho_run.specs.Outcome.{ending}
 use Rattle.coho_steps.specs.declared.status.Status.TheVariants as status
 

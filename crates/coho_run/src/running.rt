@@ -5,7 +5,7 @@ ghost use Rattle.coho_io.specs.Causes.{NoneFell, Rose};
 ghost use Rattle.coho_words.specs.Words.{AskForValue, IsWithin, asked, command, from_of, path_of, paths_of};
 ghost use Rattle.coho_words.specs.Words.{save_of, texts};
 ghost use Rattle.coho_steps.specs.Lines.{contents};
-ghost use Rattle.coho_run.specs.Outcome.{Answer, Ask, Ending, Given, Outcome};
+ghost use Rattle.coho_run.specs.Outcome.{Answer, Ask, Comes, Ending, Given, Outcome};
 ghost use Rattle.coho_steps.specs.Refusals.{read_refused};
 ghost use Rattle.coho_run.specs.RingAnswers.{TellsRingOf};
 ghost use Rattle.coho_run.specs.ClassAnswers.{HasCocycleClassesOf};
