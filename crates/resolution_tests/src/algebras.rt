@@ -274,6 +274,7 @@ fn assert_applied(
 ) -> Result<(), Fail> {
     let map = two_rows(rt, alloc, algebra, (&[1, 0], &[1, 1]))?;
     let v = member_of(rt, alloc, algebra, 2, v)?;
+    assert!(rt; v.len() == algebra.group().order() as usize * 2);
     let mut out = zero_of(rt, alloc, algebra, 1)?;
     algebra.apply(1, &map, v.view(), &mut out);
     assert!(rt; shows(out.view(), value));
