@@ -55,8 +55,8 @@ answer() {
 # Whether the word at place $1 is what the table of commands calls $2.
 is_named() { echo "$places" | grep -qx "$1 $2"; }
 
-# The program's answer. Where the words are not those of a command, what is wrong follows its line. The program
-# takes this process's place where nothing is to be said after it.
+# The program's answer. Where the words are not those of a command, what is wrong follows its line. The
+# program takes this process's place where nothing is to be said after it.
 answer_words() {
     if places=$(table words "$@"); then
         if ! is_proved; then

@@ -34,7 +34,8 @@ function all(documents, examples, i) {
     for (i = 1; i <= command_count; i++) entry(name[i])
     print ""
     print "Documents, in " documents ":"
-    print "using.md          from a group in GAP to a text, and from a report to Singular, Macaulay2 and SageMath"
+    folded("using.md         ", "from a group in GAP to a text, and from a report to Singular, Macaulay2 " \
+        "and SageMath", "                  ")
     print "formats.md        the presentation text, the answers, statuses and fault lines"
     print "conventions.md    orders, signs and choices, by which answers of two programs are compared"
     print "Presentations of well-known groups are in " examples ", with a list in README.md there."

@@ -1,7 +1,7 @@
 # What is told of long work, on standard error where that is a terminal, and nowhere else.
 
-# Whether this process, or the program that took its place, still runs. One that has ended and whose parent has
-# not looked after it has no executable.
+# Whether this process, or the program that took its place, still runs. One that has ended and whose parent
+# has not looked after it has no executable.
 is_running() { kill -0 $$ 2>/dev/null && { [ ! -d /proc/self ] || [ -e /proc/$$/exe ]; }; }
 
 # The bytes from place $2 on, $3 of them, of the file $1, as decimal numbers.
@@ -22,7 +22,8 @@ tell_records() {
         if [ $((at + 4 + length)) -gt "$size" ]; then
             return 0
         fi
-        kept="coho: stage $record of $last is kept: rank $rank, dimension $(square_root $((length - 36 - 2 * rank)))"
+        dimension=$(square_root $((length - 36 - 2 * rank)))
+        kept="coho: stage $record of $last is kept: rank $rank, dimension $dimension"
         at=$((at + 4 + length)) record=$((record + 1))
         if [ $record -le "$last" ]; then
             kept="$kept; stage $record is being computed"

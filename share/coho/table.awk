@@ -1,7 +1,8 @@
 # The tables of commands and limits, read into arrays. The names of the files are the first two arguments.
 #   name[i]            commands, in order
 #   by, words, about, example      by command; lines of `about` are joined by blanks
-#   options[c]         its options, joined by blanks; of[c, option] is the option's word, does[c, option] its line
+#   options[c]         its options, joined by blanks
+#   of, does [c, option]  the option's word, and what the option does
 #   kind, low, high, called [c, word]      what a word is
 #   limit[NAME], limits[i], limited[NAME]  values, names in order, what is limited
 

@@ -29,7 +29,7 @@ TOLD
 }
 
 # Runs the trial on the words with the paths made absolute, each by `/./` behind the caller's folder, so that
-# different words stay different. What is no plain file, as a pipe, is copied first, since it is not handed on.
+# different words stay different. What is no plain file, as a pipe, is not handed on, so it is copied first.
 run_trial() {
     place=0 count=$#
     while [ $place -lt $count ]; do
@@ -65,7 +65,7 @@ pass_on() {
     status=$(sed -n 's/^run=ended status=\([0-9]*\) .*/\1/p' "$work/err" | tail -n 1)
     if [ -z "$status" ]; then
         cat "$work/err" >&2
-        echo "coho: the trial gave no answer; \`$0 prove\` makes the proved program, which has no limit of time" >&2
+        echo "coho: the trial gave no answer; \`$0 prove\` makes the proved program, without such limits" >&2
         exit 70
     fi
     cat "$work/out"
@@ -88,7 +88,7 @@ remind() {
         sleep 1 2>/dev/null
         seconds=$((seconds + 1))
         if [ $((seconds % 300)) -eq 0 ]; then
-            echo "coho: the trial has run for $((seconds / 60)) min; \`$0 prove\` makes a program that is faster" >&2
+            echo "coho: a trial of $((seconds / 60)) min; \`$0 prove\` makes a program that is faster" >&2
         fi
     done
 }

@@ -29,7 +29,8 @@ function unknown_option(c, text, near) {
 }
 
 function number_is(c, text, word) {
-    if (text !~ /^(0|[1-9][0-9]*)$/ || length(text) > 9 || text + 0 < low[c, word] || text + 0 > high[c, word])
+    if (text !~ /^(0|[1-9][0-9]*)$/ || length(text) > 9 || text + 0 < low[c, word] \
+        || text + 0 > high[c, word])
         wrong(quoted(text) " is not " called[c, word] ": a number from " low[c, word] " to " high[c, word] \
             " is wanted, without leading zeros", c)
 }
